@@ -1,0 +1,68 @@
+-- THE BACKWARD SEARCH, step by step as 01 states it. The window starts at place s; its letters are read from the last to the first, walking
+-- the oracle of the mirrored word from state 0.
+--
+--   Reading              where a window's reading failed, if it did, and the letters it read
+--   readDown δ t s k x   reads the letters at s + k - 1 down to s, from state x
+--   afterFind w          how far the window moves after an occurrence of w
+--   nextWindow w s f     where the window goes from s, f the place of the failing letter if there is one
+--   Searched             the starts of the occurrences, rising, and all letters read
+--   windows δ w t k s    the windows from s on; k bounds how many there are
+--   steps δ w t          all windows, with the arrows δ
+--   backward w t         the search: with the oracle of the mirrored word
+--
+-- 01, 'The backward search'; demand 2.
+use mathlib.Core.Bool.{cond}
+use mathlib.Core.Option.{Option, none, some}
+use mathlib.Core.List.{List, [], _∷_}
+use Prim.Native.Nat.{ℕ, zero, suc, _+_}
+use lib.ListN.{length}
+use lib.Dec.{leb}
+use Rattle.words.specs.Words.{Word, Place, letter, mirror}
+use Rattle.oracle.specs.Arrows.{State, Delta}
+use Rattle.oracle.specs.SuffixRule.{oracle}
+
+pub record Reading : Type 0 where
+  pub failed : Option Place
+  pub letters : ℕ
+
+-- each letter read counts one, the failing one too
+unfoldable pub readDown : Delta → Word → Place → ℕ → State → Reading
+readDown δ t s zero x = record { failed = none; letters = 0 }
+readDown δ t s (suc k) x = elim (δ x (letter t (s + k))) [
+  | none ↦ record { failed = some (s + k); letters = 1 }
+  | some y ↦ let r = readDown δ t s k y in record { failed = r .failed; letters = suc (r .letters) }
+]
+
+unfoldable pub afterFind : Word → ℕ
+afterFind w = 1
+
+abbrev pub nextWindow : Word → Place → Option Place → Place
+nextWindow w s none = s + afterFind w
+nextWindow w s (some f) = f + 1
+
+pub record Searched : Type 0 where
+  pub starts : List Place
+  pub letters : ℕ
+
+abbrev pub nothing : Searched
+nothing = record { starts = []; letters = 0 }
+
+-- s is an occurrence where no letter failed
+abbrev pub listed : Place → Option Place → List Place → List Place
+listed s none l = s ∷ l
+listed s (some f) l = l
+
+unfoldable pub windows : Delta → Word → Word → ℕ → Place → Searched
+windows δ w t zero s = nothing
+windows δ w t (suc k) s =
+    let m = length w in
+    let r = readDown δ t s m 0 in
+    let later = windows δ w t k (nextWindow w s (r .failed)) in
+    cond (leb (s + m) (length t)) (record { starts = listed s (r .failed) (later .starts); letters = r .letters + later .letters }) nothing
+
+-- every window starts at another of the places 0 to n, so n + 1 bounds them
+unfoldable pub steps : Delta → Word → Word → Searched
+steps δ w t = windows δ w t (suc (length t)) 0
+
+unfoldable pub backward : Word → Word → Searched
+backward w t = steps (oracle (mirror w)) w t

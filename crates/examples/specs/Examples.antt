@@ -1,0 +1,109 @@
+-- The worked examples that 01 marks P, as one table, and the test that each must pass on the definitions.
+--
+--   Example         one line of 01's list
+--   holds e         whether the definitions say what the line says
+--   table           the lines
+--   allHold l       whether every one of them holds
+--
+-- 01, 'Examples to hold against the rules'.
+use mathlib.Core.Bool.{Bool, true, false, _&&_}
+use mathlib.Core.Option.{Option, none, some, IsSome}
+use mathlib.Core.List.{List, [], _∷_}
+use Prim.Native.Nat.{ℕ, zero, suc, pred}
+use Prim.Native.Char.{code}
+use Prim.Native.String.{String}
+use lib.ListN.{length}
+use lib.Dec.{eqb}
+use Rattle.words.specs.Words.{Letter, Word, Place, letter, same, occurrences}
+use Rattle.oracle.specs.Arrows.{State, Delta, target, walk}
+use Rattle.oracle.specs.SuffixRule.{suffixRule, extraArrows, oracle}
+use Rattle.oracle.specs.LetterRule.{supplyIn, letterRule}
+use Rattle.oracle.specs.Supply.{supply}
+use Rattle.backward.specs.Steps.{backward}
+
+-- an extra arrow as 01 writes it, 0-2: its letter is that of the state it leads to
+pub record Extra : Type 0 where
+  pub source : State
+  pub to : State
+
+abbrev pub _to_ : State → State → Extra
+_to_ x y = record { source = x; to = y }
+
+infix 70 _to_
+pub data Example : Type 0 where
+  -- a word's extra arrows, the number of all arrows, the supplies of 1 to m
+  arrowsOf : (word : Word) (extra : List Extra) (inAll : ℕ) (supplies : List State) → Example
+  -- a word whose oracle walks another that does not stand in it
+  acceptsNoFactor : (word walked : Word) → Example
+  -- a word whose oracle walks another
+  accepts : (word walked : Word) → Example
+  -- a word and a text, the starts of the occurrences, the letters read
+  search : (word text : Word) (starts : List Place) (letters : ℕ) → Example
+
+unfoldable pub is : Option ℕ → ℕ → Bool
+is none y = false
+is (some x) y = eqb x y
+
+unfoldable pub isNone : Option ℕ → Bool
+isNone none = true
+isNone (some x) = false
+
+unfoldable pub walked : Option State → Bool
+walked none = false
+walked (some y) = true
+
+unfoldable pub empty : List Place → Bool
+empty [] = true
+empty (s ∷ l) = false
+
+-- each of the arrows is one of δ over p
+unfoldable pub has : Delta → Word → List Extra → Bool
+has δ p [] = true
+has δ p (a ∷ l) = is (δ (a .source) (letter p (pred (a .to)))) (a .to) && has δ p l
+
+-- S gives these states to i, i + 1, ..
+unfoldable pub gives : (State → Option State) → State → List State → Bool
+gives S i [] = true
+gives S i (y ∷ l) = is (S i) y && gives S (suc i) l
+
+unfoldable pub holds : Example → Bool
+holds (arrowsOf p extra n l) =
+    let rule = letterRule p in
+    has (oracle p) p extra
+    && (has (target (rule .arrows)) p extra
+    && (eqb (length (extraArrows p)) (length extra)
+    && (eqb (length (suffixRule p)) n
+    && (eqb (length (rule .arrows)) n
+    && (isNone (supply p 0)
+    && (gives (supply p) 1 l
+    && (isNone (supplyIn rule 0)
+    && gives (supplyIn rule) 1 l)))))))
+holds (acceptsNoFactor p v) = walked (walk (oracle p) 0 v) && empty (occurrences v p)
+holds (accepts p v) = walked (walk (oracle p) 0 v)
+holds (search w t starts n) =
+    let r = backward w t in
+    same (r .starts) starts && (eqb (r .letters) n && same (occurrences w t) starts)
+
+unfoldable pub allHold : List Example → Bool
+allHold [] = true
+allHold (e ∷ l) = holds e && allHold l
+
+-- the letters of a text as 01 writes it: 97 for a
+unfoldable pub word : String → Word
+word String.[] = []
+word (String._∷_ c s) = code c ∷ word s
+
+unfoldable pub table : List Example
+table =
+    arrowsOf (word "a") [] 1 (0 ∷ [])
+    ∷ arrowsOf (word "aaa") [] 3 (0 ∷ 1 ∷ 2 ∷ [])
+    ∷ arrowsOf (word "abbbaab") (0 to 2 ∷ 1 to 6 ∷ 2 to 5 ∷ 3 to 5 ∷ []) 11 (0 ∷ 0 ∷ 2 ∷ 3 ∷ 1 ∷ 1 ∷ 2 ∷ [])
+    ∷ acceptsNoFactor (word "abbbaab") (word "aba")
+    ∷ arrowsOf (word "abcacdace") (0 to 2 ∷ 0 to 3 ∷ 0 to 6 ∷ 0 to 9 ∷ 1 to 5 ∷ 3 to 6 ∷ 3 to 9 ∷ 5 to 9 ∷ []) 17 (0 ∷ 0 ∷ 0 ∷ 1 ∷ 3 ∷ 0 ∷ 1 ∷ 5 ∷ 0 ∷ [])
+    ∷ accepts (word "abcacdace") (word "cace")
+    ∷ search (word "aa") (word "aaaa") (0 ∷ 1 ∷ 2 ∷ []) 6
+    ∷ search (word "ab") (word "aab") (1 ∷ []) 4
+    ∷ search (word "aba") (word "ababa") (0 ∷ 2 ∷ []) 9
+    ∷ search (word "abc") (word "xxxxxx") [] 2
+    ∷ search (word "abc") (word "ab") [] 0
+    ∷ []

@@ -1,0 +1,4 @@
+pub mod Arrows
+pub mod SuffixRule
+pub mod LetterRule
+pub mod Supply

@@ -1,0 +1,128 @@
+-- Laws of `from`, `only` and `first`: what is in such a list, and in which order.
+use mathlib.Core.Path.{_≡_, refl, sym, ap, _∙_}
+use mathlib.Core.Bool.{Bool, true, false, cond, _&&_}
+use mathlib.Core.Logic.{_⊎_, inl, inr}
+use mathlib.Core.Option.{Option, none, some}
+use mathlib.Core.List.{List, [], _∷_, _++_, List·Memᴰ, List·Memᴰ·head, List·Memᴰ·tail}
+use Prim.Native.Nat.{ℕ, zero, suc, _+_, _≤_, _<_}
+use native.Mathlib.Nat.{le-refl, add-zero, add-suc}
+use native.Mathlib.Decide.{ℕ-discrete}
+use native.Mathlib.Omega.{arith}
+use lib.ListN.{length}
+use Rattle.words.specs.Lists.{from, only, first}
+
+-- ── Tests ──────────────────────────────────────────────────────────────────
+
+pub and-true : {a b : Bool} → a && b ≡ true → (a ≡ true) × (b ≡ true)
+and-true {a = true} e = (refl, e)
+and-true {a = false} e = absurd (never e)
+  where
+    never : {X : Type 0} → _≡_ {A = Bool} false true → X
+    never h = let z : _≡_ {A = ℕ} 0 1 = cc in absurd (omega arith)
+
+-- ── from ───────────────────────────────────────────────────────────────────
+
+pub from-snoc : (a k : ℕ) → from a (suc k) ≡ from a k ++ ((a + k) ∷ [])
+unfolding from
+from-snoc a zero = rw (add-zero a)
+from-snoc a (suc k) = let e : suc a + k ≡ a + suc k = omega arith in ap {B = List ℕ} (λ l. a ∷ l) (from-snoc (suc a) k ∙ rw e)
+
+pub from-in : (a k : ℕ) {j : ℕ} → List·Memᴰ j (from a k) → (a ≤ j) × (j < a + k)
+unfolding from
+from-in a zero m = absurd (elim m [ ])
+from-in a (suc k) (List·Memᴰ·head e) = (omega arith, omega arith)
+from-in a (suc k) (List·Memᴰ·tail m) = let r = from-in (suc a) k m in (omega arith, omega arith)
+
+pub in-from : (a k j : ℕ) → a ≤ j → j < a + k → List·Memᴰ j (from a k)
+unfolding from
+in-from a zero j h l = absurd (omega arith)
+in-from a (suc k) j h l = by (ℕ-discrete j a) (in-from (suc a) k j)
+  where
+    by : Dec (j ≡ a) → (suc a ≤ j → j < suc a + k → List·Memᴰ j (from (suc a) k)) → List·Memᴰ j (from a (suc k))
+    by (yes e) rec = List·Memᴰ·head e
+    by (no e) rec = List·Memᴰ·tail (rec (omega arith) (omega arith))
+
+-- ── only ───────────────────────────────────────────────────────────────────
+
+module _ {A : Type 0} (P : A → Bool) where
+  pub only-yes : (a : A) (l : List A) → P a ≡ true → only P (a ∷ l) ≡ a ∷ only P l
+  unfolding only
+  only-yes a l e = rw e
+
+  pub only-not : (a : A) (l : List A) → P a ≡ false → only P (a ∷ l) ≡ only P l
+  unfolding only
+  only-not a l e = rw e
+
+  pub only-append : (l r : List A) → only P (l ++ r) ≡ only P l ++ only P r
+  unfolding only
+  only-append [] r = refl
+  only-append (a ∷ l) r = by (P a) refl (only-append l r)
+    where
+      by : (b : Bool) → P a ≡ b → only P (l ++ r) ≡ only P l ++ only P r → only P (a ∷ l ++ r) ≡ only P (a ∷ l) ++ only P r
+      by true e rec = rw (only-yes a (l ++ r) e, only-yes a l e, rec)
+      by false e rec = rw (only-not a (l ++ r) e, only-not a l e, rec)
+
+  pub only-in : (l : List A) {a : A} → List·Memᴰ a (only P l) → List·Memᴰ a l × (P a ≡ true)
+  unfolding only
+  only-in [] m = absurd (elim m [ ])
+  only-in (x ∷ l) {a} m = by (P x) refl m (only-in l)
+    where
+      by : (b : Bool) → P x ≡ b → List·Memᴰ a (cond b (x ∷ only P l) (only P l)) → (List·Memᴰ a (only P l) → List·Memᴰ a l × (P a ≡ true)) → List·Memᴰ a (x ∷ l) × (P a ≡ true)
+      by true e (List·Memᴰ·head q) rec = (List·Memᴰ·head q, rw q e)
+      by true e (List·Memᴰ·tail n) rec = let r = rec n in (List·Memᴰ·tail (r .0), r .1)
+      by false e n rec = let r = rec n in (List·Memᴰ·tail (r .0), r .1)
+
+  pub in-only : (l : List A) {a : A} → List·Memᴰ a l → P a ≡ true → List·Memᴰ a (only P l)
+  unfolding only
+  in-only (x ∷ l) (List·Memᴰ·head q) e = rw (only-yes x l (rw q at e)) (List·Memᴰ·head q)
+  in-only (x ∷ l) {a} (List·Memᴰ·tail m) e = by (P x) (in-only l m e)
+    where
+      by : (b : Bool) → List·Memᴰ a (only P l) → List·Memᴰ a (cond b (x ∷ only P l) (only P l))
+      by true n = List·Memᴰ·tail n
+      by false n = n
+
+-- where no number passes, nothing is listed
+pub only-none : (P : ℕ → Bool) (a k : ℕ) → ((j : ℕ) → a ≤ j → j < a + k → P j ≡ false) → only P (from a k) ≡ []
+unfolding from only
+only-none P a zero f = refl
+only-none P a (suc k) f = rw (f a (le-refl a) (omega arith)) (only-none P (suc a) k (λ j h l. f j (omega arith) (omega arith)))
+
+-- a list that has something has a member
+pub member : {A : Type 0} (l : List A) → 1 ≤ length l → (a : A) × List·Memᴰ a l
+member [] h = absurd (omega arith)
+member (a ∷ l) h = (a, List·Memᴰ·head refl)
+
+pub filled : {A : Type 0} {a : A} {l : List A} → List·Memᴰ a l → 1 ≤ length l
+filled (List·Memᴰ·head e) = omega arith
+filled (List·Memᴰ·tail m) = omega arith
+
+-- ── first ──────────────────────────────────────────────────────────────────
+
+module _ {A : Type 0} (P : A → Bool) where
+  pub first-yes : (a : A) (l : List A) → P a ≡ true → first P (a ∷ l) ≡ some a
+  unfolding first
+  first-yes a l e = rw e
+
+  pub first-not : (a : A) (l : List A) → P a ≡ false → first P (a ∷ l) ≡ first P l
+  unfolding first
+  first-not a l e = rw e
+
+-- ── Rising lists ───────────────────────────────────────────────────────────
+
+-- each number is at least a and above the one before it
+pub data Rising : ℕ → List ℕ → Type 0 where
+  end : {a : ℕ} → Rising a []
+  up : {a x : ℕ} {l : List ℕ} → a ≤ x → Rising (suc x) l → Rising a (x ∷ l)
+
+lower : {a b : ℕ} {l : List ℕ} → a ≤ b → Rising b l → Rising a l
+lower h end = end
+lower {a} h (up {x = x} g r) = let k : a ≤ x = omega arith in up k r
+
+pub rising-from : (P : ℕ → Bool) (a k : ℕ) → Rising a (only P (from a k))
+unfolding from only
+rising-from P a zero = end
+rising-from P a (suc k) = by (P a) (rising-from P (suc a) k)
+  where
+    by : (b : Bool) → Rising (suc a) (only P (from (suc a) k)) → Rising a (cond b (a ∷ only P (from (suc a) k)) (only P (from (suc a) k)))
+    by true r = up (le-refl a) r
+    by false r = lower (omega arith) r

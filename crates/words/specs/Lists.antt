@@ -1,0 +1,21 @@
+-- Lists that the other definitions are written with.
+--
+--   from a k     the numbers a, a + 1, .., k of them
+--   only P l     those of l that pass the test P, in their order
+--   first P l    the first of l that passes the test P, if one does
+use mathlib.Core.Bool.{Bool, cond}
+use mathlib.Core.Option.{Option, none, some}
+use mathlib.Core.List.{List, [], _∷_}
+use Prim.Native.Nat.{ℕ, zero, suc}
+
+unfoldable pub from : ℕ → ℕ → List ℕ
+from a zero = []
+from a (suc k) = a ∷ from (suc a) k
+
+unfoldable pub only : {A : Type 0} → (A → Bool) → List A → List A
+only P [] = []
+only P (a ∷ l) = cond (P a) (a ∷ only P l) (only P l)
+
+unfoldable pub first : {A : Type 0} → (A → Bool) → List A → Option A
+first P [] = none
+first P (a ∷ l) = cond (P a) (some a) (first P l)
