@@ -1,0 +1,170 @@
+-- THE LETTER-BY-LETTER RULE, as defined, has the record after every letter; one arrow at most leaves a state on a letter; and what it made of the
+-- first t letters stays as it is while more are added.
+use mathlib.Core.Path.{_≡_, refl, sym, ap, _∙_}
+use mathlib.Core.Logic.{_⊎_, inl, inr, _↔_}
+use mathlib.Core.Option.{Option, none, some, Option·getD}
+use mathlib.Core.List.{List, [], _∷_, _++_, map, List·Memᴰ, List·Memᴰ·head, List·Memᴰ·tail}
+use Prim.Native.Nat.{ℕ, zero, suc, _+_, _-_, _≤_, _<_}
+use native.Mathlib.Nat.{le-refl, add-zero, add-suc}
+use native.Mathlib.Decide.{decLt}
+use native.Mathlib.Omega.{arith}
+use lib.ListN.{length, getD, length-append, List·getD-append}
+use lib.Seq.{getD-at}
+use Rattle.words.specs.Words.{Letter, Word, letter}
+use Rattle.oracle.specs.Arrows.{State, Arrow, arrow, Delta, target, OneEach}
+use Rattle.oracle.specs.LetterRule.{Built, pathOf, supplyIn, Climbed, climb, addLetter, builtUpTo, letterRule}
+use Rattle.oracle.proofs.Targets.{never, into, target-new, target-old}
+use Rattle.oracle.proofs.Chain.{On, here, next, Supplied, supply-below, on-below, arrow-up}
+use Rattle.oracle.proofs.Grow.{Climb, stop, out, go, source-free, source-on, last-free, climb-below, arrow-stays, arrow-was, grown}
+
+-- ── Suffix paths ───────────────────────────────────────────────────────────
+
+-- the supplies of a build as a function, 0 for state 0
+abbrev pub supplies : Built → State → State
+supplies b x = Option·getD (supplyIn b x) 0
+
+-- l is the suffix path of x: S x, S (S x), .., down to 0
+pub data Path (S : State → State) : State → List State → Type 0 where
+  ended : {x : State} → x ≡ 0 → Path S x []
+  falls : {x y : State} {l : List State} → 0 < x → y ≡ S x → Path S y l → Path S x (y ∷ l)
+
+path-agree : {t : State} (S S′ : State → State) → ((x : State) → x ≤ t → S x ≤ x) → ((x : State) → x ≤ t → S′ x ≡ S x) → {x : State} {l : List State} → x ≤ t → Path S x l → Path S′ x l
+path-agree S S′ d a h (ended e) = ended e
+path-agree S S′ d a h (falls {x = x} p e r) = falls p (e ∙ sym (a x h)) (path-agree S S′ d a (omega (arith, d x h)) r)
+
+climb-at : {δ : Delta} {S : State → State} {c : Letter} {j k y : State} {xs : List State} → j ≡ k → Climb δ S c j xs y → Climb δ S c k xs y
+climb-at e C = rw e at C
+
+-- the climb over a list is the climb along the chain
+climb-is : {δ : Delta} {S : State → State} {k : State} {l : List State} (c : Letter) → δ k c ≡ none → Path S k l → Climb δ S c k (k ∷ climb δ c l .sources) (climb δ c l .supply)
+unfolding climb
+climb-is c e (ended z) = out z refl e
+climb-is {δ} {S} {k} c e (falls {y = y} {l = l} p q r) = go p e (climb-at q (by (δ y c) refl (λ f. climb-is c f r)))
+  where
+    by : (o : Option State) → δ y c ≡ o → (δ y c ≡ none → Climb δ S c y (y ∷ climb δ c l .sources) (climb δ c l .supply)) → Climb δ S c y (climb δ c (y ∷ l) .sources) (climb δ c (y ∷ l) .supply)
+    by (some z) f rec = rw (f, climb) (stop f)
+    by none f rec = rw (f, climb) (rec f)
+
+-- ── One letter ─────────────────────────────────────────────────────────────
+
+-- what holds of a build of t letters
+pub record Sound (t : State) (w : ℕ → Letter) (b : Built) : Type 0 where
+  pub supplied : Supplied t w (target (b .arrows)) (supplies b)
+  pub size : length (b .paths) ≡ suc t
+  pub path : (x : State) → x ≤ t → Path (supplies b) x (pathOf b x)
+  pub one : OneEach (b .arrows)
+
+-- new arrows on one letter from the sources of a climb leave one arrow at most for each state and letter
+one-each : (A : List Arrow) {S : State → State} {m : ℕ} {w : ℕ → Letter} → Supplied m w (target A) S → OneEach A
+    → {c : Letter} {k y : State} {xs : List State} (z : State) → k ≤ m → Climb (target A) S c k xs y → OneEach (into c z xs ++ A)
+unfolding OneEach
+one-each A O h z b (stop e) = h
+one-each A O h z b (out q r e) = (e, h)
+one-each A O h {c} {k} z b (go {xs = xs} p e r) = (by (target-old A c z xs k c), one-each A O h z (omega (arith, supply-below O k b)) r)
+  where
+    by : (target (into c z xs ++ A) k c ≡ target A k c) ⊎ ((c ≡ c) × List·Memᴰ k xs) → target (into c z xs ++ A) k c ≡ none
+    by (inl d) = d ∙ e
+    by (inr d) = absurd (omega (arith, supply-below O k b, on-below O (omega (arith, supply-below O k b)) (source-on r (d .1))))
+
+module _ {t : State} {w : ℕ → Letter} {b : Built} (G : Sound t w b) where
+  abbrev r : Climbed
+  r = climb (target (b .arrows)) (w t) (pathOf b t)
+
+  abbrev b′ : Built
+  b′ = addLetter t (w t) b
+
+  pub letter-climb : Climb (target (b .arrows)) (supplies b) (w t) t (t ∷ r .sources) (r .supply)
+  letter-climb = climb-is (w t) (last-free (G .supplied) (w t)) (G .path t (le-refl t))
+
+  path-kept : (x : State) → x ≤ t → pathOf b′ x ≡ pathOf b x
+  unfolding addLetter
+  path-kept x h = List·getD-append (b .paths) _ [] x (omega (arith, G .size))
+
+  path-new : pathOf b′ (suc t) ≡ r .supply ∷ pathOf b (r .supply)
+  unfolding addLetter
+  path-new = getD-at (b .paths) _ [] [] (suc t) (G .size)
+
+  pub supply-kept : (x : State) → x ≤ t → supplies b′ x ≡ supplies b x
+  supply-kept x h = rw (path-kept x h)
+
+  pub supply-new : supplies b′ (suc t) ≡ r .supply
+  supply-new = rw path-new
+
+  pub old-arrows : (x : State) (c : Letter) → (target (b′ .arrows) x c ≡ target (b .arrows) x c) ⊎ ((c ≡ w t) × List·Memᴰ x (t ∷ r .sources))
+  unfolding addLetter
+  old-arrows x c = target-old (b .arrows) (w t) (suc t) (t ∷ r .sources) x c
+
+  pub new-arrows : (x : State) → List·Memᴰ x (t ∷ r .sources) → target (b′ .arrows) x (w t) ≡ some (suc t)
+  unfolding addLetter
+  new-arrows x m = target-new (b .arrows) (w t) (suc t) x (t ∷ r .sources) m
+
+  falling : (x : State) → x ≤ t → supplies b x ≤ x
+  falling x h = omega (arith, supply-below (G .supplied) x h)
+
+  pub sound-next : Sound (suc t) w b′
+  unfolding addLetter
+  sound-next = record {
+    supplied = grown (G .supplied) letter-climb old-arrows new-arrows supply-kept supply-new;
+    size = length-append (b .paths) _ ∙ rw (G .size) (omega arith);
+    path = λ x h. by x (decLt x (suc t)) h;
+    one = one-each (b .arrows) (G .supplied) (G .one) (suc t) (le-refl t) letter-climb;
+  }
+    where
+      by : (x : State) → Dec (x < suc t) → x ≤ suc t → Path (supplies b′) x (pathOf b′ x)
+      by x (yes l) h = rw (path-kept x (omega arith)) (path-agree (supplies b) (supplies b′) falling supply-kept (omega arith) (G .path x (omega arith)))
+      by x (no l) h =
+          let e : x ≡ suc t = omega arith in
+          let s = climb-below (G .supplied) letter-climb in
+          let p : 0 < suc t = omega arith in
+          rw (e, path-new) (falls p (sym supply-new) (path-agree (supplies b) (supplies b′) falling supply-kept s (G .path (r .supply) s)))
+
+-- ── All letters ────────────────────────────────────────────────────────────
+
+pub built-sound : (p : Word) (t : ℕ) → Sound t (letter p) (builtUpTo p t)
+unfolding builtUpTo target OneEach
+built-sound p zero = record {
+  supplied = record {
+    spine = λ i h. absurd (omega arith);
+    into = λ x c y e. never refl e;
+    base = refl;
+    down = λ x h. absurd (omega arith);
+    answers = λ x c y e. never refl e;
+    bottom = λ c y e. never refl e;
+  };
+  size = refl;
+  path = λ x h. by x (omega arith);
+  one = tt;
+}
+  where
+    b : Built
+    b = record { arrows = []; paths = [] ∷ [] }
+
+    by : (x : State) → x ≡ 0 → Path (supplies b) x (pathOf b x)
+    by x e = rw e (ended refl)
+built-sound p (suc t) = sound-next (built-sound p t)
+
+-- ── Prefixes ───────────────────────────────────────────────────────────────
+
+module _ (p : Word) where
+  abbrev arrowsOf : ℕ → Delta
+  arrowsOf t = target (builtUpTo p t .arrows)
+
+  arrow-keeps : (t : ℕ) (x : State) (c : Letter) (y : State) → arrowsOf t x c ≡ some y → arrowsOf (suc t) x c ≡ some y
+  unfolding builtUpTo
+  arrow-keeps t x c y e = let G = built-sound p t in arrow-stays (G .supplied) (letter-climb G) (old-arrows G) (new-arrows G) (supply-kept G) (supply-new G) x c y e
+
+  arrow-before : (t : ℕ) (x : State) (c : Letter) (y : State) → y ≤ t → arrowsOf (suc t) x c ≡ some y → arrowsOf t x c ≡ some y
+  unfolding builtUpTo
+  arrow-before t x c y h e = let G = built-sound p t in by (arrow-was (G .supplied) (letter-climb G) (old-arrows G) (new-arrows G) (supply-kept G) (supply-new G) x c y e)
+    where
+      by : {M : Type 0} → (arrowsOf t x c ≡ some y) ⊎ ((c ≡ letter p t) × (y ≡ suc t) × M) → arrowsOf t x c ≡ some y
+      by (inl d) = d
+      by (inr d) = absurd (omega (arith, d .1))
+
+  -- the arrows made of the first t letters are those of every later build that lead up to state t
+  pub built-restricts : (t d : ℕ) (x : State) (c : Letter) (y : State) → (arrowsOf t x c ≡ some y) ↔ ((arrowsOf (t + d) x c ≡ some y) × (y ≤ t))
+  built-restricts t zero x c y = rw (add-zero t) (λ e. (e, arrow-up (built-sound p t .supplied) x c y e .1), λ r. r .0)
+  built-restricts t (suc d) x c y = rw (add-suc t d) (by (built-restricts t d x c y))
+    where
+      by : (arrowsOf t x c ≡ some y) ↔ ((arrowsOf (t + d) x c ≡ some y) × (y ≤ t)) → (arrowsOf t x c ≡ some y) ↔ ((arrowsOf (suc (t + d)) x c ≡ some y) × (y ≤ t))
+      by rec = (λ e. (arrow-keeps (t + d) x c y (rec .0 e .0), rec .0 e .1), λ r. rec .1 (arrow-before (t + d) x c y (omega (arith, r .1)) (r .0), r .1))
