@@ -4,3 +4,7 @@ pub mod Reach
 pub mod Grow
 pub mod LetterRule
 pub mod SuffixRule
+pub mod Walks
+pub mod Shortest
+pub mod Supply
+pub mod Count
