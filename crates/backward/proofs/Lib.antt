@@ -1,3 +1,4 @@
 pub mod Reading
 pub mod AfterFind
 pub mod Windows
+pub mod Theorems

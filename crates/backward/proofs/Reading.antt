@@ -10,7 +10,7 @@ use lib.ListN.{length}
 use Rattle.words.specs.Words.{Word, Place, letter, part, mirror}
 use Rattle.words.proofs.Words.{part-snoc}
 use Rattle.oracle.specs.Arrows.{State, Delta, walk}
-use Rattle.backward.specs.Steps.{Reading, readDown}
+use Rattle.backward.specs.Steps.{Reading, readAll, failsAt, oneMore, readDown}
 
 -- ── Walks of mirrors ───────────────────────────────────────────────────────
 
@@ -37,17 +37,13 @@ pub record Failed (s : Place) (k : ℕ) (f : Place) (read : ℕ) : Type 0 where
   pub before-end : f < s + k
   pub counted : read + f ≡ s + k
 
--- a reading with a letter more before it
-abbrev one-more : Reading → Reading
-one-more r = record { failed = r .failed; letters = suc (r .letters) }
-
 module _ (δ : Delta) (t : Word) (s : Place) where
   -- what holds where no letter is left, where a letter fails, and of one more letter where it held, holds of every reading
   reading-induction
       : (P : ℕ → State → Reading → Type 0)
-      → ((x : State) → P 0 x (record { failed = none; letters = 0 }))
-      → ((k : ℕ) (x : State) → δ x (letter t (s + k)) ≡ none → P (suc k) x (record { failed = some (s + k); letters = 1 }))
-      → ((k : ℕ) (x y : State) (r : Reading) → δ x (letter t (s + k)) ≡ some y → P k y r → P (suc k) x (one-more r))
+      → ((x : State) → P 0 x readAll)
+      → ((k : ℕ) (x : State) → δ x (letter t (s + k)) ≡ none → P (suc k) x (failsAt (s + k)))
+      → ((k : ℕ) (x y : State) (r : Reading) → δ x (letter t (s + k)) ≡ some y → P k y r → P (suc k) x (oneMore r))
       → (k : ℕ) (x : State) → P k x (readDown δ t s k x)
   unfolding readDown
   reading-induction P done fails goes zero x = done x
@@ -90,13 +86,13 @@ module _ (δ : Delta) (t : Word) (s : Place) where
       Stuck : ℕ → State → Reading → Type 0
       Stuck k x r = s + k ≤ length t → r .failed ≡ some f → (d : ℕ) × (f + suc d ≡ s + k) × (walk δ x (mirror (part t f (suc d))) ≡ none)
 
-      done : (x : State) → Stuck 0 x (record { failed = none; letters = 0 })
+      done : (x : State) → Stuck 0 x readAll
       done x h e = let z : _≡_ {A = ℕ} 0 1 = cc in absurd (omega arith)
 
-      fails : (k : ℕ) (x : State) → δ x (letter t (s + k)) ≡ none → Stuck (suc k) x (record { failed = some (s + k); letters = 1 })
+      fails : (k : ℕ) (x : State) → δ x (letter t (s + k)) ≡ none → Stuck (suc k) x (failsAt (s + k))
       fails k x d h e = let q : s + k ≡ f = cc in (0, omega arith, walk-stuck δ t f 0 (omega arith) x (rw (q, ← add-zero f) at d))
 
-      goes : (k : ℕ) (x y : State) (r : Reading) → δ x (letter t (s + k)) ≡ some y → Stuck k y r → Stuck (suc k) x (one-more r)
+      goes : (k : ℕ) (x y : State) (r : Reading) → δ x (letter t (s + k)) ≡ some y → Stuck k y r → Stuck (suc k) x (oneMore r)
       goes k x y r d rec h e =
           let b = rec (omega arith) e in
           let q : s + k ≡ f + suc (b .0) = omega (arith, b .1) in

@@ -185,7 +185,7 @@ module _ {w : Word} {δ : Delta} (W : Walker w δ) (t : Word) where
           → (later : List Place) → later ≡ since w t (nextWindow w s o) → listed s o later ≡ since w t s
       one s l (some f) e later rec =
           let place = failed-place δ t s (length w) 0 f e in
-          rec ∙ sym (since-later w t s (f + 1) (omega arith) (λ j h u. failed-loses-none W t s l f e j h (omega arith)))
+          rec ∙ sym (since-later w t s (nextWindow w s (some f)) (omega arith) (λ j h u. failed-loses-none W t s l f e j h (omega arith)))
       one s l none e later rec =
           let here = whole-stands W t s l e in
           let skip = since-later w t (suc s) (s + afterFind w) (omega (arith, after-moves w)) (λ j h u there. omega (arith, after-safe w t s j here there h)) in

@@ -2,6 +2,7 @@
 -- the oracle of the mirrored word from state 0.
 --
 --   Reading              where a window's reading failed, if it did, and the letters it read
+--   failsAt, oneMore     how its letters are counted: each letter read counts one, the failing one too
 --   readDown δ t s k x   reads the letters at s + k - 1 down to s, from state x
 --   afterFind w          how far the window moves after an occurrence of w
 --   nextWindow w s f     where the window goes from s, f the place of the failing letter if there is one
@@ -25,13 +26,19 @@ pub record Reading : Type 0 where
   pub failed : Option Place
   pub letters : ℕ
 
--- each letter read counts one, the failing one too
+-- no letter is left; the first letter fails; the first letter is read, and then the others as r says
+abbrev pub readAll : Reading
+readAll = record { failed = none; letters = 0 }
+
+abbrev pub failsAt : Place → Reading
+failsAt f = record { failed = some f; letters = 1 }
+
+abbrev pub oneMore : Reading → Reading
+oneMore r = record { failed = r .failed; letters = suc (r .letters) }
+
 unfoldable pub readDown : Delta → Word → Place → ℕ → State → Reading
-readDown δ t s zero x = record { failed = none; letters = 0 }
-readDown δ t s (suc k) x = elim (δ x (letter t (s + k))) [
-  | none ↦ record { failed = some (s + k); letters = 1 }
-  | some y ↦ let r = readDown δ t s k y in record { failed = r .failed; letters = suc (r .letters) }
-]
+readDown δ t s zero x = readAll
+readDown δ t s (suc k) x = elim (δ x (letter t (s + k))) [ none ↦ failsAt (s + k) | some y ↦ oneMore (readDown δ t s k y) ]
 
 unfoldable pub afterFind : Word → ℕ
 afterFind w = 1

@@ -7,14 +7,14 @@
 --
 -- 01, 'Examples to hold against the rules'.
 use mathlib.Core.Bool.{Bool, true, false, _&&_}
-use mathlib.Core.Option.{Option, none, some, IsSome}
+use mathlib.Core.Option.{Option, none, some}
 use mathlib.Core.List.{List, [], _∷_}
-use Prim.Native.Nat.{ℕ, zero, suc, pred}
+use Prim.Native.Nat.{ℕ, suc, pred}
 use Prim.Native.Char.{code}
 use Prim.Native.String.{String}
 use lib.ListN.{length}
 use lib.Dec.{eqb}
-use Rattle.words.specs.Words.{Letter, Word, Place, letter, same, occurrences}
+use Rattle.words.specs.Words.{Word, Place, letter, same, occurrences}
 use Rattle.oracle.specs.Arrows.{State, Delta, target, walk}
 use Rattle.oracle.specs.SuffixRule.{suffixRule, extraArrows, oracle}
 use Rattle.oracle.specs.LetterRule.{supplyIn, letterRule}

@@ -1,10 +1,10 @@
 -- HOW MANY ARROWS. The suffix rule adds one at most for each suffix. The letter-by-letter rule keeps, at every moment, its arrows and the depth of its last state's
 -- chain below twice its letters: a step along the chain pays for the arrow that it adds. This is what leaves a slot free while a table is built.
-use mathlib.Core.Path.{_≡_, refl, sym, ap, _∙_}
+use mathlib.Core.Path.{_≡_, refl, ap, _∙_}
 use mathlib.Core.Bool.{Bool, true, false, cond}
 use mathlib.Core.Logic.{_⊎_, inl, inr}
-use mathlib.Core.Option.{Option, none, some}
-use mathlib.Core.List.{List, [], _∷_, _++_, map}
+use mathlib.Core.Option.{some}
+use mathlib.Core.List.{List, [], _∷_, _++_}
 use Prim.Native.Nat.{ℕ, zero, suc, _+_, _-_, _≤_, _<_}
 use native.Mathlib.Nat.{le-refl}
 use native.Mathlib.Omega.{arith}
@@ -12,13 +12,13 @@ use lib.ListN.{length, length-append, length-map, drop}
 use lib.Dec.{eqb}
 use Rattle.words.specs.Lists.{from}
 use Rattle.words.specs.Words.{Letter, Word, letter}
-use Rattle.oracle.specs.Arrows.{State, Arrow, arrow, Delta, target, spine}
-use Rattle.oracle.specs.SuffixRule.{Halt, far, missing, extrasAfter, extraArrows, suffixRule}
-use Rattle.oracle.specs.LetterRule.{Built, pathOf, Climbed, climb, addLetter, builtUpTo}
+use Rattle.oracle.specs.Arrows.{State, Arrow, Delta, target, spine}
+use Rattle.oracle.specs.SuffixRule.{Halt, far, mend, missing, extrasAfter, extraArrows}
+use Rattle.oracle.specs.LetterRule.{pathOf, climb, addLetter, builtUpTo}
 use Rattle.oracle.proofs.Targets.{into}
 use Rattle.oracle.proofs.Chain.{Supplied, supply-below}
 use Rattle.oracle.proofs.Grow.{Climb, stop, out, go, climb-below}
-use Rattle.oracle.proofs.LetterRule.{Sound, supplies, built-sound, letter-climb, supply-kept, supply-new}
+use Rattle.oracle.proofs.LetterRule.{supplies, built-sound, letter-climb, supply-kept, supply-new}
 
 -- ── The suffix rule ────────────────────────────────────────────────────────
 
@@ -31,23 +31,20 @@ pub spine-length : (p : Word) → length (spine p) ≡ length p
 unfolding spine
 spine-length p = length-map (from 0 (length p)) _ ∙ from-length 0 (length p)
 
-missing-length : (p : Word) (A : List Arrow) (i : ℕ) → length (missing p A i) ≤ 1
-unfolding missing
-missing-length p A i = by (far (target A) 0 i (drop i p))
+mend-length : (p : Word) (h : Halt) → length (mend p h) ≤ 1
+unfolding mend
+mend-length p h = by (eqb (h .upTo) (length p)) _
   where
-    by : (h : Halt) → length (cond (eqb (h .upTo) (length p)) [] (arrow (h .state) (letter p (h .upTo)) (suc (h .upTo)) ∷ [])) ≤ 1
-    by h = on (eqb (h .upTo) (length p))
-      where
-        on : (b : Bool) → length (cond b [] (arrow (h .state) (letter p (h .upTo)) (suc (h .upTo)) ∷ [])) ≤ 1
-        on true = omega arith
-        on false = le-refl 1
+    by : (b : Bool) (a : Arrow) → length (cond b [] (a ∷ [])) ≤ 1
+    by true a = omega arith
+    by false a = le-refl 1
 
 extras-length : (p : Word) (i : ℕ) → length (extrasAfter p i) ≤ i
-unfolding extrasAfter
+unfolding extrasAfter missing
 extras-length p zero = le-refl 0
 extras-length p (suc i) =
-    let A = extrasAfter p i ++ spine p in
-    rw (length-append (missing p A (suc i)) (extrasAfter p i)) (omega (arith, missing-length p A (suc i), extras-length p i))
+    let h = far (target (extrasAfter p i ++ spine p)) 0 (suc i) (drop (suc i) p) in
+    rw (length-append (mend p h) (extrasAfter p i)) (omega (arith, mend-length p h, extras-length p i))
 
 pub extra-arrows-few : (p : Word) → length (extraArrows p) ≤ length p - 1
 unfolding extraArrows
@@ -64,7 +61,8 @@ depth-0 : {S : State → State} {x : State} {n : ℕ} → x ≡ 0 → Depth S x 
 depth-0 e (top q r) = r
 depth-0 e (deep p d) = absurd (omega arith)
 
-pub depth-agree : {t : State} (S S′ : State → State) → ((x : State) → x ≤ t → S x ≤ x) → ((x : State) → x ≤ t → S′ x ≡ S x) → {x : State} {n : ℕ} → x ≤ t → Depth S x n → Depth S′ x n
+pub depth-agree : {t : State} (S S′ : State → State) → ((x : State) → x ≤ t → S x ≤ x) → ((x : State) → x ≤ t → S′ x ≡ S x)
+    → {x : State} {n : ℕ} → x ≤ t → Depth S x n → Depth S′ x n
 depth-agree S S′ d a h (top q r) = top q r
 depth-agree S S′ d a h (deep {x = x} {n = n} p r) = deep {x = x} {n = n} p (rw (a x h) (depth-agree S S′ d a (omega (arith, d x h)) r))
 

@@ -3,19 +3,19 @@
 use mathlib.Core.Path.{_≡_, refl, sym, ap, _∙_}
 use mathlib.Core.Logic.{_⊎_, inl, inr, _↔_}
 use mathlib.Core.Option.{Option, none, some, Option·getD}
-use mathlib.Core.List.{List, [], _∷_, _++_, map, List·Memᴰ, List·Memᴰ·head, List·Memᴰ·tail}
-use Prim.Native.Nat.{ℕ, zero, suc, _+_, _-_, _≤_, _<_}
+use mathlib.Core.List.{List, [], _∷_, _++_, head?, List·Memᴰ}
+use Prim.Native.Nat.{ℕ, zero, suc, _+_, _≤_, _<_}
 use native.Mathlib.Nat.{le-refl, add-zero, add-suc}
 use native.Mathlib.Decide.{decLt}
 use native.Mathlib.Omega.{arith}
-use lib.ListN.{length, getD, length-append, List·getD-append}
+use lib.ListN.{length, length-append, List·getD-append}
 use lib.Seq.{getD-at}
 use Rattle.words.specs.Words.{Letter, Word, letter}
-use Rattle.oracle.specs.Arrows.{State, Arrow, arrow, Delta, target, OneEach}
-use Rattle.oracle.specs.LetterRule.{Built, pathOf, supplyIn, Climbed, climb, addLetter, builtUpTo, letterRule}
+use Rattle.oracle.specs.Arrows.{State, Arrow, Delta, target, OneEach}
+use Rattle.oracle.specs.LetterRule.{Built, pathOf, supplyIn, Climbed, climb, addLetter, builtUpTo}
 use Rattle.oracle.proofs.Targets.{never, into, target-new, target-old}
-use Rattle.oracle.proofs.Chain.{On, here, next, Supplied, supply-below, on-below, arrow-up}
-use Rattle.oracle.proofs.Grow.{Climb, stop, out, go, source-free, source-on, last-free, climb-below, arrow-stays, arrow-was, grown}
+use Rattle.oracle.proofs.Chain.{Supplied, supply-below, on-below, arrow-up}
+use Rattle.oracle.proofs.Grow.{Climb, stop, out, go, source-on, last-free, climb-below, arrow-stays, arrow-was, grown}
 
 -- ── Suffix paths ───────────────────────────────────────────────────────────
 
@@ -28,7 +28,16 @@ pub data Path (S : State → State) : State → List State → Type 0 where
   ended : {x : State} → x ≡ 0 → Path S x []
   falls : {x y : State} {l : List State} → 0 < x → y ≡ S x → Path S y l → Path S x (y ∷ l)
 
-path-agree : {t : State} (S S′ : State → State) → ((x : State) → x ≤ t → S x ≤ x) → ((x : State) → x ≤ t → S′ x ≡ S x) → {x : State} {l : List State} → x ≤ t → Path S x l → Path S′ x l
+pub path-of-0 : {S : State → State} {x : State} {l : List State} → Path S x l → x ≡ 0 → head? l ≡ none
+path-of-0 (ended e) z = refl
+path-of-0 (falls p e r) z = absurd (omega arith)
+
+pub path-of-higher : {S : State → State} {x : State} {l : List State} → Path S x l → 0 < x → head? l ≡ some (S x)
+path-of-higher (ended e) h = absurd (omega arith)
+path-of-higher (falls p e r) h = ap {B = Option State} some e
+
+path-agree : {t : State} (S S′ : State → State) → ((x : State) → x ≤ t → S x ≤ x) → ((x : State) → x ≤ t → S′ x ≡ S x)
+    → {x : State} {l : List State} → x ≤ t → Path S x l → Path S′ x l
 path-agree S S′ d a h (ended e) = ended e
 path-agree S S′ d a h (falls {x = x} p e r) = falls p (e ∙ sym (a x h)) (path-agree S S′ d a (omega (arith, d x h)) r)
 
@@ -41,7 +50,8 @@ unfolding climb
 climb-is c e (ended z) = out z refl e
 climb-is {δ} {S} {k} c e (falls {y = y} {l = l} p q r) = go p e (climb-at q (by (δ y c) refl (λ f. climb-is c f r)))
   where
-    by : (o : Option State) → δ y c ≡ o → (δ y c ≡ none → Climb δ S c y (y ∷ climb δ c l .sources) (climb δ c l .supply)) → Climb δ S c y (climb δ c (y ∷ l) .sources) (climb δ c (y ∷ l) .supply)
+    by : (o : Option State) → δ y c ≡ o → (δ y c ≡ none → Climb δ S c y (y ∷ climb δ c l .sources) (climb δ c l .supply))
+        → Climb δ S c y (climb δ c (y ∷ l) .sources) (climb δ c (y ∷ l) .supply)
     by (some z) f rec = rw (f, climb) (stop f)
     by none f rec = rw (f, climb) (rec f)
 

@@ -8,3 +8,4 @@ pub mod Walks
 pub mod Shortest
 pub mod Supply
 pub mod Count
+pub mod Theorems

@@ -1,10 +1,10 @@
 -- WHERE FACTORS LEAD. `reach i n` is the state that the n letters behind the first i are walked to. Every factor is walked, to a state on the chain
 -- of its last letter's state; and those states, over all factors that end there, are that chain, none left out.
 use mathlib.Core.Path.{_≡_, refl, sym, ap, _∙_}
-use mathlib.Core.Logic.{_⊎_, inl, inr}
+use mathlib.Core.Logic.{inl, inr}
 use mathlib.Core.Option.{Option, none, some, Option·getD}
 use Prim.Native.Nat.{ℕ, zero, suc, _+_, _-_, _≤_, _<_}
-use native.Mathlib.Nat.{le-refl, zero-add, add-zero, add-suc}
+use native.Mathlib.Nat.{zero-add, add-zero, add-suc}
 use native.Mathlib.Decide.{decLt}
 use native.Mathlib.Omega.{arith}
 use Rattle.words.specs.Words.{Letter}

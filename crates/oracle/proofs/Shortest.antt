@@ -1,19 +1,17 @@
 -- THE SHORTEST WORD OF A STATE. For each state there is one factor that is walked to it and that every word walked to it ends in; it ends, in the word, at that
 -- state's place for the first time. The meaning of supplies rests on it.
 use mathlib.Core.Path.{_≡_, refl, sym, ap, _∙_}
-use mathlib.Core.Logic.{_⊎_, inl, inr}
-use mathlib.Core.Option.{Option, none, some}
-use mathlib.Core.List.{List, [], _∷_, _++_, append-nil, append-assoc}
+use mathlib.Core.Option.{Option, some}
+use mathlib.Core.List.{[], _∷_, _++_, append-nil, append-assoc}
 use Prim.Native.Nat.{ℕ, zero, suc, _+_, _-_, _≤_, _<_}
 use native.Mathlib.Nat.{le-refl, sub-zero}
 use native.Mathlib.Decide.{ℕ-discrete}
 use native.Mathlib.Omega.{arith}
-use lib.ListN.{length, length-append}
+use lib.ListN.{length, drop, length-append}
 use lib.Seq.{drop-at}
 use Rattle.words.specs.Words.{Letter, Word, letter, part}
 use Rattle.words.proofs.Words.{part-length, part-snoc, part-split}
 use Rattle.oracle.specs.Arrows.{State, Delta, walk}
-use Rattle.oracle.proofs.Targets.{never}
 use Rattle.oracle.proofs.Chain.{On, Into, Supplied, on-below}
 use Rattle.oracle.proofs.Reach.{reach, reach-0, reach-next, reach-spine, reach-below, chain-reached}
 use Rattle.oracle.proofs.Walks.{walk-append, walk-first, factor-walk}
@@ -44,10 +42,19 @@ last-letter c (a ∷ v) = let r = last-letter a v in (c ∷ r .0, r .1, ap {B = 
 
 -- where a part is u and then v, v stands in the word behind u
 pub end-of-part : (p : Word) (a n : ℕ) (u v : Word) → a + n ≤ length p → part p a n ≡ u ++ v → (length u + length v ≡ n) × (part p (a + length u) (length v) ≡ v)
-end-of-part p a n u v h e = (size, sym (drop-at (part p a (length u)) (part p (a + length u) (length v)) (length u) (part-length p a (length u) (omega (arith, size)))) ∙ ap (λ l. lib.ListN.drop (length u) l) (sym (part-split p a (length u) (length v)) ∙ ap (part p a) size ∙ e) ∙ drop-at u v (length u) refl)
+end-of-part p a n u v h e = (size, sym (drop-at front back (length u) (part-length p a (length u) (omega (arith, size)))) ∙ ap (drop (length u)) split ∙ drop-at u v (length u) refl)
   where
     size : length u + length v ≡ n
     size = sym (length-append u v) ∙ ap length (sym e) ∙ part-length p a n h
+
+    front : Word
+    front = part p a (length u)
+
+    back : Word
+    back = part p (a + length u) (length v)
+
+    split : front ++ back ≡ u ++ v
+    split = sym (part-split p a (length u) (length v)) ∙ ap (part p a) size ∙ e
 
 module _ (p : Word) {δ : Delta} {S : State → State} (O : Supplied (length p) (letter p) δ S) where
   abbrev w : ℕ → Letter

@@ -9,25 +9,23 @@
 --   So the arrow that the rule adds is δ's own, and behind it the suffix runs on the spine, which A(i) has. The claim holds for i + 1.
 --   At the end: every arrow of δ has its source on a chain, so some suffix uses it, so it was added.
 use mathlib.Core.Path.{_≡_, refl, sym, ap, _∙_}
-use mathlib.Core.Bool.{Bool, true, false, cond}
 use mathlib.Core.Logic.{_⊎_, inl, inr}
 use mathlib.Core.Option.{Option, none, some}
 use mathlib.Core.List.{List, [], _∷_, _++_, map, append-assoc}
 use Prim.Native.Nat.{ℕ, zero, suc, _+_, _-_, _≤_, _<_}
-use native.Mathlib.Nat.{le-refl, zero-add, add-zero, add-suc}
+use native.Mathlib.Nat.{zero-add, add-zero, add-suc}
 use native.Mathlib.Decide.{decLt, ℕ-discrete}
 use native.Mathlib.Omega.{arith}
-use lib.ListN.{length, drop}
-use lib.Seq.{drop-cons, drop-length}
-use lib.Dec.{eqb}
+use lib.ListN.{length, drop, length-drop}
+use lib.Seq.{drop-cons}
 use borrow.Author.Tests.{eq-eqb, ne-eqb}
 use Rattle.words.specs.Lists.{from}
 use Rattle.words.specs.Words.{Letter, Word, letter}
 use Rattle.oracle.specs.Arrows.{State, Arrow, arrow, Delta, target, spine, OneEach}
-use Rattle.oracle.specs.SuffixRule.{Halt, far, missing, extrasAfter, extraArrows, suffixRule, oracle}
+use Rattle.oracle.specs.SuffixRule.{Halt, far, mend, missing, extrasAfter, extraArrows, suffixRule, oracle}
 use Rattle.oracle.proofs.Targets.{never, target-hit, target-pass}
 use Rattle.oracle.proofs.Chain.{Supplied}
-use Rattle.oracle.proofs.Reach.{reach, reach-0, reach-arrow, reach-spine, stays-on-spine, chain-reached, lacking-leads-to-spine}
+use Rattle.oracle.proofs.Reach.{reach, reach-0, reach-next, reach-arrow, reach-spine, stays-on-spine, chain-reached, lacking-leads-to-spine}
 
 -- ── The spine ──────────────────────────────────────────────────────────────
 
@@ -55,7 +53,8 @@ module _ (p : Word) where
       Goal : ℕ → ℕ → Type 0
       Goal i n = (i ≤ x) × (x < i + n) × (c ≡ letter p x) × (y ≡ suc x)
 
-      by : (target (spineFrom i (suc n)) x c ≡ target (spineFrom (suc i) n) x c) ⊎ ((x ≡ i) × (c ≡ letter p i)) → (target (spineFrom (suc i) n) x c ≡ some y → Goal (suc i) n) → Goal i (suc n)
+      by : (target (spineFrom i (suc n)) x c ≡ target (spineFrom (suc i) n) x c) ⊎ ((x ≡ i) × (c ≡ letter p i))
+          → (target (spineFrom (suc i) n) x c ≡ some y → Goal (suc i) n) → Goal i (suc n)
       by (inl d) rec = let r = rec (sym d ∙ e) in (omega (arith, r .0), omega (arith, r .1), r .2, r .3)
       by (inr d) rec =
           let f : some y ≡ some (suc i) = sym e ∙ rw (d .0, d .1) (target-hit (spineFrom (suc i) n) i (letter p i) (suc i)) in
@@ -70,6 +69,10 @@ module _ (p : Word) where
       by : (o : Option State) → target (spineFrom (suc i) n) i (letter p i) ≡ o → o ≡ none
       by none e = refl
       by (some y) e = let r = spine-only n (suc i) i (letter p i) y e in absurd (omega (arith, r .0))
+
+pub spine-target : (p : Word) (x : State) → x < length p → target (spine p) x (letter p x) ≡ some (suc x)
+unfolding spine
+spine-target p x h = spine-arrow p (length p) 0 x (omega arith) (omega arith)
 
 -- ── Suffix by suffix ───────────────────────────────────────────────────────
 
@@ -101,29 +104,37 @@ module _ (p : Word) {δ : Delta} {S : State → State} (O : Supplied (length p) 
     followed : (n : ℕ) → n < len → Uses B i n
     lacks : i + len < m → B (to i len) (w (i + len)) ≡ none
 
+  -- from behind len letters of suffix i, k letters of the word, v being what is left
   far-halts : (B : Delta) (i : ℕ) → ((x : State) (c : Letter) (y : State) → B x c ≡ some y → δ x c ≡ some y)
-      → (r len : ℕ) → r + (i + len) ≡ m → ((n : ℕ) → n < len → Uses B i n) → Halted B i (far B (to i len) (i + len) (drop (i + len) p))
+      → (v : Word) (len k : ℕ) → k ≡ i + len → v ≡ drop k p → k ≤ m → ((n : ℕ) → n < len → Uses B i n) → Halted B i (far B (to i len) k v)
   unfolding far
-  far-halts B i within zero len e f =
-      let q : i + len ≡ length p = omega arith in
-      rw (q, drop-length p) (record { len = len; state = refl; upTo = sym q; inside = omega arith; followed = f; lacks = λ h. absurd (omega arith) })
-  far-halts B i within (suc r) len e f = rw (drop-cons p (i + len) 0 (omega arith)) (by (B (to i len) (w (i + len))) refl (far-halts B i within r (suc len) (omega arith)))
+  far-halts B i within [] len k e q b f =
+      record { len = len; state = refl; upTo = e; inside = omega arith; followed = f; lacks = λ h. absurd (omega (arith, ap length q ∙ length-drop k p)) }
+  far-halts B i within (c ∷ v) len k e q b f = by (B (to i len) c) refl (far-halts B i within v (suc len) (suc k))
     where
-      more : Uses B i len → (n : ℕ) → n < suc len → Uses B i n
-      more u n h = on (ℕ-discrete n len)
-        where
-          on : Dec (n ≡ len) → Uses B i n
-          on (yes q) = rw q u
-          on (no q) = f n (omega arith)
+      inside : k < m
+      inside = omega (arith, ap length q ∙ length-drop k p)
 
-      by : (o : Option State) → B (to i len) (w (i + len)) ≡ o
-          → (((n : ℕ) → n < suc len → Uses B i n) → Halted B i (far B (to i (suc len)) (i + suc len) (drop (i + suc len) p)))
-          → Halted B i (far B (to i len) (i + len) (w (i + len) ∷ drop (suc (i + len)) p))
-      by none d rec = rw (d, far) (record { len = len; state = refl; upTo = refl; inside = omega arith; followed = f; lacks = λ h. d })
+      split : c ∷ v ≡ w k ∷ drop (suc k) p
+      split = q ∙ drop-cons p k 0 inside
+
+      on : c ≡ w (i + len)
+      on = cc (split, ap w e)
+
+      more : Uses B i len → (n : ℕ) → n < suc len → Uses B i n
+      more u n h = last (ℕ-discrete n len)
+        where
+          last : Dec (n ≡ len) → Uses B i n
+          last (yes g) = rw g u
+          last (no g) = f n (omega arith)
+
+      by : (o : Option State) → B (to i len) c ≡ o
+          → (suc k ≡ i + suc len → v ≡ drop (suc k) p → suc k ≤ m → ((n : ℕ) → n < suc len → Uses B i n) → Halted B i (far B (to i (suc len)) (suc k) v))
+          → Halted B i (far B (to i len) k (c ∷ v))
+      by none d rec = rw (d, far) (record { len = len; state = refl; upTo = e; inside = omega (arith, inside); followed = f; lacks = λ h. rw on at d })
       by (some y) d rec =
-          let q : y ≡ to i (suc len) = cc (within _ _ _ d, reach-arrow O i len (omega arith)) in
-          let d′ : B (to i len) (w (i + len)) ≡ some (to i (suc len)) = rw q at d in
-          rw (d′, far) (rw (add-suc i len) at (rec (more d′)))
+          let q : y ≡ to i (suc len) = sym (reach-next w δ i len (rw on at (within (to i len) c y d))) in
+          rw (d, far, q) (rec (omega arith) (cc (split)) inside (more (rw (on, q) at d)))
 
   -- nothing is lacking
   whole : (B : Delta) (i : ℕ) → Part B i → ((n : ℕ) → i + n < m → Uses B i n) → Part B (suc i)
@@ -182,21 +193,19 @@ module _ (p : Word) {δ : Delta} {S : State → State} (O : Supplied (length p) 
 
   -- one suffix
   suffix-part : (A : List Arrow) (i : ℕ) → 0 < i → i ≤ m → Part (target A) i → OneEach A → Part (target (missing p A i ++ A)) (suc i) × OneEach (missing p A i ++ A)
-  unfolding missing OneEach
-  suffix-part A i pos b P one = by (far (target A) 0 i (drop i p)) (rw (reach-0 w δ i, add-zero i) at (far-halts (target A) i (P .within) (m - i) 0 (omega arith) (λ n h. absurd (omega arith))))
+  unfolding missing mend OneEach
+  suffix-part A i pos b P one =
+      let H = far-halts (target A) i (P .within) (drop i p) 0 i (sym (add-zero i)) refl b (λ n h. absurd (omega arith)) in
+      by (far (target A) 0 i (drop i p)) (rw (reach-0 w δ i) at H)
     where
-      added : Halt → List Arrow
-      added h = cond (eqb (h .upTo) (length p)) [] (arrow (h .state) (letter p (h .upTo)) (suc (h .upTo)) ∷ [])
-
-      by : (h : Halt) → Halted (target A) i h → Part (target (added h ++ A)) (suc i) × OneEach (added h ++ A)
+      by : (h : Halt) → Halted (target A) i h → Part (target (mend p h ++ A)) (suc i) × OneEach (mend p h ++ A)
       by h H = on (ℕ-discrete (h .upTo) (length p))
         where
-          on : Dec (h .upTo ≡ length p) → Part (target (added h ++ A)) (suc i) × OneEach (added h ++ A)
+          on : Dec (h .upTo ≡ length p) → Part (target (mend p h ++ A)) (suc i) × OneEach (mend p h ++ A)
           on (yes e) = rw (eq-eqb (h .upTo) (length p) e) (whole (target A) i P (λ n l. H .followed n (omega (arith, H .upTo))), one)
           on (no e) =
-              let u = H .upTo in
-              let l : i + H .len < m = omega (arith, H .inside) in
-              rw (ne-eqb (h .upTo) (length p) e, H .state, u) (mended A i (H .len) pos P l (H .followed) (H .lacks l), (H .lacks l, one))
+              let l : i + H .len < m = omega (arith, H .upTo, H .inside) in
+              rw (ne-eqb (h .upTo) (length p) e, H .state, H .upTo) (mended A i (H .len) pos P l (H .followed) (H .lacks l), (H .lacks l, one))
 
   -- all suffixes
   suffixes-part : (i : ℕ) → i ≤ m → Part (target (extrasAfter p i ++ spine p)) (suc i) × OneEach (extrasAfter p i ++ spine p)
@@ -212,7 +221,8 @@ module _ (p : Word) {δ : Delta} {S : State → State} (O : Supplied (length p) 
           rw (e, zero-add n, reach-spine O n (omega arith), reach-spine O (suc n) (omega arith)) (spine-arrow p (length p) 0 n (omega arith) (omega arith))
   suffixes-part (suc i) h =
       let r = suffixes-part i (omega arith) in
-      rw (append-assoc (missing p (extrasAfter p i ++ spine p) (suc i)) (extrasAfter p i) (spine p)) (suffix-part (extrasAfter p i ++ spine p) (suc i) (omega arith) h (r .0) (r .1))
+      let A = extrasAfter p i ++ spine p in
+      rw (append-assoc (missing p A (suc i)) (extrasAfter p i) (spine p)) (suffix-part A (suc i) (omega arith) h (r .0) (r .1))
 
   -- ── The rule's arrows are δ's ────────────────────────────────────────────
 

@@ -2,23 +2,22 @@
 -- that looks for that end.
 use mathlib.Core.Path.{_≡_, refl, sym, ap, _∙_, fun-ext}
 use mathlib.Core.Bool.{Bool, true, false}
-use mathlib.Core.Logic.{_⊎_, inl, inr}
+use mathlib.Core.Logic.{inl, inr}
 use mathlib.Core.Option.{Option, none, some}
-use mathlib.Core.List.{List, [], _∷_, _++_, List·Memᴰ}
+use mathlib.Core.List.{[], _∷_, _++_}
 use Prim.Native.Nat.{ℕ, zero, suc, _+_, _-_, _≤_, _<_}
 use native.Mathlib.Nat.{le-refl, zero-add, sub-zero}
 use native.Mathlib.Decide.{decLe, ℕ-discrete}
 use native.Mathlib.Omega.{arith}
 use lib.ListN.{length, take, drop, length-drop, length-append, drop-of-length-le}
 use lib.Seq.{take-length, length-take-le}
-use lib.Dec.{leb}
 use borrow.Author.Tests.{le-leb, leb-true}
 use Rattle.words.specs.Lists.{from, only, first}
-use Rattle.words.specs.Words.{Letter, Word, letter, part, same, stands, occurrences}
+use Rattle.words.specs.Words.{Word, letter, part, same, stands, occurrences}
 use Rattle.words.proofs.Lists.{from-snoc, only-yes, only-append, only-in, in-only, from-in, in-from, member, filled, first-yes, first-not}
 use Rattle.words.proofs.Words.{part-of-part}
 use Rattle.words.proofs.Occurrences.{stands-part, part-stands}
-use Rattle.oracle.specs.Arrows.{State, Delta, walk}
+use Rattle.oracle.specs.Arrows.{State, Delta}
 use Rattle.oracle.specs.SuffixRule.{oracle}
 use Rattle.oracle.specs.Supply.{ends, twice, repeated, supply}
 use Rattle.oracle.proofs.Chain.{Supplied, supply-below, Near}
@@ -136,11 +135,13 @@ module _ (u : Word) (a : ℕ) (h : a ≤ length u) where
       let n : suc (length u) - length here ≡ suc a = rw (length-drop a u) (omega arith) in
       rw (n, from-snoc 0 a, zero-add a, only-append (stands here u) (from 0 a) (a ∷ []), only-yes (stands here u) a [] (part-stands here u a (take-length here)))
 
+  count : length (occurrences here u) ≡ length (only (stands here u) (from 0 a)) + 1
+  count = ap length places ∙ length-append (only (stands here u) (from 0 a)) (a ∷ [])
+
   twice-earlier : twice u here ≡ true → (f : ℕ) × (f < a) × (stands here u f ≡ true)
   unfolding twice
   twice-earlier e =
-      let n : 2 ≤ length (occurrences here u) = leb-true 2 (length (occurrences here u)) e in
-      let r = member (only (stands here u) (from 0 a)) (omega (arith, ap length places ∙ length-append (only (stands here u) (from 0 a)) (a ∷ []))) in
+      let r = member (only (stands here u) (from 0 a)) (omega (arith, leb-true _ (length (occurrences here u)) e, count)) in
       let t = only-in (stands here u) (from 0 a) (r .1) in
       (r .0, omega (arith, from-in 0 a (t .0) .1), t .1)
 
@@ -148,7 +149,7 @@ module _ (u : Word) (a : ℕ) (h : a ≤ length u) where
   unfolding twice
   earlier-twice f l e =
       let m = filled (in-only (stands here u) (from 0 a) (in-from 0 a f (omega arith) (omega arith)) e) in
-      le-leb 2 (length (occurrences here u)) (omega (arith, ap length places ∙ length-append (only (stands here u) (from 0 a)) (a ∷ [])))
+      le-leb _ (length (occurrences here u)) (omega (arith, count))
 
 -- ── As defined ─────────────────────────────────────────────────────────────
 

@@ -1,6 +1,6 @@
 -- Laws of `target` and `OneEach`: what one arrow more changes, and that where one arrow at most leaves a state on a letter, the arrows of a
 -- list are exactly those that its target says.
-use mathlib.Core.Path.{_≡_, refl, sym, ap, _∙_}
+use mathlib.Core.Path.{_≡_, refl, sym, _∙_}
 use mathlib.Core.Bool.{Bool, true, false, _&&_, cond}
 use mathlib.Core.Logic.{_⊎_, inl, inr}
 use mathlib.Core.Option.{Option, none, some}
@@ -70,7 +70,10 @@ target-member (a ∷ A) x c y e = by (target-pass A a x c) (target-member A x c 
   where
     by : (target (a ∷ A) x c ≡ target A x c) ⊎ ((x ≡ a .source) × (c ≡ a .on)) → (target A x c ≡ some y → List·Memᴰ (arrow x c y) A) → List·Memᴰ (arrow x c y) (a ∷ A)
     by (inl d) rec = List·Memᴰ·tail (rec (sym d ∙ e))
-    by (inr d) rec = let t : some y ≡ some (a .to) = sym e ∙ rw (d .0, d .1) (target-hit A (a .source) (a .on) (a .to)) in let q : y ≡ a .to = cc in List·Memᴰ·head {x = a} (rw (d .0, d .1, q))
+    by (inr d) rec =
+        let t : some y ≡ some (a .to) = sym e ∙ rw (d .0, d .1) (target-hit A (a .source) (a .on) (a .to)) in
+        let q : y ≡ a .to = cc in
+        List·Memᴰ·head {x = a} (rw (d .0, d .1, q))
 
 pub member-target : (A : List Arrow) → OneEach A → {a : Arrow} → List·Memᴰ a A → target A (a .source) (a .on) ≡ some (a .to)
 unfolding OneEach
@@ -81,3 +84,19 @@ member-target (b ∷ A) o {a} (List·Memᴰ·tail m) = by (target-pass A b (a .s
         → target A (a .source) (a .on) ≡ some (a .to) → target (b ∷ A) (a .source) (a .on) ≡ some (a .to)
     by (inl d) r = d ∙ r
     by (inr d) r = never (o .0) (rw (d .0, d .1) at r)
+
+-- ── Two lists, one behind the other ────────────────────────────────────────
+
+none-behind : (A B : List Arrow) (x : State) (c : Letter) → target (A ++ B) x c ≡ none → target B x c ≡ none
+none-behind [] B x c e = e
+none-behind (a ∷ A) B x c e = by (target-pass (A ++ B) a x c) (none-behind A B x c)
+  where
+    by : (target (a ∷ A ++ B) x c ≡ target (A ++ B) x c) ⊎ ((x ≡ a .source) × (c ≡ a .on)) → (target (A ++ B) x c ≡ none → target B x c ≡ none) → target B x c ≡ none
+    by (inl d) rec = rec (sym d ∙ e)
+    by (inr d) rec = never (rw (d .0, d .1) at e) (target-hit (A ++ B) (a .source) (a .on) (a .to))
+
+-- no arrow of the one list leaves the same state on the same letter as one of the other
+pub apart : (A B : List Arrow) → OneEach (A ++ B) → {a : Arrow} → List·Memᴰ a A → target B (a .source) (a .on) ≡ none
+unfolding OneEach
+apart (b ∷ A) B o (List·Memᴰ·head e) = rw e (none-behind A B (b .source) (b .on) (o .0))
+apart (b ∷ A) B o (List·Memᴰ·tail m) = apart A B (o .1) m

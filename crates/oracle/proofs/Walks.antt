@@ -2,9 +2,8 @@
 -- is here.
 use mathlib.Core.Path.{_≡_, refl, sym, ap, _∙_}
 use mathlib.Core.Option.{Option, none, some}
-use mathlib.Core.List.{List, [], _∷_, _++_}
-use Prim.Native.Nat.{ℕ, zero, suc, _+_, _-_, _≤_, _<_}
-use native.Mathlib.Nat.{le-refl}
+use mathlib.Core.List.{[], _∷_, _++_}
+use Prim.Native.Nat.{ℕ, zero, suc, _+_, _≤_}
 use native.Mathlib.Omega.{arith}
 use lib.ListN.{length, drop}
 use lib.Seq.{drop-cons, drop-length}
@@ -12,7 +11,7 @@ use Rattle.words.specs.Words.{Letter, Word, letter, part}
 use Rattle.words.proofs.Words.{part-snoc}
 use Rattle.oracle.specs.Arrows.{State, Delta, walk}
 use Rattle.oracle.proofs.Targets.{never}
-use Rattle.oracle.proofs.Chain.{Into, Supplied, on-below, arrow-up}
+use Rattle.oracle.proofs.Chain.{Supplied, arrow-up}
 use Rattle.oracle.proofs.Reach.{reach, reach-0, reach-arrow}
 
 -- ── Walks in pieces ────────────────────────────────────────────────────────

@@ -2,7 +2,8 @@
 -- first i - 1 letters, so its i = 2 to m is i = 1 to m - 1 here; its k counts letters from the word's start, and is the same number here.
 --
 --   far δ x k v       the walk of v from x as far as arrows go, k letters standing before v
---   missing p A i     the arrow that suffix i adds to the arrows A, in a list of one or none
+--   mend p h          the arrow that a walk halted at h lacks, in a list of one or none
+--   missing p A i     the arrow that suffix i adds to the arrows A, in such a list
 --   extrasAfter p i   the arrows added for the suffixes 1 to i, the last one first
 --   extraArrows p     the extra arrows: those of all suffixes
 --   suffixRule p      all arrows: the extra ones and the spine
@@ -10,12 +11,12 @@
 --
 -- 01, 'The oracle of a word'; demand 2.
 use mathlib.Core.Bool.{cond}
-use mathlib.Core.Option.{Option, none, some}
+use mathlib.Core.Option.{none, some}
 use mathlib.Core.List.{List, [], _∷_, _++_}
 use Prim.Native.Nat.{ℕ, zero, suc, _-_}
 use lib.ListN.{length, drop}
 use lib.Dec.{eqb}
-use Rattle.words.specs.Words.{Letter, Word, letter}
+use Rattle.words.specs.Words.{Word, letter}
 use Rattle.oracle.specs.Arrows.{State, Arrow, arrow, Delta, target, spine}
 
 -- where a walk halts, and how many letters of the word stand before the first that was not spelled
@@ -27,13 +28,15 @@ unfoldable pub far : Delta → State → ℕ → Word → Halt
 far δ x k [] = record { state = x; upTo = k }
 far δ x k (c ∷ v) = elim (δ x c) [ none ↦ record { state = x; upTo = k } | some y ↦ far δ y (suc k) v ]
 
--- halted in state j with k letters spelled, k not m: an arrow from j to k + 1 on the letter between k and k + 1
-unfoldable pub missing : Word → List Arrow → ℕ → List Arrow
-missing p A i =
-    let h = far (target A) 0 i (drop i p) in
+-- halted in state j with the letters up to k spelled, k not m: an arrow from j to k + 1 on the letter between k and k + 1
+unfoldable pub mend : Word → Halt → List Arrow
+mend p h =
     let j = h .state in
     let k = h .upTo in
     cond (eqb k (length p)) [] (arrow j (letter p k) (suc k) ∷ [])
+
+unfoldable pub missing : Word → List Arrow → ℕ → List Arrow
+missing p A i = mend p (far (target A) 0 i (drop i p))
 
 unfoldable pub extrasAfter : Word → ℕ → List Arrow
 extrasAfter p zero = []

@@ -11,7 +11,6 @@
 use mathlib.Core.Bool.{Bool}
 use mathlib.Core.Option.{Option, none, some}
 use mathlib.Core.List.{List, [], _∷_}
-use Prim.Native.Nat.{ℕ}
 use lib.ListN.{length, take}
 use lib.Dec.{leb}
 use Rattle.words.specs.Lists.{first}

@@ -1,16 +1,13 @@
 -- Laws of `stands`, `occurrences` and `Factor`: the list of occurrences rises, and holds a place exactly where the word stands within the text.
-use mathlib.Core.Path.{_≡_, refl, sym, ap, _∙_}
-use mathlib.Core.Bool.{Bool, true, false, cond}
-use mathlib.Core.List.{List, [], _∷_, _++_, List·Memᴰ}
-use Prim.Native.Nat.{ℕ, zero, suc, _+_, _-_, _≤_, _<_}
-use native.Mathlib.Nat.{le-refl}
-use native.Mathlib.Decide.{decLe}
+use mathlib.Core.Path.{_≡_, ap}
+use mathlib.Core.Bool.{true}
+use mathlib.Core.List.{List·Memᴰ}
+use Prim.Native.Nat.{_+_, _≤_}
 use native.Mathlib.Omega.{arith}
-use lib.ListN.{length, take, drop, length-take, length-drop}
-use Rattle.words.specs.Lists.{from, only}
-use Rattle.words.specs.Words.{Word, Place, part, same, stands, occurrences, Factor}
-use Rattle.words.proofs.Lists.{only-in, in-only, from-in, in-from, Rising, end, up, rising-from}
-use Rattle.words.proofs.Words.{same-true, same-refl, part-length}
+use lib.ListN.{length, length-take, length-drop}
+use Rattle.words.specs.Words.{Word, Place, part, stands, occurrences}
+use Rattle.words.proofs.Lists.{only-in, in-only, from-in, in-from, Rising, rising-from}
+use Rattle.words.proofs.Words.{same-true, same-refl}
 
 -- ── stands ─────────────────────────────────────────────────────────────────
 
@@ -32,12 +29,12 @@ module _ (v t : Word) (s : Place) where
 module _ (v t : Word) where
   pub occurrence-stands : (s : Place) → List·Memᴰ s (occurrences v t) → (s + length v ≤ length t) × (stands v t s ≡ true)
   unfolding occurrences
-  occurrence-stands s m = let r = only-in (stands v t) (from 0 (suc (length t) - length v)) m in let b = from-in 0 (suc (length t) - length v) (r .0) in (omega arith, r .1)
+  occurrence-stands s m = let r = only-in (stands v t) _ m in let b = from-in 0 _ (r .0) in (omega arith, r .1)
 
   pub standing-occurs : (s : Place) → s + length v ≤ length t → stands v t s ≡ true → List·Memᴰ s (occurrences v t)
   unfolding occurrences
-  standing-occurs s h e = in-only (stands v t) (from 0 (suc (length t) - length v)) (in-from 0 (suc (length t) - length v) s (omega arith) (omega arith)) e
+  standing-occurs s h e = in-only (stands v t) _ (in-from 0 _ s (omega arith) (omega arith)) e
 
   pub occurrences-rise : Rising 0 (occurrences v t)
   unfolding occurrences
-  occurrences-rise = rising-from (stands v t) 0 (suc (length t) - length v)
+  occurrences-rise = rising-from (stands v t) 0 _
