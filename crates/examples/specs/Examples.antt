@@ -35,8 +35,6 @@ pub data Example : Type 0 where
   arrowsOf : (word : Word) (extra : List Extra) (inAll : ℕ) (supplies : List State) → Example
   -- a word whose oracle walks another that does not stand in it
   acceptsNoFactor : (word walked : Word) → Example
-  -- a word whose oracle walks another
-  accepts : (word walked : Word) → Example
   -- a word and a text, the starts of the occurrences, the letters read
   search : (word text : Word) (starts : List Place) (letters : ℕ) → Example
 
@@ -79,7 +77,6 @@ holds (arrowsOf p extra n l) =
     && (isNone (supplyIn rule 0)
     && gives (supplyIn rule) 1 l)))))))
 holds (acceptsNoFactor p v) = walked (walk (oracle p) 0 v) && empty (occurrences v p)
-holds (accepts p v) = walked (walk (oracle p) 0 v)
 holds (search w t starts n) =
     let r = backward w t in
     same (r .starts) starts && (eqb (r .letters) n && same (occurrences w t) starts)
@@ -100,7 +97,7 @@ table =
     ∷ arrowsOf (word "abbbaab") (0 to 2 ∷ 1 to 6 ∷ 2 to 5 ∷ 3 to 5 ∷ []) 11 (0 ∷ 0 ∷ 2 ∷ 3 ∷ 1 ∷ 1 ∷ 2 ∷ [])
     ∷ acceptsNoFactor (word "abbbaab") (word "aba")
     ∷ arrowsOf (word "abcacdace") (0 to 2 ∷ 0 to 3 ∷ 0 to 6 ∷ 0 to 9 ∷ 1 to 5 ∷ 3 to 6 ∷ 3 to 9 ∷ 5 to 9 ∷ []) 17 (0 ∷ 0 ∷ 0 ∷ 1 ∷ 3 ∷ 0 ∷ 1 ∷ 5 ∷ 0 ∷ [])
-    ∷ accepts (word "abcacdace") (word "cace")
+    ∷ acceptsNoFactor (word "abcacdace") (word "cace")
     ∷ search (word "aa") (word "aaaa") (0 ∷ 1 ∷ 2 ∷ []) 6
     ∷ search (word "ab") (word "aab") (1 ∷ []) 4
     ∷ search (word "aba") (word "ababa") (0 ∷ 2 ∷ []) 9
