@@ -2,3 +2,4 @@ pub mod Arrows
 pub mod SuffixRule
 pub mod LetterRule
 pub mod Supply
+pub mod FileOrder

@@ -1,1 +1,19 @@
-// Letters, words and the places where they stand: definitions and laws. The types for code join them when there is code.
+// Letters, words and the places where they stand: definitions and laws, and the kinds of number that code uses for them. A state, a place and a
+// letter are types of their own, so that none is taken for another. The types serve the rooms above; there is no code.
+pub struct Letter(pub u8);
+
+pub struct Place(pub u32);
+
+pub struct State(pub u16);
+
+// Where the arrow from a state on a letter leads.
+pub enum Arrow {
+    To(State),
+    Missing,
+}
+
+// What the supply of a state is. State 0 has none.
+pub enum Supply {
+    Of(State),
+    Without,
+}
