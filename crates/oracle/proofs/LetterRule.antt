@@ -12,6 +12,7 @@ use lib.ListN.{length, length-append, List·getD-append}
 use lib.Seq.{getD-at}
 use Rattle.words.specs.Words.{Letter, Word, letter}
 use Rattle.oracle.specs.Arrows.{State, Arrow, Delta, target, OneEach}
+use Rattle.oracle.specs.SuffixPath.{SuffixPath, ended, falls}
 use Rattle.oracle.specs.LetterRule.{Built, pathOf, supplyIn, Climbed, climb, addLetter, builtUpTo}
 use Rattle.oracle.proofs.Targets.{never, into, target-new, target-old}
 use Rattle.oracle.proofs.Chain.{Supplied, supply-below, on-below, arrow-up}
@@ -23,21 +24,16 @@ use Rattle.oracle.proofs.Grow.{Climb, stop, out, go, source-on, last-fr
 abbrev pub supplies : Built → State → State
 supplies b x = Option·getD (supplyIn b x) 0
 
--- l is the suffix path of x: S x, S (S x), .., down to 0
-pub data Path (S : State → State) : State → List State → Type 0 where
-  ended : {x : State} → x ≡ 0 → Path S x []
-  falls : {x y : State} {l : List State} → 0 < x → y ≡ S x → Path S y l → Path S x (y ∷ l)
-
-pub path-of-0 : {S : State → State} {x : State} {l : List State} → Path S x l → x ≡ 0 → head? l ≡ none
+pub path-of-0 : {S : State → State} {x : State} {l : List State} → SuffixPath S x l → x ≡ 0 → head? l ≡ none
 path-of-0 (ended e) z = refl
 path-of-0 (falls p e r) z = absurd (omega arith)
 
-pub path-of-higher : {S : State → State} {x : State} {l : List State} → Path S x l → 0 < x → head? l ≡ some (S x)
+pub path-of-higher : {S : State → State} {x : State} {l : List State} → SuffixPath S x l → 0 < x → head? l ≡ some (S x)
 path-of-higher (ended e) h = absurd (omega arith)
 path-of-higher (falls p e r) h = ap {B = Option State} some e
 
-path-agree : {t : State} (S S′ : State → State) → ((x : State) → x ≤ t → S x ≤ x) → ((x : State) → x ≤ t → S′ x ≡ S x)
-    → {x : State} {l : List State} → x ≤ t → Path S x l → Path S′ x l
+pub path-agree : {t : State} (S S′ : State → State) → ((x : State) → x ≤ t → S x ≤ x) → ((x : State) → x ≤ t → S′ x ≡ S x)
+    → {x : State} {l : List State} → x ≤ t → SuffixPath S x l → SuffixPath S′ x l
 path-agree S S′ d a h (ended e) = ended e
 path-agree S S′ d a h (falls {x = x} p e r) = falls p (e ∙ sym (a x h)) (path-agree S S′ d a (omega (arith, d x h)) r)
 
@@ -45,7 +41,7 @@ climb-at : {δ : Delta} {S : State → State} {c : Letter} {j k y : State} {xs :
 climb-at e C = rw e at C
 
 -- the climb over a list is the climb along the chain
-climb-is : {δ : Delta} {S : State → State} {k : State} {l : List State} (c : Letter) → δ k c ≡ none → Path S k l → Climb δ S c k (k ∷ climb δ c l .sources) (climb δ c l .supply)
+climb-is : {δ : Delta} {S : State → State} {k : State} {l : List State} (c : Letter) → δ k c ≡ none → SuffixPath S k l → Climb δ S c k (k ∷ climb δ c l .sources) (climb δ c l .supply)
 unfolding climb
 climb-is c e (ended z) = out z refl e
 climb-is {δ} {S} {k} c e (falls {y = y} {l = l} p q r) = go p e (climb-at q (by (δ y c) refl (λ f. climb-is c f r)))
@@ -61,7 +57,7 @@ climb-is {δ} {S} {k} c e (falls {y = y} {l = l} p q r) = go p e (climb-at q (by
 pub record Sound (t : State) (w : ℕ → Letter) (b : Built) : Type 0 where
   pub supplied : Supplied t w (target (b .arrows)) (supplies b)
   pub size : length (b .paths) ≡ suc t
-  pub path : (x : State) → x ≤ t → Path (supplies b) x (pathOf b x)
+  pub path : (x : State) → x ≤ t → SuffixPath (supplies b) x (pathOf b x)
   pub one : OneEach (b .arrows)
 
 -- new arrows on one letter from the sources of a climb leave one arrow at most for each state and letter
@@ -120,7 +116,7 @@ module _ {t : State} {w : ℕ → Letter} {b : Built} (G : Sound t w b) where
     one = one-each (b .arrows) (G .supplied) (G .one) (suc t) (le-refl t) letter-climb;
   }
     where
-      by : (x : State) → Dec (x < suc t) → x ≤ suc t → Path (supplies b′) x (pathOf b′ x)
+      by : (x : State) → Dec (x < suc t) → x ≤ suc t → SuffixPath (supplies b′) x (pathOf b′ x)
       by x (yes l) h = rw (path-kept x (omega arith)) (path-agree (supplies b) (supplies b′) falling supply-kept (omega arith) (G .path x (omega arith)))
       by x (no l) h =
           let e : x ≡ suc t = omega arith in
@@ -149,7 +145,7 @@ built-sound p zero = record {
     b : Built
     b = record { arrows = []; paths = [] ∷ [] }
 
-    by : (x : State) → x ≡ 0 → Path (supplies b) x (pathOf b x)
+    by : (x : State) → x ≡ 0 → SuffixPath (supplies b) x (pathOf b x)
     by x e = rw e (ended refl)
 built-sound p (suc t) = sound-next (built-sound p t)
 

@@ -9,7 +9,7 @@
 use mathlib.Core.Bool.{Bool, false}
 use mathlib.Core.Option.{Option, none, some}
 use mathlib.Core.List.{List, [], _++_}
-use Prim.Native.Nat.{ℕ, zero, suc, pred, _-_}
+use Prim.Native.Nat.{zero, suc, pred, _-_}
 use lib.ListN.{length}
 use lib.Dec.{eqb}
 use Rattle.words.specs.Lists.{from, only}

@@ -3,3 +3,4 @@ pub mod SuffixRule
 pub mod LetterRule
 pub mod Supply
 pub mod FileOrder
+pub mod SuffixPath

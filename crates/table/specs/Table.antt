@@ -24,7 +24,7 @@ use Prim.Native.Nat.{ℕ, suc, _+_, _*_, _-_}
 use lib.ListN.{length, getD, take, replicate}
 use lib.Dec.{eqb, ltb, leb}
 use Rattle.words.specs.Lists.{from, first}
-use Rattle.words.specs.Words.{Letter, Word, part}
+use Rattle.words.specs.Words.{Word, part}
 use Rattle.oracle.specs.Arrows.{State, Delta}
 use Rattle.oracle.specs.SuffixRule.{oracle}
 use Rattle.oracle.specs.Supply.{supply}
