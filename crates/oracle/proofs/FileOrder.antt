@@ -6,10 +6,9 @@ use mathlib.Core.Logic.{_⊎_, inl, inr, _≢_}
 use mathlib.Core.Option.{Option, none, some}
 use mathlib.Core.List.{List, [], _∷_, _++_, map, append-nil, append-assoc, List·Memᴰ, List·Memᴰ·head, List·Memᴰ·tail, List·Memᴰ·append-cases, Memᴰ·of-map}
 use Prim.Native.Nat.{ℕ, zero, suc, pred, _+_, _-_, _≤_, _<_}
-use native.Mathlib.Nat.{le-refl}
 use native.Mathlib.Decide.{ℕ-discrete}
 use native.Mathlib.Omega.{arith}
-use lib.ListN.{length, length-append, length-map}
+use lib.ListN.{length, getD, length-append, length-map}
 use borrow.Author.Tests.{eqb-true, eq-eqb}
 use Rattle.words.specs.Words.{Word, letter}
 use Rattle.words.proofs.Lists.{only-in, in-only, from-in, in-from, Rising, end, up, rising-above, rising-from}
@@ -27,6 +26,11 @@ leads-to (some z) y e = ap {B = Option State} some (eqb-true z y e)
 to-leads : (o : Option State) (y : State) → o ≡ some y → leadsTo o y ≡ true
 unfolding leadsTo
 to-leads o y e = rw e (eq-eqb y y refl)
+
+entry-below : {b : ℕ} (l : List ℕ) (i : ℕ) → ((y : ℕ) → List·Memᴰ y l → y ≤ b) → getD l i 0 ≤ b
+entry-below [] i f = omega arith
+entry-below (y ∷ l) zero f = f y (List·Memᴰ·head refl)
+entry-below (y ∷ l) (suc i) f = entry-below l i (λ z m. f z (List·Memᴰ·tail m))
 
 module _ (δ : Delta) (p : Word) where
   -- ── The extra targets of a state ─────────────────────────────────────────
@@ -51,6 +55,11 @@ module _ (δ : Delta) (p : Word) where
 
   -- ── The targets of all states ────────────────────────────────────────────
 
+  -- one state more
+  pub before-length : (x : State) → length (targetsBefore δ p (suc x)) ≡ length (targetsBefore δ p x) + length (extraTargets δ p x)
+  unfolding targetsBefore
+  before-length x = length-append (targetsBefore δ p x) (extraTargets δ p x)
+
   -- the targets of x stand behind those of the states before x
   pub before-grows : (x k : State) → x < k → (rest : List State) × (targetsBefore δ p k ≡ targetsBefore δ p x ++ (extraTargets δ p x ++ rest))
   unfolding targetsBefore
@@ -64,6 +73,10 @@ module _ (δ : Delta) (p : Word) where
       by (yes e) rec = ([], rw (e, append-nil (extraTargets δ p k)))
       by (no e) rec = let r = rec (omega arith) in (r .0 ++ extraTargets δ p k, rw (r .1) (simp append-assoc))
 
+  -- so there is room for both
+  pub before-room : (x k : State) → x < k → length (targetsBefore δ p x) + length (extraTargets δ p x) ≤ length (targetsBefore δ p k)
+  before-room x k h = omega (arith, simp length-append at (ap length (before-grows x k h .1)))
+
   -- no target is above m
   pub before-bound : (k : State) {y : State} → List·Memᴰ y (targetsBefore δ p k) → y ≤ length p
   unfolding targetsBefore
@@ -73,6 +86,10 @@ module _ (δ : Delta) (p : Word) where
       by : List·Memᴰ y (targetsBefore δ p x) ⊎ List·Memᴰ y (extraTargets δ p x) → (List·Memᴰ y (targetsBefore δ p x) → y ≤ length p) → y ≤ length p
       by (inl n) rec = rec n
       by (inr n) rec = extra-target x n .1
+
+  -- and so for what is looked up in the list, within its length or not
+  pub before-at : (k : State) (s : ℕ) → getD (targetsBefore δ p k) s 0 ≤ length p
+  before-at k s = entry-below (targetsBefore δ p k) s (λ y m. before-bound k m)
 
 -- ── Without repetition, each in another list ───────────────────────────────
 
