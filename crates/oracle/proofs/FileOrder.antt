@@ -124,6 +124,7 @@ module _ {A : Type 0} where
   others-stay (d ∷ E) (List·Memᴰ·tail m) (List·Memᴰ·head q) f = List·Memᴰ·head q
   others-stay (d ∷ E) (List·Memᴰ·tail m) (List·Memᴰ·tail n) f = List·Memᴰ·tail (others-stay E m n f)
 
+  -- where nothing stands twice and everything is in E, no more stands than in E
   pigeonhole : {l : List A} → Distinct l → (E : List A) → ((b : A) → List·Memᴰ b l → List·Memᴰ b E) → length l ≤ length E
   pigeonhole empty E f = omega arith
   pigeonhole (more {a = a} n L) E f =
@@ -147,7 +148,8 @@ module _ (δ : Delta) (p : Word) where
   arrows-length zero = refl
   arrows-length (suc x) = simp (length-append, length-map, arrows-length x)
 
-  arrow-before : (k : State) (a : Arrow) → List·Memᴰ a (arrowsBefore k) → (x : State) × (y : State) × (x < k) × List·Memᴰ y (extraTargets δ p x) × (a ≡ arrowInto x y)
+  arrow-before : (k : State) (a : Arrow) → List·Memᴰ a (arrowsBefore k)
+      → (x : State) × (y : State) × (x < k) × List·Memᴰ y (extraTargets δ p x) × (a ≡ arrowInto x y)
   unfolding arrowsBefore
   arrow-before zero a m = absurd (elim m [ ])
   arrow-before (suc k) a m = by (List·Memᴰ·append-cases (arrowsBefore k) m) (arrow-before k a)
@@ -192,6 +194,7 @@ module _ (δ : Delta) (p : Word) where
 -- ── The spine has no extra arrow ───────────────────────────────────────────
 
 module _ (p : Word) where
+  -- each arrow of the spine leads one up, on the letter between
   pub spine-member : {a : Arrow} → List·Memᴰ a (spine p) → (a .source < length p) × (a .on ≡ letter p (a .source)) × (a .to ≡ suc (a .source))
   unfolding spine
   spine-member {a} m = let r = Memᴰ·of-map _ _ m in let b = from-in 0 (length p) (r .1) in rw (← r .2) (omega (arith, b .1), refl, refl)

@@ -45,14 +45,17 @@ module _ (p : Word) (E : List Arrow) (X : ExtraSet p E) where
 
 -- for every word, every such set and all such supplies there is a table that is read as them
 pub freedom : (p : Word) (E : List Arrow) (S : State → State) → ExtraSet p E → Lower p S → (L : List ℕ) × ReadAs p E S L
-freedom p E S X lower = (tableFrom p δ S, record {
-  size = from-size p δ S;
-  word = reads-word p δ S;
-  arrows = reads-arrow p O S;
-  no-supply = reads-no-supply (length p) (tableFrom p δ S);
-  supplies = reads-supply p δ S;
-  entries = λ few letters. from-small p δ S few letters (λ x h. omega (arith, lower (suc x) (omega arith) h)) (O .fits);
-})
+freedom p E S X lower = (
+  tableFrom p δ S,
+  record {
+    size = from-size p δ S;
+    word = reads-word p δ S;
+    arrows = reads-arrow p O S;
+    no-supply = reads-no-supply (length p) (tableFrom p δ S);
+    supplies = reads-supply p δ S;
+    entries = λ few letters. from-small p δ S few letters (λ x h. omega (arith, lower (suc x) (omega arith) h)) (O .fits);
+  },
+)
   where
     δ : Delta
     δ = target (E ++ spine p)

@@ -2,3 +2,4 @@ pub mod Rows
 pub mod ReadBack
 pub mod Theorems
 pub mod Freedom
+pub mod Formed

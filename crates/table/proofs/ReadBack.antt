@@ -2,7 +2,6 @@
 -- word whose extra targets fit into their row.
 use mathlib.Core.Path.{_≡_, refl, sym, ap, _∙_}
 use mathlib.Core.Logic.{_≢_}
-use mathlib.Core.Bool.{Bool, true, false}
 use mathlib.Core.Option.{Option, none, some}
 use mathlib.Core.List.{List, _++_, List·Memᴰ}
 use Prim.Native.Nat.{ℕ, zero, suc, pred, _+_, _*_, _-_, _≤_, _<_}
@@ -62,16 +61,13 @@ module _ (p : Word) {δ : Delta} (O : Over p δ) (S : State → State) where
   -- the extra targets of each state
   pub reads-targets : (x : State) → x < length p → readTargets (length p) (tableFrom p δ S) x ≡ extraTargets δ p x
   unfolding readTargets
-  reads-targets x h = rw (many, from-here) (ext-getD 0 _ own size entry)
+  reads-targets x h = rw (many, from-here) (ext-getD 0 slots own size entry)
     where
       before : List State
       before = targetsBefore δ p x
 
       own : List State
       own = extraTargets δ p x
-
-      split : (rest : List State) × (targetsBefore δ p n ≡ before ++ (own ++ rest))
-      split = before-grows δ p x n (omega arith)
 
       inside : length before + length own ≤ n
       inside = omega (arith, O .fits, before-room δ p x n (omega arith))
@@ -82,21 +78,25 @@ module _ (p : Word) {δ : Delta} (O : Over p δ) (S : State → State) where
       many : at L (2 * n + suc x) - at L (2 * n + x) ≡ length own
       many = omega (arith, from-here, row-2 p δ S (suc x) (omega arith), before-length δ p x)
 
-      size : length (part L (3 * n + length before) (length own)) ≡ length own
+      slots : List State
+      slots = part L (3 * n + length before) (length own)
+
+      size : length slots ≡ length own
       size = part-length L (3 * n + length before) (length own) (omega (arith, inside, from-size p δ S))
 
-      entry : (i : ℕ) → i < length (part L (3 * n + length before) (length own)) → at (part L (3 * n + length before) (length own)) i ≡ at own i
-      entry i g =
-          let h : i < length own = rw size at g in
-          let e : 3 * n + length before + i ≡ 3 * n + (length before + i) = omega arith in
-          let look : at L (3 * n + (length before + i)) ≡ at (targetsBefore δ p n) (length before + i) = row-3 p δ S (length before + i) (omega (arith, inside)) in
-          let theirs : at (targetsBefore δ p n) (length before + i) ≡ at own i = rw (split .1) (getD-append-add before (own ++ split .0) i 0 ∙ List·getD-append own (split .0) 0 i h) in
-          part-at L (3 * n + length before) (length own) i h ∙ ap (at L) e ∙ look ∙ theirs
+      listed : (i : ℕ) → i < length own → at (targetsBefore δ p n) (length before + i) ≡ at own i
+      listed i l = let r = before-grows δ p x n (omega arith) in rw (r .1) (getD-append-add before (own ++ r .0) i 0 ∙ List·getD-append own (r .0) 0 i l)
 
-  -- among them, the first whose letter is c is where the arrow leads, if c is not the spine's letter
+      entry : (i : ℕ) → i < length slots → at slots i ≡ at own i
+      entry i g =
+          let l : i < length own = rw size at g in
+          let e : 3 * n + length before + i ≡ 3 * n + (length before + i) = omega arith in
+          part-at L (3 * n + length before) (length own) i l ∙ ap (at L) e ∙ row-3 p δ S (length before + i) (omega (arith, inside)) ∙ listed i l
+
   letter-at : (z : State) → z < m → at L (suc z) ≡ letter p z
   letter-at z h = row-0 p δ S (suc z) (omega arith)
 
+  -- if c is not the spine's letter, the first extra target with letter c is where the arrow leads
   first-extra : (x : State) (c : Letter) → x < m → letter p x ≢ c → first (λ y. eqb (at L y) c) (extraTargets δ p x) ≡ δ x c
   first-extra x c h f = by (δ x c) refl
     where

@@ -5,7 +5,7 @@ use mathlib.Core.List.{List, _∷_, _++_, map}
 use Prim.Native.Nat.{ℕ, zero, suc, _+_, _*_, _-_, _≤_, _<_}
 use native.Mathlib.Nat.{zero-add, add-zero}
 use native.Mathlib.Numerals.{one-add}
-use native.Mathlib.Decide.{decLt}
+use native.Mathlib.Decide.{decLt, ℕ-discrete}
 use native.Mathlib.Omega.{arith}
 use lib.ListN.{length, getD, take, replicate, length-append, length-map, length-take, length-replicate, getD-replicate, List·getD-append, List·getD-eq-default}
 use lib.Seq.{getD-append-add, getD-take, ext-getD}
@@ -17,24 +17,12 @@ use Rattle.oracle.specs.FileOrder.{targetsBefore}
 use Rattle.oracle.proofs.FileOrder.{before-room, before-at}
 use Rattle.table.specs.Table.{at, room, tableFrom}
 
--- ── Rows of n entries ──────────────────────────────────────────────────────
-
--- what holds row by row holds of every entry
-rows : (n : ℕ) (P : ℕ → Type 0) → ((i : ℕ) → i < n → P i) → ((i : ℕ) → i < n → P (n + i)) → ((i : ℕ) → i < n → P (2 * n + i)) → ((i : ℕ) → i < n → P (3 * n + i))
-    → ((i : ℕ) → i < 2 * n → P (4 * n + i)) → (i : ℕ) → i < 6 * n → P i
-rows n P row0 row1 row2 row3 row4 i h = by (decLt i n) (decLt i (2 * n)) (decLt i (3 * n)) (decLt i (4 * n))
-  where
-    by : Dec (i < n) → Dec (i < 2 * n) → Dec (i < 3 * n) → Dec (i < 4 * n) → P i
-    by (yes a) b c d = row0 i a
-    by (no a) (yes b) c d = let e : n + (i - n) ≡ i = omega arith in rw e at (row1 (i - n) (omega arith))
-    by (no a) (no b) (yes c) d = let e : 2 * n + (i - 2 * n) ≡ i = omega arith in rw e at (row2 (i - 2 * n) (omega arith))
-    by (no a) (no b) (no c) (yes d) = let e : 3 * n + (i - 3 * n) ≡ i = omega arith in rw e at (row3 (i - 3 * n) (omega arith))
-    by (no a) (no b) (no c) (no d) = let e : 4 * n + (i - 4 * n) ≡ i = omega arith in rw e at (row4 (i - 4 * n) (omega arith))
+-- ── Lists one behind the other ─────────────────────────────────────────────
 
 behind : (a b : List ℕ) (n i : ℕ) → length a ≡ n → getD (a ++ b) (n + i) 0 ≡ getD b i 0
 behind a b n i e = rw (← e) (getD-append-add a b i 0)
 
--- a list filled up with zeros has its own entries, and a list has zeros behind its end
+-- zeros behind a list change no entry: what is not there is looked up as 0
 padded : (l : List ℕ) (n i : ℕ) → i < n → getD (l ++ replicate n 0) i 0 ≡ getD l i 0
 padded l n i h = by (decLt i (length l))
   where
@@ -94,10 +82,11 @@ module _ (p : Word) (δ : Delta) (S : State → State) where
   unfolding tableFrom
   in-row-1 i h = behind (0 ∷ p) _ n i refl ∙ List·getD-append supplyRow _ 0 i (omega (arith, supply-row))
 
-  -- the supplies, behind a zero
+  -- a zero
   pub row-1-first : at L n ≡ 0
-  row-1-first = let e : n + 0 ≡ n = add-zero n in rw e at (in-row-1 0 (omega arith))
+  row-1-first = rw (add-zero n) at (in-row-1 0 (omega arith))
 
+  -- and the supplies
   pub row-1 : (x : ℕ) → x < m → at L (n + suc x) ≡ S (suc x)
   row-1 x h = in-row-1 (suc x) (omega arith) ∙ rw (one-add x) at (map-from-at S 1 m x 0 h)
 
@@ -112,13 +101,15 @@ module _ (p : Word) (δ : Delta) (S : State → State) where
   pub row-2 : (i : ℕ) → i < n → at L (2 * n + i) ≡ length (targetsBefore δ p i)
   row-2 i h =
       let e : 2 * n + i ≡ n + (n + i) = omega arith in
-      rw e (behind-1 i ∙ List·getD-append startRow _ 0 i (omega (arith, start-row)) ∙ rw (zero-add i) at (map-from-at (λ k. length (targetsBefore δ p k)) 0 n i 0 h))
+      let value = map-from-at (λ k. length (targetsBefore δ p k)) 0 n i 0 h in
+      rw e (behind-1 i ∙ List·getD-append startRow _ 0 i (omega (arith, start-row)) ∙ rw (zero-add i) at value)
 
   -- the extra targets of all states, and zeros
   pub row-3 : (i : ℕ) → i < n → at L (3 * n + i) ≡ getD (targetsBefore δ p n) i 0
   row-3 i h =
       let e : 3 * n + i ≡ n + (n + (n + i)) = omega arith in
-      rw e (behind-2 i ∙ List·getD-append targetRow _ 0 i (omega (arith, target-row)) ∙ getD-take n (targetsBefore δ p n ++ replicate n 0) i 0 h ∙ padded (targetsBefore δ p n) n i h)
+      let value = getD-take n (targetsBefore δ p n ++ replicate n 0) i 0 h ∙ padded (targetsBefore δ p n) n i h in
+      rw e (behind-2 i ∙ List·getD-append targetRow _ 0 i (omega (arith, target-row)) ∙ value)
 
   -- zeros
   pub row-4 : (i : ℕ) → i < 2 * n → at L (4 * n + i) ≡ 0
@@ -126,16 +117,30 @@ module _ (p : Word) (δ : Delta) (S : State → State) where
       let e : 4 * n + i ≡ n + (n + (n + (n + i))) = omega arith in
       rw e (behind-2 (n + i) ∙ behind targetRow _ n i target-row ∙ getD-replicate (2 * n) i 0 0 h)
 
+  -- ── All entries ──────────────────────────────────────────────────────────
+
+  -- what holds row by row holds of every entry
+  rows : (P : ℕ → Type 0) → ((i : ℕ) → i < n → P i) → P n → ((x : ℕ) → x < m → P (n + suc x)) → ((i : ℕ) → i < n → P (2 * n + i)) → ((i : ℕ) → i < n → P (3 * n + i))
+      → ((i : ℕ) → i < 2 * n → P (4 * n + i)) → (i : ℕ) → i < 6 * n → P i
+  rows P row0 row1-first row1 row2 row3 row4 i h = by (decLt i n) (ℕ-discrete i n) (decLt i (2 * n)) (decLt i (3 * n)) (decLt i (4 * n))
+    where
+      by : Dec (i < n) → Dec (i ≡ n) → Dec (i < 2 * n) → Dec (i < 3 * n) → Dec (i < 4 * n) → P i
+      by (yes a) f b c d = row0 i a
+      by (no a) (yes f) b c d = rw f row1-first
+      by (no a) (no f) (yes b) c d = let e : n + suc (i - suc n) ≡ i = omega arith in rw e at (row1 (i - suc n) (omega arith))
+      by (no a) (no f) (no b) (yes c) d = let e : 2 * n + (i - 2 * n) ≡ i = omega arith in rw e at (row2 (i - 2 * n) (omega arith))
+      by (no a) (no f) (no b) (no c) (yes d) = let e : 3 * n + (i - 3 * n) ≡ i = omega arith in rw e at (row3 (i - 3 * n) (omega arith))
+      by (no a) (no f) (no b) (no c) (no d) = let e : 4 * n + (i - 4 * n) ≡ i = omega arith in rw e at (row4 (i - 4 * n) (omega arith))
+
   -- a list of six rows with these entries is the table
   pub from-ext : (K : List ℕ) → length K ≡ 6 * n → ((i : ℕ) → i < n → at K i ≡ getD (0 ∷ p) i 0) → at K n ≡ 0 → ((x : ℕ) → x < m → at K (n + suc x) ≡ S (suc x))
       → ((i : ℕ) → i < n → at K (2 * n + i) ≡ length (targetsBefore δ p i)) → ((i : ℕ) → i < n → at K (3 * n + i) ≡ getD (targetsBefore δ p n) i 0)
       → ((i : ℕ) → i < 2 * n → at K (4 * n + i) ≡ 0) → K ≡ tableFrom p δ S
-  from-ext K size r0 r10 r1 r2 r3 r4 = ext-getD 0 K L (omega (arith, from-size)) (λ i h. rows n (λ i. at K i ≡ at L i) (λ i h. r0 i h ∙ sym (row-0 i h)) second
-      (λ i h. r2 i h ∙ sym (row-2 i h)) (λ i h. r3 i h ∙ sym (row-3 i h)) (λ i h. r4 i h ∙ sym (row-4 i h)) i (omega arith))
+  from-ext K size r0 r1-first r1 r2 r3 r4 = ext-getD 0 K L (omega (arith, from-size)) (λ i h. same i (omega arith))
     where
-      second : (i : ℕ) → i < n → at K (n + i) ≡ at L (n + i)
-      second zero h = rw (add-zero n) (r10 ∙ sym row-1-first)
-      second (suc x) h = r1 x (omega arith) ∙ sym (row-1 x (omega arith))
+      same : (i : ℕ) → i < 6 * n → at K i ≡ at L i
+      same = rows (λ i. at K i ≡ at L i) (λ i h. r0 i h ∙ sym (row-0 i h)) (r1-first ∙ sym row-1-first) (λ x h. r1 x h ∙ sym (row-1 x h))
+          (λ i h. r2 i h ∙ sym (row-2 i h)) (λ i h. r3 i h ∙ sym (row-3 i h)) (λ i h. r4 i h ∙ sym (row-4 i h))
 
   -- entries are numbers of 16 bits where letters and supplies are
   pub from-small : length p < 65535 → ((i : ℕ) → letter p i < 65536) → ((x : ℕ) → x < length p → S (suc x) < 65536)
@@ -146,10 +151,10 @@ module _ (p : Word) (δ : Delta) (S : State → State) where
       row0 zero h = omega (arith, row-0 0 h)
       row0 (suc i) h = omega (arith, row-0 (suc i) h, letters i)
 
-      row1 : (i : ℕ) → i < n → at L (n + i) < 65536
-      row1 zero h = rw (add-zero n) (omega (arith, row-1-first))
-      row1 (suc x) h = omega (arith, row-1 x (omega arith), supplies x (omega arith))
+      inside : (i : ℕ) → i < 6 * n → at L i < 65536
+      inside = rows (λ i. at L i < 65536) row0 (omega (arith, row-1-first)) (λ x h. omega (arith, row-1 x h, supplies x h))
+          (λ i h. omega (arith, row-2 i h, before-room δ p i n h)) (λ i h. omega (arith, row-3 i h, before-at δ p n i)) (λ i h. omega (arith, row-4 i h))
 
       by : Dec (i < 6 * n) → at L i < 65536
-      by (yes h) = rows n (λ i. at L i < 65536) row0 row1 (λ i h. omega (arith, row-2 i h, before-room δ p i n h)) (λ i h. omega (arith, row-3 i h, before-at δ p n i)) (λ i h. omega (arith, row-4 i h)) i h
+      by (yes h) = inside i h
       by (no h) = omega (arith, List·getD-eq-default L 0 {n = i} (omega (arith, from-size)))

@@ -145,6 +145,7 @@ lower : {a b : ℕ} {l : List ℕ} → a ≤ b → Rising b l → Rising a l
 lower h end = end
 lower {a} h (up {x = x} g r) = let k : a ≤ x = omega arith in up k r
 
+-- nothing is below the bound
 pub rising-above : {a y : ℕ} {l : List ℕ} → Rising a l → List·Memᴰ y l → a ≤ y
 rising-above (up g r) (List·Memᴰ·head e) = omega arith
 rising-above (up g r) (List·Memᴰ·tail m) = omega (arith, rising-above r m)
