@@ -49,7 +49,7 @@ abbrev pub firstOf : List ℕ → Letter → ℕ → ℕ → Option State
 firstOf L c a k = first (λ y. eqb (at L y) c) (part L a k)
 
 module _ (L : List ℕ) (m : ℕ) (x : State) (c : Letter) where
-  -- no arrow leaves the last state
+  -- no arrow leaves the last state, or what is no state
   pub arrow-far : m ≤ x → readArrow m L x c ≡ none
   unfolding readArrow
   arrow-far h = rw (le-ltb x m h)

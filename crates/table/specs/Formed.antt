@@ -2,10 +2,8 @@
 -- targets of row 3 are states.
 --
 --   Formed L m    L has room for the table of m letters, and the numbers that a lookup follows stay inside
---
--- 01, 'When the library says no', its last part.
-use Prim.Native.Nat.{ℕ, _+_, _*_, _≤_, _<_}
 use mathlib.Core.List.{List}
+use Prim.Native.Nat.{ℕ, _+_, _*_, _≤_, _<_}
 use lib.ListN.{length}
 use Rattle.oracle.specs.Arrows.{State}
 use Rattle.table.specs.Table.{at, room}
