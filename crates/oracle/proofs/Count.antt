@@ -12,6 +12,7 @@ use lib.ListN.{length, length-append, length-map, drop}
 use lib.Dec.{eqb}
 use Rattle.words.specs.Lists.{from}
 use Rattle.words.specs.Words.{Letter, Word, letter}
+use Rattle.words.proofs.Lists.{from-length}
 use Rattle.oracle.specs.Arrows.{State, Arrow, Delta, target, spine}
 use Rattle.oracle.specs.SuffixRule.{Halt, far, mend, missing, extrasAfter, extraArrows}
 use Rattle.oracle.specs.SuffixPath.{SuffixPath, ended, falls}
@@ -22,11 +23,6 @@ use Rattle.oracle.proofs.Grow.{Climb, stop, out, go, climb-below}
 use Rattle.oracle.proofs.LetterRule.{supplies, path-agree, built-sound, letter-climb, supply-kept, supply-new}
 
 -- ── The suffix rule ────────────────────────────────────────────────────────
-
-from-length : (a k : ℕ) → length (from a k) ≡ k
-unfolding from
-from-length a zero = refl
-from-length a (suc k) = ap suc (from-length (suc a) k)
 
 pub spine-length : (p : Word) → length (spine p) ≡ length p
 unfolding spine

@@ -8,4 +8,5 @@ pub mod Walks
 pub mod Shortest
 pub mod Supply
 pub mod Count
+pub mod FileOrder
 pub mod Theorems

@@ -1,2 +1,3 @@
 pub mod Table
 pub mod Freedom
+pub mod Formed

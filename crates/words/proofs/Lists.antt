@@ -1,13 +1,13 @@
 -- Laws of `from`, `only` and `first`: what is in such a list, and in which order.
 use mathlib.Core.Path.{_≡_, refl, ap, _∙_}
 use mathlib.Core.Bool.{Bool, true, false, cond, _&&_}
-use mathlib.Core.Option.{some}
-use mathlib.Core.List.{List, [], _∷_, _++_, List·Memᴰ, List·Memᴰ·head, List·Memᴰ·tail}
+use mathlib.Core.Option.{Option, none, some}
+use mathlib.Core.List.{List, [], _∷_, _++_, map, List·Memᴰ, List·Memᴰ·head, List·Memᴰ·tail}
 use Prim.Native.Nat.{ℕ, zero, suc, _+_, _≤_, _<_}
 use native.Mathlib.Nat.{le-refl, add-zero}
 use native.Mathlib.Decide.{ℕ-discrete}
 use native.Mathlib.Omega.{arith}
-use lib.ListN.{length}
+use lib.ListN.{length, getD}
 use Rattle.words.specs.Lists.{from, only, first}
 
 -- ── Tests ──────────────────────────────────────────────────────────────────
@@ -25,6 +25,18 @@ pub from-snoc : (a k : ℕ) → from a (suc k) ≡ from a k ++ ((a + k) ∷ [])
 unfolding from
 from-snoc a zero = rw (add-zero a)
 from-snoc a (suc k) = let e : suc a + k ≡ a + suc k = omega arith in ap {B = List ℕ} (λ l. a ∷ l) (from-snoc (suc a) k ∙ rw e)
+
+pub from-length : (a k : ℕ) → length (from a k) ≡ k
+unfolding from
+from-length a zero = refl
+from-length a (suc k) = ap suc (from-length (suc a) k)
+
+-- entry i of a function's values at a, a + 1, ..
+pub map-from-at : (f : ℕ → ℕ) (a k i d : ℕ) → i < k → getD (map f (from a k)) i d ≡ f (a + i)
+unfolding from
+map-from-at f a zero i d h = absurd (omega arith)
+map-from-at f a (suc k) zero d h = rw (add-zero a)
+map-from-at f a (suc k) (suc i) d h = let e : suc a + i ≡ a + suc i = omega arith in map-from-at f (suc a) k i d (omega arith) ∙ ap f e
 
 pub from-in : (a k : ℕ) {j : ℕ} → List·Memᴰ j (from a k) → (a ≤ j) × (j < a + k)
 unfolding from
@@ -106,6 +118,22 @@ module _ {A : Type 0} (P : A → Bool) where
   unfolding first
   first-not a l e = rw e
 
+  -- where nothing passes there is no first
+  pub first-none : (l : List A) → ((a : A) → List·Memᴰ a l → P a ≡ false) → first P l ≡ none
+  unfolding first
+  first-none [] f = refl
+  first-none (a ∷ l) f = first-not a l (f a (List·Memᴰ·head refl)) ∙ first-none l (λ b m. f b (List·Memᴰ·tail m))
+
+  -- the only one that passes is the first
+  pub first-only : (l : List A) {a : A} → List·Memᴰ a l → P a ≡ true → ((b : A) → List·Memᴰ b l → P b ≡ true → b ≡ a) → first P l ≡ some a
+  unfolding first
+  first-only (b ∷ l) (List·Memᴰ·head q) e f = rw q (first-yes b l (rw q at e))
+  first-only (b ∷ l) {a} (List·Memᴰ·tail m) e f = by (P b) refl (first-only l m e (λ d n. f d (List·Memᴰ·tail n)))
+    where
+      by : (t : Bool) → P b ≡ t → first P l ≡ some a → first P (b ∷ l) ≡ some a
+      by true g rec = first-yes b l g ∙ ap {B = Option A} some (f b (List·Memᴰ·head refl) g)
+      by false g rec = first-not b l g ∙ rec
+
 -- ── Rising lists ───────────────────────────────────────────────────────────
 
 -- each number is at least a and above the one before it
@@ -116,6 +144,11 @@ pub data Rising : ℕ → List ℕ → Type 0 where
 lower : {a b : ℕ} {l : List ℕ} → a ≤ b → Rising b l → Rising a l
 lower h end = end
 lower {a} h (up {x = x} g r) = let k : a ≤ x = omega arith in up k r
+
+-- nothing is below the bound
+pub rising-above : {a y : ℕ} {l : List ℕ} → Rising a l → List·Memᴰ y l → a ≤ y
+rising-above (up g r) (List·Memᴰ·head e) = omega arith
+rising-above (up g r) (List·Memᴰ·tail m) = omega (arith, rising-above r m)
 
 pub rising-from : (P : ℕ → Bool) (a k : ℕ) → Rising a (only P (from a k))
 unfolding from only

@@ -1,0 +1,5 @@
+pub mod Rows
+pub mod ReadBack
+pub mod Theorems
+pub mod Freedom
+pub mod Formed
