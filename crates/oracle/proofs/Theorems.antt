@@ -27,7 +27,7 @@ use Rattle.oracle.proofs.Supply.{supply-0, supply-is-defined}
 use Rattle.oracle.proofs.Count.{spine-length, extra-arrows-few}
 
 -- the record depends on the first m letters alone
-same-letters : {m : ℕ} {δ : Delta} {S : State → State} (w w′ : ℕ → Letter) → ((i : ℕ) → i < m → w′ i ≡ w i) → Supplied m w δ S → Supplied m w′ δ S
+pub same-letters : {m : ℕ} {δ : Delta} {S : State → State} (w w′ : ℕ → Letter) → ((i : ℕ) → i < m → w′ i ≡ w i) → Supplied m w δ S → Supplied m w′ δ S
 same-letters {m} {δ} {S} w w′ e O = record {
   spine = λ i h. rw (e i h) (O .spine i h);
   into = λ x c y d. by x c y (O .into x c y d);

@@ -1,5 +1,6 @@
 -- Lists that the other definitions are written with.
 --
+--   at l i       entry i of a list of numbers, 0 behind its end
 --   from a k     the numbers a, a + 1, .., k of them
 --   only P l     those of l that pass the test P, in their order
 --   first P l    the first of l that passes the test P, if one does
@@ -7,6 +8,10 @@ use mathlib.Core.Bool.{Bool, cond}
 use mathlib.Core.Option.{Option, none, some}
 use mathlib.Core.List.{List, [], _∷_}
 use Prim.Native.Nat.{ℕ, zero, suc}
+use lib.ListN.{getD}
+
+abbrev pub at : List ℕ → ℕ → ℕ
+at l i = getD l i 0
 
 unfoldable pub from : ℕ → ℕ → List ℕ
 from a zero = []

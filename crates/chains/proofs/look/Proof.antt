@@ -1,0 +1,176 @@
+use Prim.Native.Nat.{_+_, _*_, _<_}
+use Rattle.chains.proofs.Looking.{Chasing, looks-far, looks-spine, chase-start, chase-slot, chase-hit, chase-next, chase-end}
+use native.Mathlib.Omega.{arith}
+use borrow.Author.Needs.{needs}
+use Rattle.chains.proofs.look.Statement.{statement}
+use Rattle.chains.proofs.look.Tie as tie
+use Rattle.chains.proofs.look.Reads as reads
+use Rattle.chains.proofs.look.Lts as lts
+
+abbrev Inv-loop : tie.InvT-loop
+Inv-loop table n t from on slot₀ slot = (from < t) × Chasing table n t from on slot
+
+abbrev μ-loop : tie.MeasureT-loop
+μ-loop table n t from on slot₀ slot = slot
+
+-- src/lib.rt:34:16
+cast-from : tie.Need-cast-from Inv-loop μ-loop
+cast-from c = search needs
+
+-- src/lib.rt:35:14
+cast-on : tie.Need-cast-on Inv-loop μ-loop
+cast-on c = search needs
+
+-- src/lib.rt:37:9
+returns : tie.Need-returns Inv-loop μ-loop
+returns c = looks-far (c .if1 .taken)
+
+-- src/lib.rt:39:14
+add-if2 : tie.Need-add-if2 Inv-loop μ-loop
+add-if2 c = search needs
+
+-- src/lib.rt:39:8
+mul-if2 : tie.Need-mul-if2 Inv-loop μ-loop
+mul-if2 c = search needs
+
+-- src/lib.rt:39:8
+shared-slice-read-if2 : tie.Need-shared-slice-read-if2 Inv-loop μ-loop
+shared-slice-read-if2 c = search needs
+
+-- src/lib.rt:40:47
+add-t16 : tie.Need-add-t16 Inv-loop μ-loop
+add-t16 c = search needs
+
+-- src/lib.rt:40:46
+cast-t17 : tie.Need-cast-t17 Inv-loop μ-loop
+cast-t17 c = search needs
+
+-- src/lib.rt:40:9
+returns-2 : tie.Need-returns-2 Inv-loop μ-loop
+returns-2 c = looks-spine (c .before .before .if1 .left) (c .if2 .taken)
+
+-- src/lib.rt:42:26
+mul-slot : tie.Need-mul-slot Inv-loop μ-loop
+mul-slot c = search needs
+
+-- src/lib.rt:42:26
+add-slot : tie.Need-add-slot Inv-loop μ-loop
+add-slot c = search needs
+
+-- src/lib.rt:42:20
+mul-slot-2 : tie.Need-mul-slot-2 Inv-loop μ-loop
+mul-slot-2 c = search needs
+
+-- src/lib.rt:42:20
+shared-slice-read-slot : tie.Need-shared-slice-read-slot Inv-loop μ-loop
+shared-slice-read-slot c = search needs
+
+-- src/lib.rt:42:20
+cast-slot : tie.Need-cast-slot Inv-loop μ-loop
+cast-slot c = omega (arith, c .shared-slice-known2 .given (2 * c .before .before .before .before .before .before .args .n + c .before .before .before .before .before .before .args .x .0))
+
+-- src/lib.rt:43:5
+loop-holds : tie.Need-loop-holds Inv-loop μ-loop
+loop-holds c = (c .before .before .before .if1 .left, chase-start (c .before .before .before .before .before .before .pre .1) (c .before .before .before .before .before .before .pre .0 .2) (c .before .before .before .if1 .left) (c .before .if2 .left))
+
+-- src/lib.rt:44:23
+mul-y : tie.Need-mul-y Inv-loop μ-loop
+mul-y c = search needs
+
+-- src/lib.rt:44:23
+add-y : tie.Need-add-y Inv-loop μ-loop
+add-y c = omega (arith, chase-slot (c .before .loop .inv .1) (c .loop-test .taken) .inside)
+
+-- src/lib.rt:44:17
+mul-y-2 : tie.Need-mul-y-2 Inv-loop μ-loop
+mul-y-2 c = omega (arith, chase-slot (c .before .loop .inv .1) (c .loop-test .taken) .inside)
+
+-- src/lib.rt:44:17
+shared-slice-read-y : tie.Need-shared-slice-read-y Inv-loop μ-loop
+shared-slice-read-y c = omega (arith, chase-slot (c .before .before .loop .inv .1) (c .before .loop-test .taken) .inside, c .before .before .before .before .before .before .before .before .before .pre .1 .size)
+
+-- src/lib.rt:45:18
+cast-at : tie.Need-cast-at Inv-loop μ-loop
+cast-at c = omega (arith, c .shared-slice-known3 .given (5 * c .before .before .before .before .before .before .before .before .before .args .n + c .before .before .loop .slot))
+
+-- src/lib.rt:46:12
+mul-if3 : tie.Need-mul-if3 Inv-loop μ-loop
+mul-if3 c = omega (arith, chase-slot (c .before .before .loop .inv .1) (c .before .loop-test .taken) .state)
+
+-- src/lib.rt:46:12
+shared-slice-read-if3 : tie.Need-shared-slice-read-if3 Inv-loop μ-loop
+shared-slice-read-if3 c = omega (arith, chase-slot (c .before .before .before .loop .inv .1) (c .before .before .loop-test .taken) .state, c .before .before .before .before .before .before .before .before .before .before .pre .1 .size)
+
+-- src/lib.rt:47:13
+returns-3 : tie.Need-returns-3 Inv-loop μ-loop
+returns-3 c = chase-hit (c .before .before .before .before .loop .inv .1) (c .before .before .before .loop-test .taken) (c .if3 .taken)
+
+-- src/lib.rt:49:22
+mul-slot-3 : tie.Need-mul-slot-3 Inv-loop μ-loop
+mul-slot-3 c = search needs
+
+-- src/lib.rt:49:22
+add-slot-2 : tie.Need-add-slot-2 Inv-loop μ-loop
+add-slot-2 c = omega (arith, chase-slot (c .before .before .before .before .loop .inv .1) (c .before .before .before .loop-test .taken) .inside)
+
+-- src/lib.rt:49:16
+mul-slot-4 : tie.Need-mul-slot-4 Inv-loop μ-loop
+mul-slot-4 c = omega (arith, chase-slot (c .before .before .before .before .loop .inv .1) (c .before .before .before .loop-test .taken) .inside)
+
+-- src/lib.rt:49:16
+shared-slice-read-slot-2 : tie.Need-shared-slice-read-slot-2 Inv-loop μ-loop
+shared-slice-read-slot-2 c = omega (arith, chase-slot (c .before .before .before .before .before .loop .inv .1) (c .before .before .before .before .loop-test .taken) .inside, c .before .before .before .before .before .before .before .before .before .before .before .before .pre .1 .size)
+
+-- src/lib.rt:49:16
+cast-slot-2 : tie.Need-cast-slot-2 Inv-loop μ-loop
+cast-slot-2 c = omega (arith, c .shared-slice-known5 .given (4 * c .before .before .before .before .before .before .before .before .before .before .before .before .args .n + c .before .before .before .before .before .loop .slot))
+
+-- src/lib.rt:43:5
+loop-less : tie.Need-loop-less Inv-loop μ-loop
+loop-less c = chase-slot (c .before .before .before .before .before .loop .inv .1) (c .before .before .before .before .loop-test .taken) .older
+
+-- src/lib.rt:43:5
+loop-again : tie.Need-loop-again Inv-loop μ-loop
+loop-again c = (c .before .before .before .before .before .loop .inv .0, chase-next (c .before .before .before .before .before .loop .inv .1) (c .before .before .before .before .loop-test .taken) (c .before .if3 .left))
+
+-- src/lib.rt:29:1
+returns-4 : tie.Need-returns-4 Inv-loop μ-loop
+returns-4 c = chase-end (c .before .loop .inv .1) (c .loop-test .left)
+
+pub look-spec : {M : Type 1} → statement M
+look-spec =
+    tie.close
+    (tie.spec
+    Inv-loop
+    μ-loop
+    cast-from
+    cast-on
+    returns
+    add-if2
+    mul-if2
+    shared-slice-read-if2
+    add-t16
+    cast-t17
+    returns-2
+    mul-slot
+    add-slot
+    mul-slot-2
+    shared-slice-read-slot
+    cast-slot
+    loop-holds
+    mul-y
+    add-y
+    mul-y-2
+    shared-slice-read-y
+    cast-at
+    mul-if3
+    shared-slice-read-if3
+    returns-3
+    mul-slot-3
+    add-slot-2
+    mul-slot-4
+    shared-slice-read-slot-2
+    cast-slot-2
+    loop-less
+    loop-again
+    returns-4)

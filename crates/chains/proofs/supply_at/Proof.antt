@@ -1,0 +1,33 @@
+use Rattle.chains.proofs.Looking.{supply-none, supply-some}
+use borrow.Author.Needs.{needs}
+use Rattle.chains.proofs.supply_at.Statement.{statement}
+use Rattle.chains.proofs.supply_at.Tie as tie
+use Rattle.chains.proofs.supply_at.Reads as reads
+use Rattle.chains.proofs.supply_at.Lts as lts
+
+-- src/lib.rt:21:14
+cast-of : tie.Need-cast-of
+cast-of c = search needs
+
+-- src/lib.rt:23:9
+returns : tie.Need-returns
+returns c = supply-none (c .before .before .args .table .now) (c .before .before .args .n) (c .before .before .args .x .0) (c .if1 .taken)
+
+-- src/lib.rt:25:42
+add-t6 : tie.Need-add-t6
+add-t6 c = search needs
+
+-- src/lib.rt:25:36
+mul-t7 : tie.Need-mul-t7
+mul-t7 c = search needs
+
+-- src/lib.rt:25:36
+shared-slice-read-t9 : tie.Need-shared-slice-read-t9
+shared-slice-read-t9 c = search needs
+
+-- src/lib.rt:17:1
+returns-2 : tie.Need-returns-2
+returns-2 c = supply-some (c .before .before .before .args .table .now) (c .before .before .before .args .n) (c .before .before .before .args .x .0) (c .before .if1 .left)
+
+pub supply-at-spec : {M : Type 1} → statement M
+supply-at-spec = tie.close (tie.spec cast-of returns add-t6 mul-t7 shared-slice-read-t9 returns-2)

@@ -1,0 +1,74 @@
+-- ADDING LETTERS to a table of chains: what one climb and one letter do to it, and what all letters make of it. Nothing here is of interest once the table
+-- is laid out.
+--
+--   Ready L n t u k     a climb from k can go all its way: its states have chains, and slots enough are free
+--   Climbs ..           what a climb does, a case for each way in which it goes on or ends
+--   Begun L n t u       letter t + 1 can be added
+--   Added ..            what adding it does, a case for state 0 and one for the others
+--   Blank L m           a word of m letters stands in row 0, and nothing elsewhere
+--   ChainsOf B m L u    L has the chains and supplies of the word that stands in B, in u slots
+use mathlib.Core.Path.{_≡_}
+use mathlib.Core.Option.{some}
+use mathlib.Core.List.{List, reverse}
+use Prim.Native.Nat.{ℕ, suc, _+_, _*_, _-_, _≤_, _<_}
+use lib.ListN.{length, set}
+use Rattle.words.specs.Lists.{at}
+use Rattle.words.specs.Words.{Letter, Word, part}
+use Rattle.words.specs.declared.Arrow.the-variants.{To, Missing}
+use Rattle.oracle.specs.Arrows.{State}
+use Rattle.oracle.specs.SuffixPath.{SuffixPath}
+use Rattle.oracle.specs.SuffixRule.{oracle}
+use Rattle.oracle.specs.Supply.{supply}
+use Rattle.oracle.specs.FileOrder.{extraTargets, targetsBefore}
+use Rattle.chains.specs.Chains.{Chain, Chained, Looks, pushed}
+
+pub record Ready (L : List ℕ) (n t u : ℕ) (k : State) : Type 0 where
+  pub chained : Chained L n
+  pub inside : suc t < n
+  pub below : k < t
+  pub down : (x : State) → x ≤ t → at L (n + x) ≤ x - 1
+  pub heads : (x : State) → x < n → at L (2 * n + x) ≤ u
+  pub path : List State
+  pub suffix : SuffixPath (λ x. at L (n + x)) k path
+  pub free : u + suc (length path) ≤ t
+
+-- from L with u slots used, at k, to L′ with u′ slots used, the new state's supply being y
+pub data Climbs (n t : ℕ) (c : Letter) : List ℕ → ℕ → State → List ℕ → ℕ → State → Type 0 where
+  finds : {L L′ : List ℕ} {u u′ : ℕ} {k y : State} → Looks L n t k c (To (record { 0 = y })) → L′ ≡ L → u′ ≡ u → Climbs n t c L u k L′ u′ y
+  runs-out : {L L′ : List ℕ} {u u′ : ℕ} {k y : State} → k ≡ 0 → y ≡ 0 → Looks L n t k c Missing → L′ ≡ pushed L n u k (suc t) → u′ ≡ suc u → Climbs n t c L u k L′ u′ y
+  goes-on : {L L′ : List ℕ} {u u′ : ℕ} {k y : State} → 0 < k → Looks L n t k c Missing → Climbs n t c (pushed L n u k (suc t)) (suc u) (at L (n + k)) L′ u′ y → Climbs n t c L u k L′ u′ y
+
+pub record Begun (L : List ℕ) (n t u : ℕ) : Type 0 where
+  pub chained : Chained L n
+  pub inside : suc t < n
+  pub down : (x : State) → x ≤ t → at L (n + x) ≤ x - 1
+  pub heads : (x : State) → x < n → at L (2 * n + x) ≤ u
+  pub letter : at L (suc t) < 256
+  pub path : List State
+  pub suffix : SuffixPath (λ x. at L (n + x)) t path
+  pub free : u + length path ≤ t
+
+pub data Added (n t : ℕ) (L : List ℕ) (u : ℕ) (L′ : List ℕ) (u′ : ℕ) : Type 0 where
+  first-letter : t ≡ 0 → L′ ≡ L → u′ ≡ u → Added n t L u L′ u′
+  later-letter : (L₁ : List ℕ) (y : State) → 0 < t → Climbs n t (at L (suc t)) L u (at L (n + t)) L₁ u′ y → L′ ≡ set L₁ (n + suc t) y → Added n t L u L′ u′
+
+pub record Blank (L : List ℕ) (m : ℕ) : Type 0 where
+  pub size : length L ≡ 6 * suc m
+  pub corner : at L 0 ≡ 0
+  pub letters : (i : ℕ) → i ≤ m → at L i < 256
+  pub empty : (i : ℕ) → m < i → at L i ≡ 0
+
+-- the word that stands in row 0
+abbrev pub wordIn : List ℕ → ℕ → Word
+wordIn B m = part B 1 m
+
+pub record ChainsOf (B : List ℕ) (m : ℕ) (L : List ℕ) (u : ℕ) : Type 0 where
+  pub chained : Chained L (suc m)
+  pub slots : u < suc m
+  pub heads : (x : State) → x < suc m → at L (2 * suc m + x) ≤ u
+  pub letters : (i : ℕ) → i < suc m → at L i ≡ at B i
+  pub no-supply : at L (suc m) ≡ 0
+  pub supplies : (x : State) → x < m → supply (wordIn B m) (suc x) ≡ some (at L (suc m + suc x))
+  pub targets : (x : State) → x < suc m → Chain L (suc m) (at L (2 * suc m + x)) (reverse (extraTargets (oracle (wordIn B m)) (wordIn B m) x))
+  pub counted : length (targetsBefore (oracle (wordIn B m)) (wordIn B m) (suc m)) ≡ u
+  pub unlaid : (i : ℕ) → i < suc m → at L (3 * suc m + i) ≡ 0

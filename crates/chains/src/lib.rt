@@ -1,0 +1,130 @@
+// The table of an oracle while letters are added: six rows of n entries, of which this room fills four. Row 0 holds the letters from the start, row 1 gets the
+// supplies, and each state's extra arrows are a chain of slots, newest first: row 2 has a state's first slot, row 4 the next slot, row 5 the target.
+// Serves the table's room, which lays the chains out.
+ghost use mathlib.Core.Path.{_≡_};
+ghost use Prim.Native.Nat.{_+_, _*_, _<_, _≤_};
+ghost use lib.ListN.{length};
+ghost use Rattle.words.specs.Answers.{arrowTo, supplyOf};
+ghost use Rattle.chains.specs.Chains.{supplyIn, Chained, Looks, pushed};
+ghost use Rattle.chains.specs.Letters.{Ready, Climbs, Begun, Added, Blank, ChainsOf};
+
+// How many slots are used, and the new state's supply.
+pub struct Climbed {
+    pub used: usize,
+    pub supply: words::State,
+}
+
+fn supply_at(table: &[u16], n: usize, x: words::State) -> words::Supply
+    requires { do ⌜ (x .0 < n) × (2 * n ≤ (← ⟦table.len()⟧)) ⌝ }
+    ensures { λ r. ⌜ r ≡ supplyOf (supplyIn (now (table .entry)) n (x .0)) ⌝ }
+{
+    let of = x.0 as usize;
+    if of == 0 {
+        return words::Supply::Without;
+    }
+    words::Supply::Of(words::State(table[n + of]))
+}
+
+// The arrow from x on c, over t letters.
+fn look(table: &[u16], n: usize, t: usize, x: words::State, c: words::Letter) -> words::Arrow
+    requires { ⌜ (n ≤ 65536) × (t < n) × (x .0 < n) ⌝ }
+    requires { ⌜ Chained (now table) n ⌝ }
+    ensures { λ r. ⌜ Looks (now (table .entry)) n t (x .0) (c .0) r ⌝ }
+{
+    let from = x.0 as usize;
+    let on = c.0 as u16;
+    if from >= t {
+        return words::Arrow::Missing;
+    }
+    if table[from + 1] == on {
+        return words::Arrow::To(words::State((from + 1) as u16));
+    }
+    let mut slot = table[2 * n + from] as usize;
+    while slot != 0 {
+        let y = table[5 * n + slot];
+        let at = y as usize;
+        if table[at] == on {
+            return words::Arrow::To(words::State(y));
+        }
+        slot = table[4 * n + slot] as usize;
+    }
+    words::Arrow::Missing
+}
+
+// An extra arrow from x to y, in the slot behind the used ones.
+fn push(table: &mut [u16], n: usize, used: usize, x: words::State, y: words::State)
+    requires { ⌜ n ≤ 65536 ⌝ }
+    requires { do ⌜ (used + 1 < n) × (x .0 < n) × (6 * n ≤ (← ⟦table.len()⟧)) ⌝ }
+    ensures { λ _. ⌜ now (table .exit) ≡ pushed (now (table .entry)) n used (x .0) (y .0) ⌝ }
+{
+    let from = x.0 as usize;
+    let first = table[2 * n + from];
+    let slot = used + 1;
+    table[5 * n + slot] = y.0;
+    table[4 * n + slot] = first;
+    table[2 * n + from] = slot as u16;
+}
+
+// From k down the suffix path, to the first state with an arrow on c or past its end: each state without one gets an arrow to t + 1.
+fn climb(
+    table: &mut [u16],
+    n: usize,
+    t: usize,
+    used: usize,
+    c: words::Letter,
+    k: words::State,
+) -> Climbed
+    requires { ⌜ n ≤ 65536 ⌝ }
+    requires { ⌜ Ready (now table) n t used (k .0) ⌝ }
+    ensures { λ r. ⌜ Climbs n t (c .0) (now (table .entry)) used (k .0) (now (table .exit)) (r .used) (r .supply .0) ⌝ }
+{
+    let found = look(table, n, t, k, c);
+    let words::Arrow::To(y) = found else {
+        let next = supply_at(table, n, k);
+        push(table, n, used, k, words::State((t + 1) as u16));
+        let words::Supply::Of(s) = next else {
+            return Climbed {
+                used: used + 1,
+                supply: words::State(0),
+            };
+        };
+        return climb(table, n, t, used + 1, c, s);
+    };
+    Climbed {
+        used: used,
+        supply: y,
+    }
+}
+
+// State t + 1, with the letter that stands in row 0.
+fn add_letter(table: &mut [u16], n: usize, t: usize, used: usize) -> usize
+    requires { ⌜ n ≤ 65536 ⌝ }
+    requires { ⌜ Begun (now table) n t used ⌝ }
+    ensures { λ r. ⌜ Added n t (now (table .entry)) used (now (table .exit)) r ⌝ }
+{
+    let supply = supply_at(table, n, words::State(t as u16));
+    let words::Supply::Of(k) = supply else {
+        return used;
+    };
+    let c = words::Letter((table[t + 1] % 256) as u8);
+    let climbed = climb(table, n, t, used, c, k);
+    let s = climbed.supply;
+    table[n + t + 1] = s.0;
+    climbed.used
+}
+
+// The chains and supplies of the word in row 0; the answer is how many slots are used.
+pub fn add_letters(table: &mut [u16], m: usize) -> usize
+    requires { ⌜ m < 65535 ⌝ }
+    requires { ⌜ Blank (now table) m ⌝ }
+    ensures { λ r. ⌜ ChainsOf (now (table .entry)) m (now (table .exit)) r ⌝ }
+{
+    let n = m + 1;
+    let mut t = 0;
+    let mut used = 0;
+    while t < m {
+        used = add_letter(table, n, t, used);
+        t += 1;
+    }
+    used
+}
