@@ -38,6 +38,21 @@ pub record Failed (s : Place) (k : ℕ) (f : Place) (read : ℕ) : Type 0 where
   pub counted : read + f ≡ s + k
 
 module _ (δ : Delta) (t : Word) (s : Place) where
+  -- no letter is left
+  pub read-done : (x : State) → readDown δ t s 0 x ≡ readAll
+  unfolding readDown
+  read-done x = refl
+
+  -- the first letter has no arrow
+  pub read-fails : (k : ℕ) (x : State) → δ x (letter t (s + k)) ≡ none → readDown δ t s (suc k) x ≡ failsAt (s + k)
+  unfolding readDown
+  read-fails k x e = rw (e, readDown)
+
+  -- it has one, along which the others are read
+  pub read-goes : (k : ℕ) (x y : State) → δ x (letter t (s + k)) ≡ some y → readDown δ t s (suc k) x ≡ oneMore (readDown δ t s k y)
+  unfolding readDown
+  read-goes k x y e = rw (e, readDown)
+
   -- what holds where no letter is left, where a letter fails, and of one more letter where it held, holds of every reading
   reading-induction
       : (P : ℕ → State → Reading → Type 0)
@@ -45,13 +60,12 @@ module _ (δ : Delta) (t : Word) (s : Place) where
       → ((k : ℕ) (x : State) → δ x (letter t (s + k)) ≡ none → P (suc k) x (failsAt (s + k)))
       → ((k : ℕ) (x y : State) (r : Reading) → δ x (letter t (s + k)) ≡ some y → P k y r → P (suc k) x (oneMore r))
       → (k : ℕ) (x : State) → P k x (readDown δ t s k x)
-  unfolding readDown
-  reading-induction P done fails goes zero x = done x
+  reading-induction P done fails goes zero x = rw (read-done x) (done x)
   reading-induction P done fails goes (suc k) x = by (δ x (letter t (s + k))) refl (λ y. reading-induction P done fails goes k y)
     where
       by : (o : Option State) → δ x (letter t (s + k)) ≡ o → ((y : State) → P k y (readDown δ t s k y)) → P (suc k) x (readDown δ t s (suc k) x)
-      by none e rec = rw (e, readDown) (fails k x e)
-      by (some y) e rec = rw (e, readDown) (goes k x y (readDown δ t s k y) e (rec y))
+      by none e rec = rw (read-fails k x e) (fails k x e)
+      by (some y) e rec = rw (read-goes k x y e) (goes k x y (readDown δ t s k y) e (rec y))
 
   -- the failing letter is one of the window's, and the letters read are those from it on: it counts one itself
   pub failed-place : (k : ℕ) (x : State) (f : Place) → readDown δ t s k x .failed ≡ some f → Failed s k f (readDown δ t s k x .letters)

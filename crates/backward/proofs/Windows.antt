@@ -62,17 +62,17 @@ module _ {w : Word} {δ : Delta} (W : Walker w δ) (t : Word) (s : Place) (insid
 
 module _ (δ : Delta) (w t : Word) where
   -- where the window behind the one at s starts
-  abbrev next : Place → Place
+  abbrev pub next : Place → Place
   next s = nextWindow w s (readDown δ t s (length w) 0 .failed)
 
   -- what the later windows say, with what the one at s adds
-  abbrev with-window : Place → Searched → Searched
+  abbrev pub with-window : Place → Searched → Searched
   with-window s later =
       let r = readDown δ t s (length w) 0 in
       record { starts = listed s (r .failed) (later .starts); letters = r .letters + later .letters }
 
   -- every window starts behind the one before
-  next-moves : (s : Place) → s < next s
+  pub next-moves : (s : Place) → s < next s
   next-moves s = by (readDown δ t s (length w) 0 .failed) refl
     where
       by : (o : Option Place) → readDown δ t s (length w) 0 .failed ≡ o → s < nextWindow w s o
@@ -80,13 +80,13 @@ module _ (δ : Delta) (w t : Word) where
       by (some f) e = let p = failed-place δ t s (length w) 0 f e in omega arith
 
   -- a window that ends behind the text is none
-  windows-past : (k : ℕ) (s : Place) → length t < s + length w → windows δ w t k s ≡ nothing
+  pub windows-past : (k : ℕ) (s : Place) → length t < s + length w → windows δ w t k s ≡ nothing
   unfolding windows
   windows-past zero s h = refl
   windows-past (suc k) s h = rw (lt-leb (s + length w) (length t) h)
 
   -- one that ends within the text is read
-  windows-one : (k : ℕ) (s : Place) → s + length w ≤ length t → windows δ w t (suc k) s ≡ with-window s (windows δ w t k (next s))
+  pub windows-one : (k : ℕ) (s : Place) → s + length w ≤ length t → windows δ w t (suc k) s ≡ with-window s (windows δ w t k (next s))
   unfolding windows
   windows-one k s h = rw (le-leb (s + length w) (length t) h)
 

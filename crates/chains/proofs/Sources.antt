@@ -3,7 +3,6 @@
 use mathlib.Core.Path.{_≡_, refl, sym, ap, _∙_}
 use mathlib.Core.Bool.{Bool, cond}
 use mathlib.Core.Logic.{inl, inr, _≢_}
-use mathlib.Core.Option.{Option, none, some}
 use mathlib.Core.List.{List, [], _∷_, List·Memᴰ, List·Memᴰ·head, List·Memᴰ·tail}
 use Prim.Native.Nat.{ℕ, zero, suc, _+_, _*_, _≤_, _<_}
 use native.Mathlib.Nat.{le-refl, zero-add}
@@ -14,9 +13,7 @@ use lib.Dec.{eqb}
 use borrow.Author.Tests.{eq-eqb, ne-eqb}
 use Rattle.words.specs.Lists.{at, first}
 use Rattle.words.specs.Words.{Letter}
-use Rattle.words.specs.Answers.{arrowTo}
-use Rattle.words.specs.declared.Arrow.{Arrow}
-use Rattle.words.specs.declared.Arrow.the-variants.{To, Missing}
+use Rattle.words.proofs.Answers.{arrow-told, arrow-untold}
 use Rattle.oracle.specs.Arrows.{State, Delta}
 use Rattle.oracle.proofs.Grow.{Climb, stop, out, go}
 use Rattle.chains.specs.Chains.{Chain, ends, links, Chained, lookIn, pushed}
@@ -98,20 +95,6 @@ look-same : (a b : State → Letter) {n : ℕ} (t : ℕ) (l : List State) (x : S
 unfolding lookIn
 look-same a b t l x c same h inside = rw (same (suc x) h, first-same (λ y. eqb (a y) c) (λ y. eqb (b y) c) l (λ y m. ap (λ d. eqb d c) (same y (inside y m))))
 
--- the state of an answer
-answered : Arrow → State
-answered (To y) = y .0
-answered Missing = 0
-
-arrow-some : (o : Option State) (y : State) → To (record { 0 = y }) ≡ arrowTo o → o ≡ some y
-unfolding answered
-arrow-some none y e = let z : _≡_ {A = ℕ} 0 1 = cc in absurd (omega arith)
-arrow-some (some z) y e = ap {B = Option State} some (sym (ap answered e))
-
-arrow-none : (o : Option State) → Missing ≡ arrowTo o → o ≡ none
-arrow-none none e = refl
-arrow-none (some z) e = let q : _≡_ {A = ℕ} 0 1 = cc in absurd (omega arith)
-
 -- ── Climbs ─────────────────────────────────────────────────────────────────
 
 -- two automata and supplies that agree up to k have the same climb from k
@@ -182,7 +165,7 @@ module _ (a : State → Letter) {n t : ℕ} {c : Letter} where
   climbed {L} {u = u} {T = T} {k = k} {y = y} (finds s e q) R H same = rw (e, q) (record {
     xs = [];
     T′ = T;
-    climb = stop (sym (look-held a t c H same (omega (arith, R .below, R .inside))) ∙ arrow-some _ y (s .says (T k) (H .chain k (ready-state R))));
+    climb = stop (sym (look-held a t c H same (omega (arith, R .below, R .inside))) ∙ arrow-told _ _ (record { 0 = y }) (s .says (T k) (H .chain k (ready-state R))) refl);
     news = λ x. inr (λ m. elim m [ ], refl);
     low = λ x m. absurd (elim m [ ]);
     held = H;
@@ -194,7 +177,7 @@ module _ (a : State → Letter) {n t : ℕ} {c : Letter} where
   climbed {L} {u = u} {T = T} {k = k} {y = y} (runs-out z q s e f) R H same = rw (e, f) (record {
     xs = k ∷ [];
     T′ = put T k (suc t);
-    climb = out z q (sym (look-held a t c H same (omega (arith, R .below, R .inside))) ∙ arrow-none _ (s .says (T k) (H .chain k (ready-state R))));
+    climb = out z q (sym (look-held a t c H same (omega (arith, R .below, R .inside))) ∙ arrow-untold _ _ (s .says (T k) (H .chain k (ready-state R))) refl);
     news = news₁ R H;
     low = λ x m. one x m;
     held = held₁ R H;
@@ -220,7 +203,7 @@ module _ (a : State → Letter) {n t : ℕ} {c : Letter} where
       join I = record {
         xs = k ∷ I .xs;
         T′ = I .T′;
-        climb = go p (sym (look-held a t c H same (omega (arith, R .below, R .inside))) ∙ arrow-none _ (s .says (T k) (H .chain k (ready-state R)))) inner;
+        climb = go p (sym (look-held a t c H same (omega (arith, R .below, R .inside))) ∙ arrow-untold _ _ (s .says (T k) (H .chain k (ready-state R))) refl) inner;
         news = λ x. news x (ℕ-discrete x k) (I .news x);
         low = low;
         held = I .held;

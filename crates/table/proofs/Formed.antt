@@ -11,13 +11,13 @@ use native.Mathlib.Omega.{arith}
 use lib.ListN.{length, length-append, List·getD-append}
 use lib.Dec.{eqb}
 use borrow.Author.Tests.{eq-eqb, ne-eqb, lt-ltb, le-ltb}
-use Rattle.words.specs.Lists.{first}
+use Rattle.words.specs.Lists.{at, first}
 use Rattle.words.specs.Words.{Letter, Word, part}
 use Rattle.words.proofs.Lists.{first-yes, first-not}
 use Rattle.words.proofs.Words.{part-cons}
 use Rattle.oracle.specs.Arrows.{State, Delta}
 use Rattle.oracle.proofs.FileOrder.{before-room, before-at}
-use Rattle.table.specs.Table.{at, tableFrom, tableOf, readTargets, readArrow}
+use Rattle.table.specs.Table.{tableFrom, tableOf, readTargets, readArrow}
 use Rattle.table.specs.Formed.{Formed}
 use Rattle.table.proofs.Rows.{from-size, row-2, row-3}
 use Rattle.table.proofs.ReadBack.{Over}
@@ -47,6 +47,10 @@ table-formed p few = from-formed p _ (oracle-over p) few
 -- of k slots from place a on, the first whose target has letter c
 abbrev pub firstOf : List ℕ → Letter → ℕ → ℕ → Option State
 firstOf L c a k = first (λ y. eqb (at L y) c) (part L a k)
+
+-- the slots of a state end inside row 3
+pub slots-inside : {L : List ℕ} {m : ℕ} → Formed L m → (x : State) → x < m → at L (2 * (m + 1) + x + 1) ≤ m + 1
+slots-inside {L} {m} F x h = let e : 2 * (m + 1) + (x + 1) ≡ 2 * (m + 1) + x + 1 = omega arith in rw e at (F .starts (x + 1) (omega arith))
 
 module _ (L : List ℕ) (m : ℕ) (x : State) (c : Letter) where
   -- no arrow leaves the last state, or what is no state
@@ -137,6 +141,5 @@ module _ (A R : List ℕ) (m : ℕ) (F : Formed A m) where
       by (yes h) (no f) =
           let here : at (A ++ R) (2 * (m + 1) + x) ≡ start = at-more (2 * (m + 1) + x) (omega arith) in
           let there : at (A ++ R) (2 * (m + 1) + x + 1) ≡ end = at-more (2 * (m + 1) + x + 1) (omega arith) in
-          let next : 2 * (m + 1) + (x + 1) ≡ 2 * (m + 1) + x + 1 = omega arith in
-          let within : end ≤ m + 1 = rw next at (F .starts (x + 1) (omega arith)) in
-          arrow-slots (A ++ R) m x c h (λ e. f (sym (spine h) ∙ e)) ∙ rw (here, there) (slots within (decLt start end)) ∙ sym (arrow-slots A m x c h f)
+          let same = slots (slots-inside F x h) (decLt start end) in
+          arrow-slots (A ++ R) m x c h (λ e. f (sym (spine h) ∙ e)) ∙ rw (here, there) same ∙ sym (arrow-slots A m x c h f)

@@ -3,3 +3,9 @@ pub mod ReadBack
 pub mod Theorems
 pub mod Freedom
 pub mod Formed
+pub mod Copying
+pub mod Unchaining
+pub mod Laying
+pub mod Filling
+pub mod Finishing
+pub mod Seeking

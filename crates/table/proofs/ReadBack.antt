@@ -11,7 +11,7 @@ use lib.ListN.{length, List·getD-append}
 use lib.Seq.{getD-append-add, take-append-seam, ext-getD}
 use lib.Dec.{eqb}
 use borrow.Author.Tests.{eqb-true, eq-eqb, ne-eqb, lt-ltb, le-ltb, le-leb}
-use Rattle.words.specs.Lists.{first}
+use Rattle.words.specs.Lists.{at, first}
 use Rattle.words.specs.Words.{Letter, Word, letter, part}
 use Rattle.words.proofs.Lists.{first-none, first-only}
 use Rattle.words.proofs.Words.{part-length, part-at}
@@ -19,7 +19,7 @@ use Rattle.oracle.specs.Arrows.{State, Delta}
 use Rattle.oracle.specs.FileOrder.{extraTargets, targetsBefore}
 use Rattle.oracle.proofs.Targets.{never}
 use Rattle.oracle.proofs.FileOrder.{extra-target, target-extra, before-length, before-grows, before-room}
-use Rattle.table.specs.Table.{at, tableFrom, readWord, readTargets, readArrow, readSupply}
+use Rattle.table.specs.Table.{tableFrom, readWord, readTargets, readArrow, readSupply}
 use Rattle.table.proofs.Rows.{from-size, row-0, row-1, row-2, row-3}
 
 -- ── The word and the supplies ──────────────────────────────────────────────
@@ -41,6 +41,14 @@ unfolding readSupply
 reads-no-supply m L = refl
 
 -- ── The arrows ─────────────────────────────────────────────────────────────
+
+-- among the extra targets of all states, where those of one state stand
+pub own-targets : (p : Word) (δ : Delta) (x n : State) → x < n → (i : ℕ) → i < length (extraTargets δ p x)
+    → at (targetsBefore δ p n) (length (targetsBefore δ p x) + i) ≡ at (extraTargets δ p x) i
+own-targets p δ x n h i l =
+    let r = before-grows δ p x n h in
+    let own = extraTargets δ p x in
+    rw (r .1) (getD-append-add (targetsBefore δ p x) (own ++ r .0) i 0 ∙ List·getD-append own (r .0) 0 i l)
 
 -- δ has the word's spine, its arrows climb and carry their target's letter, and its extra targets fit into a row
 pub record Over (p : Word) (δ : Delta) : Type 0 where
@@ -84,14 +92,11 @@ module _ (p : Word) {δ : Delta} (O : Over p δ) (S : State → State) where
       size : length slots ≡ length own
       size = part-length L (3 * n + length before) (length own) (omega (arith, inside, from-size p δ S))
 
-      listed : (i : ℕ) → i < length own → at (targetsBefore δ p n) (length before + i) ≡ at own i
-      listed i l = let r = before-grows δ p x n (omega arith) in rw (r .1) (getD-append-add before (own ++ r .0) i 0 ∙ List·getD-append own (r .0) 0 i l)
-
       entry : (i : ℕ) → i < length slots → at slots i ≡ at own i
       entry i g =
           let l : i < length own = rw size at g in
           let e : 3 * n + length before + i ≡ 3 * n + (length before + i) = omega arith in
-          part-at L (3 * n + length before) (length own) i l ∙ ap (at L) e ∙ row-3 p δ S (length before + i) (omega (arith, inside)) ∙ listed i l
+          part-at L (3 * n + length before) (length own) i l ∙ ap (at L) e ∙ row-3 p δ S (length before + i) (omega (arith, inside)) ∙ own-targets p δ x n (omega arith) i l
 
   letter-at : (z : State) → z < m → at L (suc z) ≡ letter p z
   letter-at z h = row-0 p δ S (suc z) (omega arith)

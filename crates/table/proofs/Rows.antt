@@ -1,37 +1,38 @@
 -- THE ENTRIES OF A TABLE, row by row: what `tableFrom p δ S` holds at each place. A list of the same size with the same entries is the same table, and
 -- where letters, supplies and targets are small, so is every entry.
 use mathlib.Core.Path.{_≡_, refl, sym, ap, _∙_}
-use mathlib.Core.List.{List, _∷_, _++_, map}
+use mathlib.Core.List.{List, [], _∷_, _++_, map}
 use Prim.Native.Nat.{ℕ, zero, suc, _+_, _*_, _-_, _≤_, _<_}
 use native.Mathlib.Nat.{zero-add, add-zero}
 use native.Mathlib.Numerals.{one-add}
 use native.Mathlib.Decide.{decLt, ℕ-discrete}
 use native.Mathlib.Omega.{arith}
-use lib.ListN.{length, getD, take, replicate, length-append, length-map, length-take, length-replicate, getD-replicate, List·getD-append, List·getD-eq-default}
+use lib.ListN.{length, getD, take, replicate, length-append, length-map, length-take, length-replicate, List·getD-append, List·getD-eq-default}
 use lib.Seq.{getD-append-add, getD-take, ext-getD}
-use Rattle.words.specs.Lists.{from}
+use Rattle.words.specs.Lists.{at, from}
 use Rattle.words.specs.Words.{Word, letter}
 use Rattle.words.proofs.Lists.{from-length, map-from-at}
 use Rattle.oracle.specs.Arrows.{State, Delta}
 use Rattle.oracle.specs.FileOrder.{targetsBefore}
 use Rattle.oracle.proofs.FileOrder.{before-room, before-at}
-use Rattle.table.specs.Table.{at, room, tableFrom}
+use Rattle.table.specs.Table.{room, tableFrom}
 
 -- ── Lists one behind the other ─────────────────────────────────────────────
 
 behind : (a b : List ℕ) (n i : ℕ) → length a ≡ n → getD (a ++ b) (n + i) 0 ≡ getD b i 0
 behind a b n i e = rw (← e) (getD-append-add a b i 0)
 
+-- a list of zeros has no other entry
+pub zeros-at : (n i : ℕ) → at (replicate n 0) i ≡ 0
+zeros-at zero i = refl
+zeros-at (suc n) zero = refl
+zeros-at (suc n) (suc i) = zeros-at n i
+
 -- zeros behind a list change no entry: what is not there is looked up as 0
-padded : (l : List ℕ) (n i : ℕ) → i < n → getD (l ++ replicate n 0) i 0 ≡ getD l i 0
-padded l n i h = by (decLt i (length l))
-  where
-    by : Dec (i < length l) → getD (l ++ replicate n 0) i 0 ≡ getD l i 0
-    by (yes b) = List·getD-append l (replicate n 0) 0 i b
-    by (no b) =
-        let e : length l + (i - length l) ≡ i = omega arith in
-        let past : getD (l ++ replicate n 0) i 0 ≡ getD (replicate n 0) (i - length l) 0 = rw e at (getD-append-add l (replicate n 0) (i - length l) 0) in
-        past ∙ getD-replicate n (i - length l) 0 0 (omega arith) ∙ sym (List·getD-eq-default l 0 (omega arith))
+pub padded : (l : List ℕ) (n i : ℕ) → getD (l ++ replicate n 0) i 0 ≡ getD l i 0
+padded [] n i = zeros-at n i
+padded (a ∷ l) n zero = refl
+padded (a ∷ l) n (suc i) = padded l n i
 
 -- ── The entries of a table ─────────────────────────────────────────────────
 
@@ -108,14 +109,14 @@ module _ (p : Word) (δ : Delta) (S : State → State) where
   pub row-3 : (i : ℕ) → i < n → at L (3 * n + i) ≡ getD (targetsBefore δ p n) i 0
   row-3 i h =
       let e : 3 * n + i ≡ n + (n + (n + i)) = omega arith in
-      let value = getD-take n (targetsBefore δ p n ++ replicate n 0) i 0 h ∙ padded (targetsBefore δ p n) n i h in
+      let value = getD-take n (targetsBefore δ p n ++ replicate n 0) i 0 h ∙ padded (targetsBefore δ p n) n i in
       rw e (behind-2 i ∙ List·getD-append targetRow _ 0 i (omega (arith, target-row)) ∙ value)
 
   -- zeros
   pub row-4 : (i : ℕ) → i < 2 * n → at L (4 * n + i) ≡ 0
   row-4 i h =
       let e : 4 * n + i ≡ n + (n + (n + (n + i))) = omega arith in
-      rw e (behind-2 (n + i) ∙ behind targetRow _ n i target-row ∙ getD-replicate (2 * n) i 0 0 h)
+      rw e (behind-2 (n + i) ∙ behind targetRow _ n i target-row ∙ zeros-at (2 * n) i)
 
   -- ── All entries ──────────────────────────────────────────────────────────
 

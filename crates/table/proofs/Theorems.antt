@@ -5,6 +5,7 @@ use mathlib.Core.Option.{some, Option·getD}
 use Prim.Native.Nat.{ℕ, zero, suc, _≤_, _<_}
 use native.Mathlib.Omega.{arith}
 use lib.ListN.{length}
+use Rattle.words.specs.Lists.{at}
 use Rattle.words.specs.Words.{Letter, Word, letter}
 use Rattle.oracle.specs.Arrows.{State}
 use Rattle.oracle.specs.SuffixRule.{oracle}
@@ -15,7 +16,7 @@ use Rattle.oracle.proofs.Chain.{Supplied, on-below}
 use Rattle.oracle.proofs.LetterRule.{supplies}
 use Rattle.oracle.proofs.FileOrder.{oracle-extras-fit}
 use Rattle.oracle.proofs.Theorems.{oracle-supplied, supply-lower, no-supply}
-use Rattle.table.specs.Table.{at, room, tableOf, readWord, readTargets, readArrow, readSupply}
+use Rattle.table.specs.Table.{room, tableOf, readWord, readTargets, readArrow, readSupply}
 use Rattle.table.proofs.Rows.{from-size, from-small}
 use Rattle.table.proofs.ReadBack.{Over, reads-word, reads-supply, reads-no-supply, reads-targets, reads-arrow}
 

@@ -5,8 +5,9 @@
 use mathlib.Core.List.{List}
 use Prim.Native.Nat.{ℕ, _+_, _*_, _≤_, _<_}
 use lib.ListN.{length}
+use Rattle.words.specs.Lists.{at}
 use Rattle.oracle.specs.Arrows.{State}
-use Rattle.table.specs.Table.{at, room}
+use Rattle.table.specs.Table.{room}
 
 pub record Formed (L : List ℕ) (m : ℕ) : Type 0 where
   pub enough : room m ≤ length L

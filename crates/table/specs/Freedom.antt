@@ -10,9 +10,10 @@ use mathlib.Core.Option.{none, some}
 use mathlib.Core.List.{List, _++_, List·Memᴰ}
 use Prim.Native.Nat.{ℕ, pred, _+_, _-_, _≤_, _<_}
 use lib.ListN.{length}
+use Rattle.words.specs.Lists.{at}
 use Rattle.words.specs.Words.{Letter, Word, letter}
 use Rattle.oracle.specs.Arrows.{State, Arrow, target, spine, OneEach}
-use Rattle.table.specs.Table.{at, room, readWord, readArrow, readSupply}
+use Rattle.table.specs.Table.{room, readWord, readArrow, readSupply}
 
 -- an extra arrow carries its target's letter
 pub record ExtraSet (p : Word) (E : List Arrow) : Type 0 where

@@ -1,3 +1,4 @@
 pub mod Table
 pub mod Freedom
 pub mod Formed
+pub mod Layout

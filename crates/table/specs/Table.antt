@@ -7,7 +7,6 @@
 --   row 3, entry s    the targets of all extra arrows, in the file's order
 --   rows 4 and 5      zero, and so is every entry that is not named here
 --
---   at L i               entry i
 --   room m               how many entries
 --   tableFrom p δ S      the table of the arrows δ and the supplies S over p
 --   tableOf p            the table of a word: the suffix rule's arrows, 001's supplies
@@ -21,17 +20,14 @@ use mathlib.Core.Bool.{cond}
 use mathlib.Core.Option.{Option, none, some, Option·getD}
 use mathlib.Core.List.{List, _∷_, _++_, map}
 use Prim.Native.Nat.{ℕ, suc, _+_, _*_, _-_}
-use lib.ListN.{length, getD, take, replicate}
+use lib.ListN.{length, take, replicate}
 use lib.Dec.{eqb, ltb, leb}
-use Rattle.words.specs.Lists.{from, first}
+use Rattle.words.specs.Lists.{at, from, first}
 use Rattle.words.specs.Words.{Word, part}
 use Rattle.oracle.specs.Arrows.{State, Delta}
 use Rattle.oracle.specs.SuffixRule.{oracle}
 use Rattle.oracle.specs.Supply.{supply}
 use Rattle.oracle.specs.FileOrder.{targetsBefore}
-
-abbrev pub at : List ℕ → ℕ → ℕ
-at L i = getD L i 0
 
 abbrev pub room : ℕ → ℕ
 room m = 6 * (m + 1)

@@ -35,7 +35,9 @@ climb-look-requires : (t : ℕ) → climb-lts.Need-look-requires (
   climb-below t,
   climb.Post,
 ) (climb-at t) climb.Post
-climb-look-requires t c κs = let R = c .before .before .pre .1 .1 in ((c .before .before .pre .1 .0, omega (arith, R .inside), ready-state R), R .chained)
+climb-look-requires t c κs =
+    let at-start = c .before .before in
+    let R = at-start .pre .1 .1 in ((at-start .pre .1 .0, omega (arith, R .inside), ready-state R), R .chained)
 
 -- src/lib.rt:82:26
 climb-enum-known-found : (t : ℕ) → climb-lts.Need-enum-known-found (
@@ -74,7 +76,9 @@ climb-supply-at-requires : (t : ℕ) → climb-lts.Need-supply-at-requires (
   climb-below t,
   climb.Post,
 ) (climb-at t) climb.Post
-climb-supply-at-requires t c κs = let R = c .before .before .before .before .before .before .pre .1 .1 in (ready-state R, omega (arith, R .chained .size))
+climb-supply-at-requires t c κs =
+    let at-start = c .before .before .before .before .before .before in
+    let R = at-start .pre .1 .1 in (ready-state R, omega (arith, R .chained .size))
 
 -- src/lib.rt:84:47
 climb-add-t18 : (t : ℕ) → climb-lts.Need-add-t18 (
@@ -113,7 +117,9 @@ climb-push-requires : (t : ℕ) → climb-lts.Need-push-requires (
   climb-below t,
   climb.Post,
 ) (climb-at t) climb.Post
-climb-push-requires t c κs = let R = c .before .before .before .before .before .before .before .before .pre .1 .1 in (c .before .before .before .before .before .before .before .before .pre .1 .0, (omega (arith, ready-slot R), ready-state R, omega (arith, R .chained .size)))
+climb-push-requires t c κs =
+    let at-start = c .before .before .before .before .before .before .before .before in
+    let R = at-start .pre .1 .1 in (at-start .pre .1 .0, (omega (arith, ready-slot R), ready-state R, omega (arith, R .chained .size)))
 
 -- src/lib.rt:85:31
 climb-enum-known-next : (t : ℕ) → climb-lts.Need-enum-known-next (
@@ -165,7 +171,9 @@ climb-same-length : (t : ℕ) → climb-lts.Need-same-length (
   climb-below t,
   climb.Post,
 ) (climb-at t) climb.Post
-climb-same-length t c = c .before .before .before .before .push .kept .0
+climb-same-length t c =
+    let at-push = c .before .before .before .before in
+    at-push .push .kept .0
 
 -- src/lib.rt:86:13
 climb-returns : (t : ℕ) → climb-lts.Need-returns (
@@ -178,7 +186,13 @@ climb-returns : (t : ℕ) → climb-lts.Need-returns (
   climb-below t,
   climb.Post,
 ) (climb-at t) climb.Post
-climb-returns t c = climb-out (c .before .before .before .before .push .ensures) (supply-untold (c .before .before .before .before .before .before .before .before .before .before .before .before .before .args .table .now) (c .before .before .before .before .before .before .before .before .before .before .before .before .before .args .n) (c .before .before .before .before .before .before .before .before .before .before .before .before .before .args .k .0) _ (c .before .before .before .before .before .before .supply-at .ensures) (c .enum-told2 .given .1)) (rw (c .before .before .before .before .before .before .before .before .enum-told .given .1) at (c .before .before .before .before .before .before .before .before .before .before .look .ensures))
+climb-returns t c =
+    let at-push = c .before .before .before .before in
+    let at-supply-at = at-push .before .before in
+    let at-enum-told = at-supply-at .before .before in
+    let at-look = at-enum-told .before .before in
+    let at-start = at-look .before .before .before in
+    climb-out (at-push .push .ensures) (supply-untold (at-start .args .table .now) (at-start .args .n) (at-start .args .k .0) _ (at-supply-at .supply-at .ensures) (c .enum-told2 .given .1)) (rw (at-enum-told .enum-told .given .1) at (at-look .look .ensures))
 
 -- src/lib.rt:91:35
 climb-add-climb : (t : ℕ) → climb-lts.Need-add-climb (
@@ -204,7 +218,12 @@ climb-climb-requires : (t : ℕ) → climb-lts.Need-climb-requires (
   climb-below t,
   climb.Post,
 ) (climb-at t) climb.Post
-climb-climb-requires t c κs = let R = c .before .before .before .before .before .before .before .before .before .before .before .before .before .before .before .pre .1 .1 in let s = supply-told (c .before .before .before .before .before .before .before .before .before .before .before .before .before .before .before .args .table .now) (c .before .before .before .before .before .before .before .before .before .before .before .before .before .before .before .args .n) (c .before .before .before .before .before .before .before .before .before .before .before .before .before .before .before .args .k .0) _ (c .before .before .before .before .before .before .before .before .supply-at .ensures) _ (c .before .before .next .given .1) in (omega (arith, c .before .before .before .before .before .before .before .before .before .before .before .before .before .before .before .pre .0, s .0, s .1, R .down (c .before .before .before .before .before .before .before .before .before .before .before .before .before .before .before .args .k .0) (omega (arith, R .below))), (c .before .before .before .before .before .before .before .before .before .before .before .before .before .before .before .pre .1 .0, ready-again (c .before .before .before .before .before .before .push .ensures) R (s .0) (s .1)))
+climb-climb-requires t c κs =
+    let at-next = c .before .before in
+    let at-push = at-next .before .before .before .before in
+    let at-supply-at = at-push .before .before in
+    let at-start = at-supply-at .before .before .before .before .before .before .before in
+    let R = at-start .pre .1 .1 in let s = supply-told (at-start .args .table .now) (at-start .args .n) (at-start .args .k .0) _ (at-supply-at .supply-at .ensures) _ (at-next .next .given .1) in (omega (arith, at-start .pre .0, s .0, s .1, R .down (at-start .args .k .0) (omega (arith, R .below))), (at-start .pre .1 .0, ready-again (at-push .push .ensures) R (s .0) (s .1)))
 
 -- src/lib.rt:91:9
 climb-same-length-2 : (t : ℕ) → climb-lts.Need-same-length-2 (
@@ -217,7 +236,10 @@ climb-same-length-2 : (t : ℕ) → climb-lts.Need-same-length-2 (
   climb-below t,
   climb.Post,
 ) (climb-at t) climb.Post
-climb-same-length-2 t c = c .before .before .climb .kept .0 ∙ c .before .before .before .before .before .before .before .before .before .push .kept .0
+climb-same-length-2 t c =
+    let at-climb = c .before .before in
+    let at-push = at-climb .before .before .before .before .before .before .before in
+    at-climb .climb .kept .0 ∙ at-push .push .kept .0
 
 -- src/lib.rt:91:9
 climb-returns-2 : (t : ℕ) → climb-lts.Need-returns-2 (
@@ -230,7 +252,15 @@ climb-returns-2 : (t : ℕ) → climb-lts.Need-returns-2 (
   climb-below t,
   climb.Post,
 ) (climb-at t) climb.Post
-climb-returns-2 t c = let s = supply-told (c .before .before .before .before .before .before .before .before .before .before .before .before .before .before .before .before .before .before .args .table .now) (c .before .before .before .before .before .before .before .before .before .before .before .before .before .before .before .before .before .before .args .n) (c .before .before .before .before .before .before .before .before .before .before .before .before .before .before .before .before .before .before .args .k .0) _ (c .before .before .before .before .before .before .before .before .before .before .before .supply-at .ensures) _ (c .before .before .before .before .before .next .given .1) in climb-again (c .before .before .before .before .before .before .before .before .before .push .ensures) (s .0) (s .1) (rw (c .before .before .before .before .before .before .before .before .before .before .before .before .before .enum-told .given .1) at (c .before .before .before .before .before .before .before .before .before .before .before .before .before .before .before .look .ensures)) (c .before .before .climb .ensures)
+climb-returns-2 t c =
+    let at-climb = c .before .before in
+    let at-next = at-climb .before .before .before in
+    let at-push = at-next .before .before .before .before in
+    let at-supply-at = at-push .before .before in
+    let at-enum-told = at-supply-at .before .before in
+    let at-look = at-enum-told .before .before in
+    let at-start = at-look .before .before .before in
+    let s = supply-told (at-start .args .table .now) (at-start .args .n) (at-start .args .k .0) _ (at-supply-at .supply-at .ensures) _ (at-next .next .given .1) in climb-again (at-push .push .ensures) (s .0) (s .1) (rw (at-enum-told .enum-told .given .1) at (at-look .look .ensures)) (at-climb .climb .ensures)
 
 -- src/lib.rt:69:1
 climb-same-length-3 : (t : ℕ) → climb-lts.Need-same-length-3 (
@@ -256,7 +286,10 @@ climb-returns-3 : (t : ℕ) → climb-lts.Need-returns-3 (
   climb-below t,
   climb.Post,
 ) (climb-at t) climb.Post
-climb-returns-3 t c = finds (rw (c .before .found .given .1) at (c .before .before .before .look .ensures)) refl refl
+climb-returns-3 t c =
+    let at-found = c .before in
+    let at-look = at-found .before .before in
+    finds (rw (at-found .found .given .1) at (at-look .look .ensures)) refl refl
 
 pub +climb-spec : {M : Type 1} → statement M
 +climb-spec = close μ-climb λ t. climb-lts.spec (

@@ -31,7 +31,10 @@ same-length c = search needs
 
 -- src/lib.rt:107:9
 returns : tie.Need-returns
-returns c = first-letter (supply-untold (c .before .before .before .before .before .args .table .now) (c .before .before .before .before .before .args .n) (c .before .before .before .before .before .args .t) _ (c .before .before .supply-at .ensures) (c .enum-told .given .1)) refl refl
+returns c =
+    let at-supply-at = c .before .before in
+    let at-start = at-supply-at .before .before .before in
+    first-letter (supply-untold (at-start .args .table .now) (at-start .args .n) (at-start .args .t) _ (at-supply-at .supply-at .ensures) (c .enum-told .given .1)) refl refl
 
 -- src/lib.rt:109:34
 add-t14 : tie.Need-add-t14
@@ -51,7 +54,11 @@ cast-t18 c = search needs
 
 -- src/lib.rt:110:9
 climb-requires : tie.Need-climb-requires
-climb-requires c κs = let s = supply-told (c .before .before .before .before .before .before .before .before .args .table .now) (c .before .before .before .before .before .before .before .before .args .n) (c .before .before .before .before .before .before .before .before .args .t) _ (c .before .before .before .before .before .supply-at .ensures) _ (c .before .before .before .supply .given .1) in (c .before .before .before .before .before .before .before .before .pre .0, begun-ready (c .before .before .before .before .before .before .before .before .pre .1) (s .0) (s .1))
+climb-requires c κs =
+    let at-supply = c .before .before .before in
+    let at-supply-at = at-supply .before .before in
+    let at-start = at-supply-at .before .before .before in
+    let s = supply-told (at-start .args .table .now) (at-start .args .n) (at-start .args .t) _ (at-supply-at .supply-at .ensures) _ (at-supply .supply .given .1) in (at-start .pre .0, begun-ready (at-start .pre .1) (s .0) (s .1))
 
 -- src/lib.rt:112:11
 add-table : tie.Need-add-table
@@ -75,7 +82,12 @@ same-length-2 c = search needs
 
 -- src/lib.rt:100:1
 returns-2 : tie.Need-returns-2
-returns-2 c = let s = supply-told (c .before .before .before .before .before .before .before .before .before .before .before .before .args .table .now) (c .before .before .before .before .before .before .before .before .before .before .before .before .args .n) (c .before .before .before .before .before .before .before .before .before .before .before .before .args .t) _ (c .before .before .before .before .before .before .before .before .before .supply-at .ensures) _ (c .before .before .before .before .before .before .before .supply .given .1) in letter-added (c .before .before .before .before .before .before .before .before .before .before .before .before .pre .1) (s .0) (s .1) (c .before .before .before .climb .ensures)
+returns-2 c =
+    let at-climb = c .before .before .before in
+    let at-supply = at-climb .before .before .before .before in
+    let at-supply-at = at-supply .before .before in
+    let at-start = at-supply-at .before .before .before in
+    let s = supply-told (at-start .args .table .now) (at-start .args .n) (at-start .args .t) _ (at-supply-at .supply-at .ensures) _ (at-supply .supply .given .1) in letter-added (at-start .pre .1) (s .0) (s .1) (at-climb .climb .ensures)
 
 pub add-letter-spec : {M : Type 1} → statement M
 add-letter-spec =

@@ -21,11 +21,17 @@ add-n c = search needs
 
 -- src/lib.rt:125:5
 loop-holds : tie.Need-loop-holds Inv-loop μ-loop
-loop-holds c = grown-start (c .before .pre .1)
+loop-holds c =
+    let at-start = c .before in
+    grown-start (at-start .pre .1)
 
 -- src/lib.rt:126:9
 add-letter-requires : tie.Need-add-letter-requires Inv-loop μ-loop
-add-letter-requires c κs = (omega (arith, c .before .before .before .before .pre .0), code-begun (c .before .before .before .before .pre .1) (c .before .before .loop .inv) (c .before .loop-test .taken))
+add-letter-requires c κs =
+    let at-loop-test = c .before in
+    let at-loop = at-loop-test .before in
+    let at-start = at-loop .before .before in
+    (omega (arith, at-start .pre .0), code-begun (at-start .pre .1) (at-loop .loop .inv) (at-loop-test .loop-test .taken))
 
 -- src/lib.rt:127:9
 add-t : tie.Need-add-t Inv-loop μ-loop
@@ -37,15 +43,26 @@ loop-less c = search needs
 
 -- src/lib.rt:125:5
 loop-again : tie.Need-loop-again Inv-loop μ-loop
-loop-again c = code-letter (c .before .before .before .before .before .before .before .pre .1) (c .before .before .before .before .before .loop .inv) (c .before .before .before .before .loop-test .taken) (c .before .before .add-letter .ensures)
+loop-again c =
+    let at-add-letter = c .before .before in
+    let at-loop-test = at-add-letter .before .before in
+    let at-loop = at-loop-test .before in
+    let at-start = at-loop .before .before in
+    code-letter (at-start .pre .1) (at-loop .loop .inv) (at-loop-test .loop-test .taken) (at-add-letter .add-letter .ensures)
 
 -- src/lib.rt:117:1
 same-length : tie.Need-same-length Inv-loop μ-loop
-same-length c = c .before .loop .inv .held .size ∙ sym (c .before .before .before .pre .1 .size)
+same-length c =
+    let at-loop = c .before in
+    let at-start = at-loop .before .before in
+    at-loop .loop .inv .held .size ∙ sym (at-start .pre .1 .size)
 
 -- src/lib.rt:117:1
 returns : tie.Need-returns Inv-loop μ-loop
-returns c = code-end (c .before .before .before .pre .1) (c .before .loop .inv) (c .loop-test .left)
+returns c =
+    let at-loop = c .before in
+    let at-start = at-loop .before .before in
+    code-end (at-start .pre .1) (at-loop .loop .inv) (c .loop-test .left)
 
 pub add-letters-spec : {M : Type 1} → statement M
 add-letters-spec =

@@ -47,7 +47,9 @@ cast-t17 c = search needs
 
 -- src/lib.rt:40:9
 returns-2 : tie.Need-returns-2 Inv-loop μ-loop
-returns-2 c = looks-spine (c .before .before .if1 .left) (c .if2 .taken)
+returns-2 c =
+    let at-if1 = c .before .before in
+    looks-spine (at-if1 .if1 .left) (c .if2 .taken)
 
 -- src/lib.rt:42:26
 mul-slot : tie.Need-mul-slot Inv-loop μ-loop
@@ -67,11 +69,17 @@ shared-slice-read-slot c = search needs
 
 -- src/lib.rt:42:20
 cast-slot : tie.Need-cast-slot Inv-loop μ-loop
-cast-slot c = omega (arith, c .shared-slice-known2 .given (2 * c .before .before .before .before .before .before .args .n + c .before .before .before .before .before .before .args .x .0))
+cast-slot c =
+    let at-start = c .before .before .before .before .before .before in
+    omega (arith, c .shared-slice-known2 .given (2 * at-start .args .n + at-start .args .x .0))
 
 -- src/lib.rt:43:5
 loop-holds : tie.Need-loop-holds Inv-loop μ-loop
-loop-holds c = (c .before .before .before .if1 .left, chase-start (c .before .before .before .before .before .before .pre .1) (c .before .before .before .before .before .before .pre .0 .2) (c .before .before .before .if1 .left) (c .before .if2 .left))
+loop-holds c =
+    let at-if2 = c .before in
+    let at-if1 = at-if2 .before .before in
+    let at-start = at-if1 .before .before .before in
+    (at-if1 .if1 .left, chase-start (at-start .pre .1) (at-start .pre .0 .2) (at-if1 .if1 .left) (at-if2 .if2 .left))
 
 -- src/lib.rt:44:23
 mul-y : tie.Need-mul-y Inv-loop μ-loop
@@ -79,31 +87,52 @@ mul-y c = search needs
 
 -- src/lib.rt:44:23
 add-y : tie.Need-add-y Inv-loop μ-loop
-add-y c = omega (arith, chase-slot (c .before .loop .inv .1) (c .loop-test .taken) .inside)
+add-y c =
+    let at-loop = c .before in
+    omega (arith, chase-slot (at-loop .loop .inv .1) (c .loop-test .taken) .inside)
 
 -- src/lib.rt:44:17
 mul-y-2 : tie.Need-mul-y-2 Inv-loop μ-loop
-mul-y-2 c = omega (arith, chase-slot (c .before .loop .inv .1) (c .loop-test .taken) .inside)
+mul-y-2 c =
+    let at-loop = c .before in
+    omega (arith, chase-slot (at-loop .loop .inv .1) (c .loop-test .taken) .inside)
 
 -- src/lib.rt:44:17
 shared-slice-read-y : tie.Need-shared-slice-read-y Inv-loop μ-loop
-shared-slice-read-y c = omega (arith, chase-slot (c .before .before .loop .inv .1) (c .before .loop-test .taken) .inside, c .before .before .before .before .before .before .before .before .before .pre .1 .size)
+shared-slice-read-y c =
+    let at-loop-test = c .before in
+    let at-loop = at-loop-test .before in
+    let at-start = at-loop .before .before .before .before .before .before .before in
+    omega (arith, chase-slot (at-loop .loop .inv .1) (at-loop-test .loop-test .taken) .inside, at-start .pre .1 .size)
 
 -- src/lib.rt:45:18
 cast-at : tie.Need-cast-at Inv-loop μ-loop
-cast-at c = omega (arith, c .shared-slice-known3 .given (5 * c .before .before .before .before .before .before .before .before .before .args .n + c .before .before .loop .slot))
+cast-at c =
+    let at-loop = c .before .before in
+    let at-start = at-loop .before .before .before .before .before .before .before in
+    omega (arith, c .shared-slice-known3 .given (5 * at-start .args .n + at-loop .loop .slot))
 
 -- src/lib.rt:46:12
 mul-if3 : tie.Need-mul-if3 Inv-loop μ-loop
-mul-if3 c = omega (arith, chase-slot (c .before .before .loop .inv .1) (c .before .loop-test .taken) .state)
+mul-if3 c =
+    let at-loop-test = c .before in
+    let at-loop = at-loop-test .before in
+    omega (arith, chase-slot (at-loop .loop .inv .1) (at-loop-test .loop-test .taken) .state)
 
 -- src/lib.rt:46:12
 shared-slice-read-if3 : tie.Need-shared-slice-read-if3 Inv-loop μ-loop
-shared-slice-read-if3 c = omega (arith, chase-slot (c .before .before .before .loop .inv .1) (c .before .before .loop-test .taken) .state, c .before .before .before .before .before .before .before .before .before .before .pre .1 .size)
+shared-slice-read-if3 c =
+    let at-loop-test = c .before .before in
+    let at-loop = at-loop-test .before in
+    let at-start = at-loop .before .before .before .before .before .before .before in
+    omega (arith, chase-slot (at-loop .loop .inv .1) (at-loop-test .loop-test .taken) .state, at-start .pre .1 .size)
 
 -- src/lib.rt:47:13
 returns-3 : tie.Need-returns-3 Inv-loop μ-loop
-returns-3 c = chase-hit (c .before .before .before .before .loop .inv .1) (c .before .before .before .loop-test .taken) (c .if3 .taken)
+returns-3 c =
+    let at-loop-test = c .before .before .before in
+    let at-loop = at-loop-test .before in
+    chase-hit (at-loop .loop .inv .1) (at-loop-test .loop-test .taken) (c .if3 .taken)
 
 -- src/lib.rt:49:22
 mul-slot-3 : tie.Need-mul-slot-3 Inv-loop μ-loop
@@ -111,31 +140,53 @@ mul-slot-3 c = search needs
 
 -- src/lib.rt:49:22
 add-slot-2 : tie.Need-add-slot-2 Inv-loop μ-loop
-add-slot-2 c = omega (arith, chase-slot (c .before .before .before .before .loop .inv .1) (c .before .before .before .loop-test .taken) .inside)
+add-slot-2 c =
+    let at-loop-test = c .before .before .before in
+    let at-loop = at-loop-test .before in
+    omega (arith, chase-slot (at-loop .loop .inv .1) (at-loop-test .loop-test .taken) .inside)
 
 -- src/lib.rt:49:16
 mul-slot-4 : tie.Need-mul-slot-4 Inv-loop μ-loop
-mul-slot-4 c = omega (arith, chase-slot (c .before .before .before .before .loop .inv .1) (c .before .before .before .loop-test .taken) .inside)
+mul-slot-4 c =
+    let at-loop-test = c .before .before .before in
+    let at-loop = at-loop-test .before in
+    omega (arith, chase-slot (at-loop .loop .inv .1) (at-loop-test .loop-test .taken) .inside)
 
 -- src/lib.rt:49:16
 shared-slice-read-slot-2 : tie.Need-shared-slice-read-slot-2 Inv-loop μ-loop
-shared-slice-read-slot-2 c = omega (arith, chase-slot (c .before .before .before .before .before .loop .inv .1) (c .before .before .before .before .loop-test .taken) .inside, c .before .before .before .before .before .before .before .before .before .before .before .before .pre .1 .size)
+shared-slice-read-slot-2 c =
+    let at-loop-test = c .before .before .before .before in
+    let at-loop = at-loop-test .before in
+    let at-start = at-loop .before .before .before .before .before .before .before in
+    omega (arith, chase-slot (at-loop .loop .inv .1) (at-loop-test .loop-test .taken) .inside, at-start .pre .1 .size)
 
 -- src/lib.rt:49:16
 cast-slot-2 : tie.Need-cast-slot-2 Inv-loop μ-loop
-cast-slot-2 c = omega (arith, c .shared-slice-known5 .given (4 * c .before .before .before .before .before .before .before .before .before .before .before .before .args .n + c .before .before .before .before .before .loop .slot))
+cast-slot-2 c =
+    let at-loop = c .before .before .before .before .before in
+    let at-start = at-loop .before .before .before .before .before .before .before in
+    omega (arith, c .shared-slice-known5 .given (4 * at-start .args .n + at-loop .loop .slot))
 
 -- src/lib.rt:43:5
 loop-less : tie.Need-loop-less Inv-loop μ-loop
-loop-less c = chase-slot (c .before .before .before .before .before .loop .inv .1) (c .before .before .before .before .loop-test .taken) .older
+loop-less c =
+    let at-loop-test = c .before .before .before .before in
+    let at-loop = at-loop-test .before in
+    chase-slot (at-loop .loop .inv .1) (at-loop-test .loop-test .taken) .older
 
 -- src/lib.rt:43:5
 loop-again : tie.Need-loop-again Inv-loop μ-loop
-loop-again c = (c .before .before .before .before .before .loop .inv .0, chase-next (c .before .before .before .before .before .loop .inv .1) (c .before .before .before .before .loop-test .taken) (c .before .if3 .left))
+loop-again c =
+    let at-if3 = c .before in
+    let at-loop-test = at-if3 .before .before .before in
+    let at-loop = at-loop-test .before in
+    (at-loop .loop .inv .0, chase-next (at-loop .loop .inv .1) (at-loop-test .loop-test .taken) (at-if3 .if3 .left))
 
 -- src/lib.rt:29:1
 returns-4 : tie.Need-returns-4 Inv-loop μ-loop
-returns-4 c = chase-end (c .before .loop .inv .1) (c .loop-test .left)
+returns-4 c =
+    let at-loop = c .before in
+    chase-end (at-loop .loop .inv .1) (c .loop-test .left)
 
 pub look-spec : {M : Type 1} → statement M
 look-spec =

@@ -91,7 +91,9 @@ same-length c = search needs
 -- src/lib.rt:55:1
 returns : tie.Need-returns
 unfolding pushed
-returns c = rw (add-one (c .before .before .args .used))
+returns c =
+    let at-start = c .before .before in
+    rw (add-one (at-start .args .used))
 
 pub push-spec : {M : Type 1} → statement M
 push-spec =

@@ -11,7 +11,9 @@ cast-of c = search needs
 
 -- src/lib.rt:23:9
 returns : tie.Need-returns
-returns c = supply-none (c .before .before .args .table .now) (c .before .before .args .n) (c .before .before .args .x .0) (c .if1 .taken)
+returns c =
+    let at-start = c .before .before in
+    supply-none (at-start .args .table .now) (at-start .args .n) (at-start .args .x .0) (c .if1 .taken)
 
 -- src/lib.rt:25:42
 add-t6 : tie.Need-add-t6
@@ -27,7 +29,10 @@ shared-slice-read-t9 c = search needs
 
 -- src/lib.rt:17:1
 returns-2 : tie.Need-returns-2
-returns-2 c = supply-some (c .before .before .before .args .table .now) (c .before .before .before .args .n) (c .before .before .before .args .x .0) (c .before .if1 .left)
+returns-2 c =
+    let at-if1 = c .before in
+    let at-start = at-if1 .before .before in
+    supply-some (at-start .args .table .now) (at-start .args .n) (at-start .args .x .0) (at-if1 .if1 .left)
 
 pub supply-at-spec : {M : Type 1} → statement M
 supply-at-spec = tie.close (tie.spec cast-of returns add-t6 mul-t7 shared-slice-read-t9 returns-2)

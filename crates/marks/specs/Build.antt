@@ -1,0 +1,43 @@
+-- WHAT BUILD SAYS: the whole outcome as a function of what is lent.
+--
+--   Outcome              the answer, and the room as it is left
+--   built r T            the outcome of code that answers r and leaves T
+--   buildSays word T     what it must be: 1, 2, 3 in that order, else the word's table, and the rest of the room as it was
+--
+-- 01, 'When the library says no'; demands 1 and 2.
+use mathlib.Core.Bool.{cond}
+use mathlib.Core.List.{List, _++_}
+use Prim.Native.Nat.{ℕ}
+use lib.ListN.{length, drop}
+use lib.Dec.{ltb}
+use Rattle.words.specs.Words.{Word}
+use Rattle.table.specs.Table.{room, tableOf}
+use Rattle.marks.specs.declared.Built.{Built}
+use Rattle.marks.specs.declared.Built.the-variants.{Done, EmptyWord, LongWord, ShortRoom}
+use Rattle.marks.specs.Limits.{longestWord}
+use Rattle.marks.specs.Answers.{Answer, done, refused, emptyWord, longWord, shortRoom}
+
+pub record Outcome : Type 0 where
+  pub answer : Answer ℕ
+  pub tables : List ℕ
+
+abbrev pub outcome : Answer ℕ → List ℕ → Outcome
+outcome a T = record { answer = a; tables = T }
+
+-- each case of the code's answer, as 01 lists it
+abbrev pub answerOf : Built → Answer ℕ
+answerOf (Done m) = done m
+answerOf EmptyWord = refused emptyWord
+answerOf LongWord = refused longWord
+answerOf ShortRoom = refused shortRoom
+
+abbrev pub built : Built → List ℕ → Outcome
+built r T = outcome (answerOf r) T
+
+unfoldable pub buildSays : Word → List ℕ → Outcome
+buildSays word T =
+    let m = length word in
+    cond (ltb m 1) (outcome (refused emptyWord) T)
+    (cond (ltb longestWord m) (outcome (refused longWord) T)
+    (cond (ltb (length T) (room m)) (outcome (refused shortRoom) T)
+    (outcome (done m) (tableOf word ++ drop (room m) T))))

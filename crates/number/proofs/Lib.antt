@@ -1,0 +1,5 @@
+pub mod Spelling
+pub mod Seeing
+pub mod Reading
+pub mod Writing
+pub mod Theorems

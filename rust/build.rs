@@ -1,0 +1,14 @@
+// Links the proved library: the archive for this processor that `tools/native-archive` makes in target/native. Cargo runs this from rust/.
+use std::{env, path::PathBuf, process::Command};
+
+fn main() {
+    let top = PathBuf::from(env::var("CARGO_MANIFEST_DIR").unwrap()).parent().unwrap().to_path_buf();
+    let out = PathBuf::from(env::var("OUT_DIR").unwrap());
+    let archive = out.join("libmarks_c.a");
+    let made = Command::new(top.join("tools/native-archive")).arg("marks_c").arg(&archive).current_dir(&top).status();
+    assert!(made.map(|s| s.success()).unwrap_or(false), "tools/native-archive marks_c failed: is `rt` on the path?");
+    println!("cargo:rustc-link-search=native={}", out.display());
+    println!("cargo:rustc-link-lib=static=marks_c");
+    println!("cargo:rerun-if-changed={}", top.join("crates").display());
+    println!("cargo:rerun-if-changed={}", top.join("tools/native-archive").display());
+}

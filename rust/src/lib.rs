@@ -1,0 +1,58 @@
+//! The exported entries as they are. Every one may be handed any slice: it answers, or refuses with its number and leaves what its promise says.
+
+extern "C" {
+    fn marks_build(word: *const u8, word_len: usize, tables: *mut u16, tables_len: usize, m: *mut u64) -> u32;
+    fn marks_search(
+        word: *const u8,
+        word_len: usize,
+        text: *const u8,
+        text_len: usize,
+        tables: *mut u16,
+        tables_len: usize,
+        finds: *mut u32,
+        finds_len: usize,
+        count: *mut u64,
+        letters: *mut u64,
+    ) -> u32;
+}
+
+/// The table of a word's oracle, in the first 6(m+1) entries of `tables`; the answer is m.
+pub fn build(word: &[u8], tables: &mut [u16]) -> Result<u64, u32> {
+    let mut m = 0;
+    // SAFETY: each pointer and length is of one slice, and `m` outlives the call.
+    match unsafe { marks_build(word.as_ptr(), word.len(), tables.as_mut_ptr(), tables.len(), &mut m) } {
+        0 => Ok(m),
+        refused => Err(refused),
+    }
+}
+
+/// How often a word stands in a text, and how many letters were read to find out.
+#[derive(Clone, Copy, Debug, PartialEq, Eq)]
+pub struct Tally {
+    pub count: u64,
+    pub letters: u64,
+}
+
+/// Every place where the word stands in the text: the first of them in `finds`, as many as fit, the count exact.
+pub fn search(word: &[u8], text: &[u8], tables: &mut [u16], finds: &mut [u32]) -> Result<Tally, u32> {
+    let mut tally = Tally { count: 0, letters: 0 };
+    // SAFETY: as above.
+    let said = unsafe {
+        marks_search(
+            word.as_ptr(),
+            word.len(),
+            text.as_ptr(),
+            text.len(),
+            tables.as_mut_ptr(),
+            tables.len(),
+            finds.as_mut_ptr(),
+            finds.len(),
+            &mut tally.count,
+            &mut tally.letters,
+        )
+    };
+    match said {
+        0 => Ok(tally),
+        refused => Err(refused),
+    }
+}
