@@ -16,7 +16,7 @@ use Rattle.table.specs.Table.{room, tableOf, readWord, readArrow, readSupply}
 use Rattle.table.proofs.Theorems.{table-size, table-word, table-arrow, table-supply}
 use Rattle.marks.specs.declared.Built.{Built}
 use Rattle.marks.specs.declared.Built.the-variants.{Done, EmptyWord, LongWord, ShortRoom}
-use Rattle.marks.specs.Limits.{longestWord}
+use Rattle.words.specs.Limits.{longestWord}
 use Rattle.marks.specs.Answers.{Answer, done, refused, emptyWord, longWord, shortRoom}
 use Rattle.marks.specs.Build.{Outcome, outcome, answerOf, built, buildSays}
 

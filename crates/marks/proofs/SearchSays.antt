@@ -24,7 +24,7 @@ use Rattle.table.proofs.Formed.{table-formed}
 use Rattle.search.specs.declared.Tally.{Tally}
 use Rattle.search.specs.Finds.{tallyOf, filled}
 use Rattle.marks.specs.declared.Searched.the-variants.{Done}
-use Rattle.marks.specs.Limits.{longestWord, longestText}
+use Rattle.words.specs.Limits.{longestWord, longestText}
 use Rattle.marks.specs.Answers.{Answer, done, refused, emptyWord, longWord, longText, shortRoom}
 use Rattle.marks.specs.Search.{Found, Outcome, outcome, searched, searchSays}
 

@@ -14,7 +14,7 @@ use Rattle.words.specs.Words.{Word}
 use Rattle.table.specs.Table.{room, tableOf}
 use Rattle.marks.specs.declared.Built.{Built}
 use Rattle.marks.specs.declared.Built.the-variants.{Done, EmptyWord, LongWord, ShortRoom}
-use Rattle.marks.specs.Limits.{longestWord}
+use Rattle.words.specs.Limits.{longestWord}
 use Rattle.marks.specs.Answers.{Answer, done, refused, emptyWord, longWord, shortRoom}
 
 pub record Outcome : Type 0 where

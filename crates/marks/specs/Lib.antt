@@ -1,4 +1,3 @@
-pub mod Limits
 pub mod Answers
 pub mod Build
 pub mod Search

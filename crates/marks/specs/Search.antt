@@ -18,7 +18,7 @@ use Rattle.table.specs.Table.{room, tableOf}
 use Rattle.search.specs.Finds.{filled}
 use Rattle.marks.specs.declared.Searched.{Searched}
 use Rattle.marks.specs.declared.Searched.the-variants.{Done, EmptyWord, LongWord, LongText, ShortRoom}
-use Rattle.marks.specs.Limits.{longestWord, longestText}
+use Rattle.words.specs.Limits.{longestWord, longestText}
 use Rattle.marks.specs.Answers.{Answer, done, refused, emptyWord, longWord, longText, shortRoom}
 
 pub record Found : Type 0 where

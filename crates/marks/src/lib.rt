@@ -4,12 +4,6 @@ ghost use mathlib.Core.Path.{_≡_};
 ghost use Rattle.marks.specs.Build.{built, buildSays};
 ghost use Rattle.marks.specs.Search.{searched, searchSays};
 
-// The longest word, in bytes.
-pub const WORD_LIMIT: usize = 1024;
-
-// The longest text, in bytes.
-pub const TEXT_LIMIT: usize = 16777216;
-
 pub enum Built {
     // The table of the word, which has so many letters, stands in the room.
     Done(usize),
@@ -25,7 +19,7 @@ pub fn build(word: &[u8], tables: &mut [u16]) -> Built
     if word.len() < 1 {
         return Built::EmptyWord;
     }
-    if WORD_LIMIT < word.len() {
+    if words::WORD_LIMIT < word.len() {
         return Built::LongWord;
     }
     let room = 6 * (word.len() + 1);
@@ -53,10 +47,10 @@ pub fn search(word: &[u8], text: &[u8], tables: &mut [u16], finds: &mut [u32]) -
     if m < 1 {
         return Searched::EmptyWord;
     }
-    if WORD_LIMIT < m {
+    if words::WORD_LIMIT < m {
         return Searched::LongWord;
     }
-    if TEXT_LIMIT < text.len() {
+    if words::TEXT_LIMIT < text.len() {
         return Searched::LongText;
     }
     let need = 6 * (m + 1);

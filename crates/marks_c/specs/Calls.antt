@@ -9,13 +9,13 @@
 use mathlib.Core.List.{List}
 use Prim.Native.Nat.{ℕ}
 use Rattle.words.specs.Words.{Word, Place}
-use Rattle.marks.specs.Answers.{Answer, done, refused, number}
+use Rattle.marks.specs.Answers.{Answer, done, refused}
 use Rattle.marks.specs.Build.{buildSays}
 use Rattle.marks.specs.Search.{searchSays}
 
 abbrev pub resultOf : {A : Type 0} → Answer A → ℕ
 resultOf (done a) = 0
-resultOf (refused r) = number r
+resultOf (refused r) = r
 
 abbrev pub answered : {A : Type 0} → ℕ → Answer A → (A → ℕ) → ℕ
 answered v (done a) f = f a

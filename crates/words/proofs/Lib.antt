@@ -2,3 +2,4 @@ pub mod Lists
 pub mod Words
 pub mod Occurrences
 pub mod Answers
+pub mod Limits

@@ -5,7 +5,7 @@ use lib.ListN.{length, drop}
 use lib.Seq.{length-take-le}
 use Rattle.marks.specs.Answers.{done}
 use Rattle.marks.specs.Build.{outcome}
-use Rattle.marks.proofs.Limits.{word-limit}
+use Rattle.words.proofs.Limits.{word-limit}
 use Rattle.marks.proofs.BuildSays.{says-empty, says-long, says-short, says-done}
 use native.Mathlib.Omega.{arith}
 use borrow.Author.Needs.{needs}

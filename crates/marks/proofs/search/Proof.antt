@@ -2,7 +2,7 @@ use mathlib.Core.Path.{sym, _∙_}
 use Prim.Native.Nat.{_+_, _*_}
 use lib.ListN.{length, drop}
 use lib.Seq.{length-take-le}
-use Rattle.marks.proofs.Limits.{word-limit, text-limit}
+use Rattle.words.proofs.Limits.{word-limit, text-limit}
 use Rattle.marks.proofs.SearchSays.{says-empty, says-long, says-long-text, says-short, says-done, lent-size, lent-formed, scan-counts}
 use native.Mathlib.Omega.{arith}
 use borrow.Author.Needs.{needs}

@@ -2,7 +2,7 @@
 use mathlib.Core.Path.{_≡_, refl}
 use Prim.Native.Nat.{_<_}
 use native.Mathlib.Omega.{arith}
-use Rattle.marks.specs.Limits.{longestWord, longestText}
+use Rattle.words.specs.Limits.{longestWord, longestText}
 
 -- the code's constant
 pub word-limit : longestWord ≡ 1024
