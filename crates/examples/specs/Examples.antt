@@ -19,15 +19,12 @@ use Rattle.oracle.specs.Arrows.{State, Delta, target, walk}
 use Rattle.oracle.specs.SuffixRule.{suffixRule, extraArrows, oracle}
 use Rattle.oracle.specs.LetterRule.{supplyIn, letterRule}
 use Rattle.oracle.specs.Supply.{supply}
+use Rattle.oracle.specs.FileOrder.{Extra, extra}
 use Rattle.backward.specs.Steps.{backward}
 
 -- an extra arrow as 01 writes it, 0-2: its letter is that of the state it leads to
-pub record Extra : Type 0 where
-  pub source : State
-  pub to : State
-
 abbrev pub _to_ : State → State → Extra
-_to_ x y = record { source = x; to = y }
+_to_ x y = extra x y
 
 infix 70 _to_
 pub data Example : Type 0 where

@@ -40,6 +40,7 @@ pub record Reading (s : List ℕ) (a i value unit : ℕ) : Type 0 where
   pub scale : unit * top more ≡ suc greatest
   pub below : value < unit
 
+-- nothing is read
 pub read-start : (s : List ℕ) (a : ℕ) → Reading s a a 0 1
 unfolding top numberAt seeNumber
 read-start s a = record { begun = omega arith; same = start; more = 4; places = omega arith; scale = refl; below = omega arith }
@@ -48,15 +49,17 @@ read-start s a = record { begun = omega arith; same = start; more = 4; places = 
     start = let e : a - a ≡ 0 = omega arith in rw e (ap (placed s a) (after-none (see 0 (drop a s))))
 
 module _ {s : List ℕ} {a i value unit : ℕ} (R : Reading s a i value unit) where
+  -- the file ends
   pub read-end : length s ≤ i → Refused 5 (length s) ≡ numberAt s a
   unfolding see
   read-end h = sym (R .same ∙ rw (drop-of-length-le s h))
 
   module _ (h : i < length s) where
-    -- from what the bytes ahead show
+    -- the answer, from what the bytes ahead show
     shown : {g : Seen} → see (i - a) (at s i ∷ drop (suc i) s) ≡ g → placed s a (after value unit g) ≡ numberAt s a
     shown e = sym (R .same ∙ rw (drop-cons s i 0 h, e))
 
+    -- the byte is refused
     pub read-refused : refuses (i - a) (at s i) ≡ true → Refused 6 i ≡ numberAt s a
     read-refused e = let p : a + (i - a) ≡ i = omega (arith, R .begun) in rw p at (shown (see-refused (i - a) (at s i) (drop (suc i) s) e))
 
@@ -64,6 +67,7 @@ module _ {s : List ℕ} {a i value unit : ℕ} (R : Reading s a i value unit) wh
       p : Passes (i - a) (at s i)
       p = refuses-told passed
 
+      -- the byte ends the number
       pub read-last : at s i < 128 → Value (value + unit * (at s i % 128)) (record { at = i + 1 }) ≡ numberAt s a
       read-last l =
           let e : at s i % 128 ≡ at s i = omega arith in
@@ -79,6 +83,7 @@ module _ {s : List ℕ} {a i value unit : ℕ} (R : Reading s a i value unit) wh
       pub read-fits : value + unit * (at s i % 128) ≤ greatest
       read-fits = omega (arith, mul-le-mul-left unit (low (R .more) (R .places)), R .scale, R .below)
 
+      -- another byte follows
       pub read-next : 128 ≤ at s i → (unit * 128 ≤ greatest) × Reading s a (i + 1) (value + unit * (at s i % 128)) (unit * 128)
       unfolding top
       read-next l = by (R .more) (R .places) (R .scale)

@@ -20,6 +20,7 @@ pub record Passes (n b : ℕ) : Type 0 where
   pub counts : 0 < n → 0 < b
   pub small : n ≡ 4 → b ≤ 15
 
+-- such a byte passes the test
 pub refuses-not : {n b : ℕ} → Passes n b → refuses n b ≡ false
 unfolding refuses
 refuses-not {n} {b} p =
@@ -33,6 +34,7 @@ refuses-not {n} {b} p =
     unless true t f = f refl
     unless false t f = refl
 
+-- and no other does
 pub refuses-told : {n b : ℕ} → refuses n b ≡ false → Passes n b
 unfolding refuses
 refuses-told {n} {b} e = record { counts = λ h. counted h (decLt 0 b); small = λ h. smaller h (decLt 15 b) }
@@ -45,12 +47,13 @@ refuses-told {n} {b} e = record { counts = λ h. counted h (decLt 0 b); small = 
     smaller h (yes g) = absurd (true≢false (rw (h, lt-ltb 15 b g, or-true (eqb b 0)) at e))
     smaller h (no g) = omega arith
 
--- a byte is refused, or ends a number, or another follows
+-- a byte is refused, or ends the number, or is followed by another
 pub data Kind (n b : ℕ) : Type 0 where
   is-refused : refuses n b ≡ true → Kind n b
   is-last : Passes n b → b < 128 → Kind n b
   is-followed : Passes n b → 128 ≤ b → Kind n b
 
+-- one of the three
 pub kind-of : (n b : ℕ) → Kind n b
 kind-of n b = by (refuses n b) refl (decLt b 128)
   where
@@ -59,6 +62,7 @@ kind-of n b = by (refuses n b) refl (decLt b 128)
     by false e (yes h) = is-last (refuses-told e) h
     by false e (no h) = is-followed (refuses-told e) (omega arith)
 
+-- what is seen at a byte of each kind
 pub see-refused : (n b : ℕ) (l : List ℕ) → refuses n b ≡ true → see n (b ∷ l) ≡ refused n
 unfolding see
 see-refused n b l e = rw e
@@ -80,6 +84,7 @@ pub record Fits (n k v : ℕ) : Type 0 where
   pub below : v < top k
   pub counts : 0 < n → 0 < v
 
+-- a last byte that passes, and the number that it is
 fits-passes : {n k v : ℕ} → Fits n k v → Passes n v
 unfolding top
 fits-passes {k = zero} f = record { counts = f .counts; small = λ e. omega arith }
@@ -90,7 +95,7 @@ unfolding top
 passes-fits zero q p h = record { places = q; below = omega (arith, p .small (omega arith)); counts = p .counts }
 passes-fits (suc k) q p h = record { places = q; below = omega (arith, top-least k); counts = p .counts }
 
--- from 128 on its first byte passes, and the rest can be spelled behind that
+-- from 128 on the first byte passes, and the rest can be spelled behind it
 fits-follow : {n k v : ℕ} → Fits n k v → 128 ≤ v → (j : ℕ) × Fits (suc n) j (v / 128) × Passes n (128 + v % 128)
 unfolding top
 fits-follow {k = zero} f h = absurd (omega arith)
@@ -99,6 +104,11 @@ fits-follow {k = suc k} f h = (
   record { places = omega arith; below = omega arith; counts = λ _. omega arith },
   record { counts = λ _. omega arith; small = λ e. absurd (omega arith) },
 )
+
+-- and the other way round
+follow-fits : {n k u : ℕ} (b : ℕ) → 128 ≤ b → Fits (suc n) k u → Fits n (suc k) (b % 128 + 128 * u)
+unfolding top
+follow-fits b h f = record { places = omega arith; below = omega (arith, f .below); counts = λ _. omega (arith, f .counts (omega arith)) }
 
 -- what was spelled is seen, whatever follows
 pub see-spells : {n k v : ℕ} {l : List ℕ} (r : List ℕ) → Fits n k v → Spells v l → see n (l ++ r) ≡ number v (n + length l)
@@ -120,7 +130,7 @@ see-cut (suc i) h f (follows {v = v} {l = l} g s) =
 
 -- ── What is seen was spelled ───────────────────────────────────────────────
 
--- at the front of l stands a spelling of v, and m bytes are behind it
+-- at the front of l stands a spelling of v, whose last byte is the m-th of the number
 pub record Stood (n k : ℕ) (l : List ℕ) (v m : ℕ) : Type 0 where
   pub spelling : List ℕ
   pub rest : List ℕ
@@ -130,7 +140,6 @@ pub record Stood (n k : ℕ) (l : List ℕ) (v m : ℕ) : Type 0 where
   pub fits : Fits n k v
 
 stood-follows : {n k u m b : ℕ} {l : List ℕ} → 128 ≤ b → b < 256 → Stood (suc n) k l u m → Stood n (suc k) (b ∷ l) (b % 128 + 128 * u) m
-unfolding top
 stood-follows {u = u} {b = b} h g s =
     let z : 0 < u = s .fits .counts (omega arith) in
     record {
@@ -139,7 +148,7 @@ stood-follows {u = u} {b = b} h g s =
       spells = spells-follow h g z (s .spells);
       whole = ap (λ y. b ∷ y) (s .whole);
       count = omega (arith, s .count);
-      fits = record { places = omega (arith, s .fits .places); below = omega (arith, s .fits .below); counts = λ _. omega arith };
+      fits = follow-fits b h (s .fits);
     }
 
 behind-number : (x : ℕ) (s : Seen) {v m : ℕ} → behind x s ≡ number v m → (u : ℕ) × (s ≡ number u m) × (v ≡ x + 128 * u)
@@ -147,6 +156,7 @@ behind-number x (number u m) e = (u, cc, cc)
 behind-number x ends e = let z : _≡_ {A = ℕ} 0 1 = cc in absurd (omega arith)
 behind-number x (refused m) e = let z : _≡_ {A = ℕ} 0 1 = cc in absurd (omega arith)
 
+-- where a number is seen a spelling of it stood
 pub see-stood : {n k v m : ℕ} (l : List ℕ) → Bytes l → n + k ≡ 4 → see n l ≡ number v m → Stood n k l v m
 unfolding see
 see-stood [] bytes q e = let z : _≡_ {A = ℕ} 0 1 = cc in absurd (omega arith)
@@ -174,6 +184,47 @@ see-stood {n} {k} {v} {m} (b ∷ l) bytes q e = by (kind-of n b) k q (λ j u r f
         let f = behind-number (b % 128) (see (suc n) l) (sym (see-follows l p h) ∙ e) in
         rw (f .2) (stood-follows h (bytes 0) (later k (f .0) (omega arith) (f .1)))
 
+-- l is a beginning of a spelling of v, and not all of it
+pub record Begun (n k : ℕ) (l : List ℕ) (v : ℕ) : Type 0 where
+  pub spelling : List ℕ
+  pub spells : Spells v spelling
+  pub begins : l ≡ take (length l) spelling
+  pub short : length l < length spelling
+  pub fits : Fits n k v
+
+begun-follows : {n k u b : ℕ} {l : List ℕ} → 128 ≤ b → b < 256 → Begun (suc n) k l u → Begun n (suc k) (b ∷ l) (b % 128 + 128 * u)
+begun-follows {b = b} h g s = record {
+  spelling = b ∷ s .spelling;
+  spells = spells-follow h g (s .fits .counts (omega arith)) (s .spells);
+  begins = ap (λ y. b ∷ y) (s .begins);
+  short = omega (arith, s .short);
+  fits = follow-fits b h (s .fits);
+}
+
+-- bytes that end too soon are a beginning of a spelling
+pub see-begun : {n k : ℕ} (l : List ℕ) → Bytes l → n + k ≡ 4 → see n l ≡ ends → (v : ℕ) × Begun n k l v
+unfolding see
+see-begun {n} {k} [] bytes q e =
+    let one : Passes n 1 = record { counts = λ _. omega arith; small = λ _. omega arith } in
+    (1, record { spelling = 1 ∷ []; spells = last {v = 1} (omega arith); begins = refl; short = omega arith; fits = passes-fits k q one (omega arith) })
+see-begun {n} {k} (b ∷ l) bytes q e = by (kind-of n b) k q (λ j r f. see-begun {n = suc n} {k = j} l (λ i. bytes (suc i)) r f)
+  where
+    behind-ends : (x : ℕ) (s : Seen) → behind x s ≡ ends → s ≡ ends
+    behind-ends x (number u m) f = let z : _≡_ {A = ℕ} 0 1 = cc in absurd (omega arith)
+    behind-ends x ends f = refl
+    behind-ends x (refused m) f = let z : _≡_ {A = ℕ} 0 1 = cc in absurd (omega arith)
+
+    Later : Type 0
+    Later = (j : ℕ) → suc n + j ≡ 4 → see (suc n) l ≡ ends → (u : ℕ) × Begun (suc n) j l u
+
+    by : Kind n b → (k : ℕ) → n + k ≡ 4 → Later → (v : ℕ) × Begun n k (b ∷ l) v
+    by (is-refused r) k q later = let f : refused n ≡ ends = sym (see-refused n b l r) ∙ e in let z : _≡_ {A = ℕ} 0 1 = cc in absurd (omega arith)
+    by (is-last p h) k q later = let f : number b (suc n) ≡ ends = sym (see-last l p h) ∙ e in let z : _≡_ {A = ℕ} 0 1 = cc in absurd (omega arith)
+    by (is-followed p h) zero q later = absurd (omega (arith, p .small (omega arith)))
+    by (is-followed p h) (suc k) q later =
+        let r = later k (omega arith) (behind-ends (b % 128) (see (suc n) l) (sym (see-follows l p h) ∙ e)) in
+        (b % 128 + 128 * r .0, begun-follows h (bytes 0) (r .1))
+
 -- ── More bytes ─────────────────────────────────────────────────────────────
 
 -- bytes behind change nothing, unless the bytes before them end too soon
@@ -194,6 +245,7 @@ Within n size (number v m) = (n < m) × (m ≤ n + size)
 Within n size ends = Unit
 Within n size (refused m) = (n ≤ m) × (m < n + size)
 
+-- what is seen lies within the bytes
 pub see-within : (n : ℕ) (l : List ℕ) → Within n (length l) (see n l)
 unfolding see
 see-within n [] = tt

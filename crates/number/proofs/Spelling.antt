@@ -1,5 +1,5 @@
--- THE SPELLING of a number, as a relation with a case for a last group and one for a group that another follows: every spelling has it, so that a proof about
--- spellings goes group by group and meets no test.
+-- THE SPELLING of a number, as a relation with a case for a last group and one for a group that another follows. The spelling has it and nothing else does,
+-- so that a proof about spellings goes group by group and meets no test.
 use mathlib.Core.Path.{_≡_, refl}
 use mathlib.Core.List.{List, [], _∷_}
 use Prim.Native.Nat.{ℕ, zero, suc, _+_, _*_, _/_, _%_, _≤_, _<_}
@@ -14,7 +14,7 @@ pub data Spells : ℕ → List ℕ → Type 0 where
   last : {v : ℕ} → v < 128 → Spells v (v ∷ [])
   follows : {v : ℕ} {l : List ℕ} → 128 ≤ v → Spells (v / 128) l → Spells v ((128 + v % 128) ∷ l)
 
--- a byte before it, put as a reader meets it
+-- one byte more before it, put as a reader meets it
 pub spells-follow : {b u : ℕ} {l : List ℕ} → 128 ≤ b → b < 256 → 0 < u → Spells u l → Spells (b % 128 + 128 * u) (b ∷ l)
 spells-follow {b} {u} {l} h g z s =
     let high : (b % 128 + 128 * u) / 128 ≡ u = omega arith in
@@ -26,12 +26,13 @@ unfoldable pub top : ℕ → ℕ
 top zero = 16
 top (suc k) = 128 * top k
 
+-- at least 16
 pub top-least : (k : ℕ) → 16 ≤ top k
 unfolding top
 top-least zero = omega arith
 top-least (suc k) = omega (arith, top-least k)
 
--- ── The spelling has it ────────────────────────────────────────────────────
+-- ── The spelling, and no other ─────────────────────────────────────────────
 
 groups-last : (k v : ℕ) → v < 128 → groups k v ≡ v ∷ []
 unfolding groups
@@ -51,11 +52,12 @@ groups-spell (suc k) v h = by (decLt v 128) (groups-spell k (v / 128) (omega ari
     by (yes g) s = rw (groups-last (suc k) v g) (last g)
     by (no g) s = let b : 128 ≤ v = omega arith in rw (groups-follow k v b) (follows b s)
 
+-- the spelling spells its number
 pub spelling-spells : (v : ℕ) → v ≤ greatest → Spells v (spellNumber v)
 unfolding spellNumber top
 spelling-spells v h = groups-spell 4 v (omega arith)
 
--- and nothing else does
+-- nothing else does
 pub spells-one : {v : ℕ} {l r : List ℕ} → Spells v l → Spells v r → l ≡ r
 spells-one (last h) (last g) = refl
 spells-one (last h) (follows g s) = absurd (omega arith)
@@ -64,9 +66,11 @@ spells-one (follows h s) (follows g t) = cc (spells-one s t)
 
 -- ── Its bytes and its length ───────────────────────────────────────────────
 
+-- from one to n
 abbrev Upto : ℕ → ℕ → Type 0
 Upto n size = (1 ≤ size) × (size ≤ n)
 
+-- at least one group, and at most k + 1
 pub groups-length : (k v : ℕ) → Upto (suc k) (length (groups k v))
 unfolding groups
 groups-length zero v = (omega arith, omega arith)
@@ -76,12 +80,14 @@ groups-length (suc k) v = by (decLt v 128) (groups-length k (v / 128))
     by (yes h) r = rw (groups-last (suc k) v h) (omega arith, omega arith)
     by (no h) r = rw (groups-follow k v (omega arith)) (omega arith, omega arith)
 
+-- what spells is bytes
 pub spells-bytes : {v : ℕ} {l : List ℕ} → Spells v l → Bytes l
 spells-bytes (last h) zero = omega arith
 spells-bytes (last h) (suc i) = omega arith
 spells-bytes (follows h s) zero = omega arith
 spells-bytes (follows h s) (suc i) = spells-bytes s i
 
+-- at least one
 pub spells-some : {v : ℕ} {l : List ℕ} → Spells v l → 1 ≤ length l
 spells-some (last h) = omega arith
 spells-some (follows h s) = omega arith

@@ -1,9 +1,10 @@
 -- THE THEOREMS on numbers of the file, each a sentence about the definitions alone: what was spelled is read whatever follows, what is read stood there in
--- its one spelling, and a spelling that is cut ends too soon. Then the same at a place of a file.
+-- its one spelling, and bytes end too soon exactly where they are a proper beginning of a spelling. Then the same at a place of a file.
 use mathlib.Core.Path.{_≡_, sym, ap, _∙_}
 use mathlib.Core.Logic.{_⊎_, inl, inr}
 use mathlib.Core.List.{List, [], _∷_, _++_, append-assoc}
 use Prim.Native.Nat.{ℕ, _+_, _≤_, _<_}
+use native.Mathlib.Nat.{zero-add}
 use native.Mathlib.Omega.{arith}
 use lib.ListN.{length, take, drop, length-drop}
 use lib.Seq.{drop-append-seam, drop-at, drop-drop, getD-drop, length-take-le}
@@ -11,7 +12,7 @@ use Rattle.number.specs.Number.{Bytes, greatest, spellNumber, written, S
 use Rattle.number.specs.declared.Cursor.{Cursor}
 use Rattle.number.specs.declared.Number.the-variants.{Value, Refused}
 use Rattle.number.proofs.Spelling.{Spells, last, follows, top, spelling-spells, spells-one, spells-bytes, groups-length}
-use Rattle.number.proofs.Seeing.{Fits, see-spells, see-cut, Stood, see-stood, see-append, Within, see-within}
+use Rattle.number.proofs.Seeing.{Fits, see-spells, see-cut, Stood, see-stood, Begun, see-begun, see-append, Within, see-within}
 
 whole-fits : (v : ℕ) → v ≤ greatest → Fits 0 4 v
 unfolding top
@@ -22,7 +23,7 @@ whole-fits v h = record { places = omega arith; below = omega arith; counts = λ
 -- what was spelled is read, whatever follows
 pub read-spelled : (v : ℕ) (l : List ℕ) → v ≤ greatest → seeNumber (spellNumber v ++ l) ≡ number v (length (spellNumber v))
 unfolding seeNumber
-read-spelled v l h = see-spells l (whole-fits v h) (spelling-spells v h) ∙ let e : 0 + length (spellNumber v) ≡ length (spellNumber v) = omega arith in rw e
+read-spelled v l h = see-spells l (whole-fits v h) (spelling-spells v h) ∙ ap (number v) (zero-add (length (spellNumber v)))
 
 -- at the front of l stands the spelling of v, n bytes long
 pub record Stands (l : List ℕ) (v n : ℕ) : Type 0 where
@@ -59,6 +60,25 @@ spelling-injective h g e = spelling-prefix-free {k = []} {l = []} h g (ap (λ y.
 pub beginning-cut : (v n : ℕ) → v ≤ greatest → n < length (spellNumber v) → seeNumber (take n (spellNumber v)) ≡ ends
 unfolding seeNumber
 beginning-cut v n h l = see-cut n l (whole-fits v h) (spelling-spells v h)
+
+-- l is a beginning of the spelling of some v, and not all of it
+pub record Begins (l : List ℕ) : Type 0 where
+  pub v : ℕ
+  pub small : v ≤ greatest
+  pub begins : l ≡ take (length l) (spellNumber v)
+  pub short : length l < length (spellNumber v)
+
+-- bytes end too soon only there
+pub cut-begins : {l : List ℕ} → Bytes l → seeNumber l ≡ ends → Begins l
+unfolding seeNumber top
+cut-begins {l} bytes e = by (see-begun {k = 4} l bytes (omega arith) e)
+  where
+    by : (v : ℕ) × Begun 0 4 l v → Begins l
+    by r =
+        let s = r .1 in
+        let small : r .0 ≤ greatest = omega (arith, s .fits .below) in
+        let one : s .spelling ≡ spellNumber (r .0) = spells-one (s .spells) (spelling-spells (r .0) small) in
+        record { v = r .0; small = small; begins = s .begins ∙ ap (take (length l)) one; short = omega (arith, s .short, ap length one) }
 
 -- bytes behind change nothing, unless the bytes before them end too soon
 pub read-append : (l r : List ℕ) → (seeNumber l ≡ ends) ⊎ (seeNumber (l ++ r) ≡ seeNumber l)

@@ -1,0 +1,84 @@
+-- LOADING, field by field as 01 orders it: within any number 5 or 6, whichever its bytes show first; then that field's own check (7, 8, 9); after m the letters (5); each arrow
+-- is compared once both its numbers are read (10); after the last, missing arrows (10), then leftovers (11). Every refusal keeps the place where it shows.
+--
+--   field s i off on     the number at place i of the file s: `on` its value and the next place, or `off` a refusal
+--   Front                the number of letters and where they stand, or a refusal
+--   front s              what the file s shows up to its letters
+--   Two                  two numbers and the next place, or a refusal
+--   twoAt s i            what s shows at place i
+--   Verdict              whether a file's arrows are the word's own
+--   arrowsAt s i n l     n declared arrows from place i on, against the word's own that are left, l
+--   verdict s i w        what s shows from place i on, where the number of arrows stands, for the word w
+--
+-- 01, 'When the library says no'; demands 1 and 3.
+use mathlib.Core.Bool.{Bool, true, false, _&&_, cond}
+use mathlib.Core.List.{List, [], _∷_}
+use Prim.Native.Nat.{ℕ, zero, suc, _+_, _-_}
+use lib.ListN.{length}
+use lib.Dec.{eqb, leb, ltb}
+use Rattle.words.specs.Words.{Word}
+use Rattle.words.specs.Limits.{longestWord}
+use Rattle.number.specs.declared.Number.{Number}
+use Rattle.number.specs.declared.Number.the-variants.{Value, Refused}
+use Rattle.number.specs.Number.{numberAt}
+use Rattle.saved.specs.File.{edition, Step, ownSteps}
+
+-- ── Fields ─────────────────────────────────────────────────────────────────
+
+abbrev pub taking : {A : Type 0} → Number → (ℕ → ℕ → A) → (ℕ → ℕ → A) → A
+taking (Value v c) off on = on v (c .at)
+taking (Refused r i) off on = off r i
+
+abbrev pub field : {A : Type 0} → List ℕ → ℕ → (ℕ → ℕ → A) → (ℕ → ℕ → A) → A
+field s i off on = taking (numberAt s i) off on
+
+-- ── Up to the letters ──────────────────────────────────────────────────────
+
+pub data Front : Type 0 where
+  letters : ℕ → ℕ → Front
+  stop : ℕ → ℕ → Front
+
+unfoldable pub front : List ℕ → Front
+front s =
+    field s 0 stop (λ e i. cond (eqb e edition)
+    (field s i stop (λ m j. cond (leb 1 m && leb m longestWord)
+    (cond (leb (j + m) (length s)) (letters m j) (stop 5 (length s)))
+    (stop 8 i)))
+    (stop 7 0))
+
+-- ── Arrows ─────────────────────────────────────────────────────────────────
+
+pub data Two : Type 0 where
+  both : ℕ → ℕ → ℕ → Two
+  neither : ℕ → ℕ → Two
+
+unfoldable pub twoAt : List ℕ → ℕ → Two
+twoAt s i = field s i neither (λ a j. field s j neither (λ b k. both a b k))
+
+pub data Verdict : Type 0 where
+  right : Verdict
+  wrong : ℕ → ℕ → Verdict
+
+-- the two numbers are those of the next arrow of the word's own
+abbrev pub nextIs : ℕ → ℕ → List Step → Bool
+nextIs a b [] = false
+nextIs a b (s ∷ l) = eqb a (s .up) && eqb b (s .over)
+
+abbrev pub later : List Step → List Step
+later [] = []
+later (s ∷ l) = l
+
+abbrev pub none-left : List Step → Bool
+none-left [] = true
+none-left (s ∷ l) = false
+
+abbrev pub compared : {A : Type 0} → Two → (ℕ → ℕ → A) → (ℕ → ℕ → ℕ → A) → A
+compared (both a b k) off on = on a b k
+compared (neither r i) off on = off r i
+
+unfoldable pub arrowsAt : List ℕ → ℕ → ℕ → List Step → Verdict
+arrowsAt s i zero l = cond (none-left l) (cond (ltb i (length s)) (wrong 11 i) right) (wrong 10 i)
+arrowsAt s i (suc n) l = compared (twoAt s i) wrong (λ a b k. cond (nextIs a b l) (arrowsAt s k n (later l)) (wrong 10 i))
+
+unfoldable pub verdict : List ℕ → ℕ → Word → Verdict
+verdict s i w = field s i wrong (λ n j. cond (leb n (length w - 1)) (arrowsAt s j n (ownSteps w)) (wrong 9 i))
