@@ -1,0 +1,44 @@
+//! Texts at the limit of 16,777,216 bytes and above it. A program of the library's own language would need them on its stack, so they are run from here.
+use marks::{search, Tally};
+
+const TEXT_LIMIT: usize = 16_777_216;
+
+#[test]
+fn a_text_at_the_limit_is_searched_to_its_last_letter() {
+    let mut text = vec![b'a'; TEXT_LIMIT];
+    text[..2].copy_from_slice(b"xy");
+    text[TEXT_LIMIT - 2..].copy_from_slice(b"xy");
+    let (mut tables, mut finds) = ([7u16; 6 * 3 + 1], [9u32; 3]);
+    let tally = search(b"xy", &text, &mut tables, &mut finds).unwrap();
+    assert_eq!(tally.count, 2);
+    // The windows start at 0, then at 1, 3, 5 .. as an `a` fails each time at once, but for the last of these, which ends in the `x`, then at the last find.
+    let windows_between = (TEXT_LIMIT as u64 - 4) / 2 + 1;
+    assert_eq!(tally.letters, 2 + (windows_between + 1) + 2);
+    assert_eq!(finds, [0, TEXT_LIMIT as u32 - 2, 9]);
+    assert_eq!(tables[18], 7);
+}
+
+#[test]
+fn one_byte_more_is_refused_and_changes_nothing() {
+    let text = vec![b'a'; TEXT_LIMIT + 1];
+    let (mut tables, mut finds) = ([7u16; 19], [9u32; 3]);
+    assert_eq!(search(b"xy", &text, &mut tables, &mut finds), Err(4));
+    assert_eq!((tables, finds), ([7; 19], [9; 3]));
+    // the order of the refusals: an empty word and a long one come before the text, the room behind it
+    assert_eq!(search(b"", &text, &mut tables, &mut finds), Err(1));
+    assert_eq!(search(&[0; 1025], &text, &mut tables, &mut finds), Err(2));
+    assert_eq!(search(b"xy", &text, &mut tables[..17], &mut finds), Err(4));
+    assert_eq!(search(b"xy", &text[1..], &mut tables[..17], &mut finds), Err(3));
+    assert_eq!((tables, finds), ([7; 19], [9; 3]));
+}
+
+#[test]
+fn the_letters_pass_32_bits() {
+    let text = vec![b'a'; TEXT_LIMIT];
+    let mut tables = [0u16; 6 * 258];
+    let places = TEXT_LIMIT as u64 - 256;
+    let mut finds = vec![9; places as usize];
+    let tally = search(&[b'a'; 257], &text, &mut tables, &mut finds).unwrap();
+    assert_eq!(tally, Tally { count: places, letters: 257 * places });
+    assert!(finds.iter().enumerate().all(|(i, &at)| i as u32 == at));
+}
