@@ -18,7 +18,7 @@ use Rattle.words.proofs.Occurrences.{stands-part, part-stands, stands-inside}
 use Rattle.oracle.specs.Arrows.{State, Delta, walk}
 use Rattle.backward.specs.Steps.{Searched, nothing, listed, readDown, afterFind, nextWindow, windows, steps}
 use Rattle.backward.proofs.Reading.{Failed, failed-place, letters-most, whole-walked, failed-walk}
-use Rattle.backward.proofs.AfterFind.{after-moves, after-safe}
+use Rattle.backward.proofs.AfterFind.{after-moves, after-safe, after-mirror}
 
 -- ── One window ─────────────────────────────────────────────────────────────
 
@@ -201,3 +201,18 @@ module _ {w : Word} {δ : Delta} (W : Walker w δ) (t : Word) where
 -- arrows that lead to the same states make the same search
 pub steps-same : (δ ε : Delta) (w t : Word) → ((x : State) (c : Letter) → δ x c ≡ ε x c) → steps δ w t ≡ steps ε w t
 steps-same δ ε w t f = ap (λ (d : Delta). steps d w t) (fun-ext (λ x. fun-ext (f x)))
+
+-- with the same arrows a search for the mirror makes the same windows
+pub steps-mirror : (δ : Delta) (w t : Word) → steps δ w t ≡ steps δ (mirror w) t
+unfolding steps windows
+steps-mirror δ w t = go (suc (length t)) 0
+  where
+    next-same : (s : Place) (o : Option Place) → nextWindow w s o ≡ nextWindow (mirror w) s o
+    next-same s none = ap (λ (a : ℕ). s + a) (after-mirror w)
+    next-same s (some f) = refl
+
+    go : (k : ℕ) (s : Place) → windows δ w t k s ≡ windows δ (mirror w) t k s
+    go zero s = refl
+    go (suc k) s =
+        let o = readDown δ t s (length w) 0 .failed in
+        rw (length-reverse w, next-same s o, go k (nextWindow (mirror w) s o))

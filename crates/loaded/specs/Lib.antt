@@ -1,1 +1,4 @@
 pub mod Load
+pub mod Answers
+pub mod Accepts
+pub mod Cases

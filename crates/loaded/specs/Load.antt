@@ -3,6 +3,7 @@
 --
 --   field s i off on     the number at place i of the file s: `on` its value and the next place, or `off` a refusal
 --   Front                the number of letters and where they stand, or a refusal
+--   lettersAt s i        what s shows at place i, where the number of letters stands
 --   front s              what the file s shows up to its letters
 --   Two                  two numbers and the next place, or a refusal
 --   twoAt s i            what s shows at place i
@@ -38,13 +39,11 @@ pub data Front : Type 0 where
   letters : ℕ → ℕ → Front
   stop : ℕ → ℕ → Front
 
+abbrev pub lettersAt : List ℕ → ℕ → Front
+lettersAt s i = field s i stop (λ m j. cond (leb 1 m && leb m longestWord) (cond (leb (j + m) (length s)) (letters m j) (stop 5 (length s))) (stop 8 i))
+
 unfoldable pub front : List ℕ → Front
-front s =
-    field s 0 stop (λ e i. cond (eqb e edition)
-    (field s i stop (λ m j. cond (leb 1 m && leb m longestWord)
-    (cond (leb (j + m) (length s)) (letters m j) (stop 5 (length s)))
-    (stop 8 i)))
-    (stop 7 0))
+front s = field s 0 stop (λ e i. cond (eqb e edition) (lettersAt s i) (stop 7 0))
 
 -- ── Arrows ─────────────────────────────────────────────────────────────────
 

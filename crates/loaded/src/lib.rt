@@ -1,1 +1,148 @@
-// Loading a saved file: reading it field by field and comparing its arrows with the word's own. Serves the entries.
+// Loading a saved file: reading it field by field and comparing its arrows with the word's own. Nothing is written here. Serves the entries.
+ghost use mathlib.Core.Path.{_≡_};
+ghost use Rattle.number.specs.Number.{numberAt};
+ghost use Rattle.saved.specs.File.{ownSteps};
+ghost use Rattle.saved.specs.Stepping.{Tabled};
+ghost use Rattle.loaded.specs.Load.{front, lettersAt, twoAt, arrowsAt, verdict};
+ghost use Rattle.loaded.specs.Answers.{headOf, pairOf, verdictOf};
+use number::Cursor;
+use number::Number;
+use number::Reader;
+
+// The edition that is read, and no other.
+const EDITION: u32 = 1;
+
+// The number that the file shows at a place. Loading keeps a reader over the lent file and its place, and this is where it reads on.
+fn number_at(file: &[u8], at: usize) -> Number
+    ensures { λ r. ⌜ r ≡ numberAt (now (file .entry)) at ⌝ }
+{
+    number::next(Reader { file, at })
+}
+
+// How many letters, and where they stand; or the refusal and where it shows.
+pub enum Head {
+    Letters(usize, usize),
+    Stop(u8, usize),
+}
+
+// The file up to its letters, from the number of letters on.
+fn read_letters(file: &[u8], c: Cursor) -> Head
+    ensures { λ r. ⌜ headOf r ≡ lettersAt (now (file .entry)) (c .at) ⌝ }
+{
+    let declared = number_at(file, c.at);
+    match declared {
+        Number::Refused(why, place) => Head::Stop(why, place),
+        Number::Value(size, next) => {
+            let m = size as usize;
+            if !((1 <= m) & (m <= words::WORD_LIMIT)) {
+                return Head::Stop(8, c.at);
+            }
+            if file.len() - next.at < m {
+                return Head::Stop(5, file.len());
+            }
+            Head::Letters(m, next.at)
+        }
+    }
+}
+
+// The file up to its letters.
+pub fn read_front(file: &[u8]) -> Head
+    ensures { λ r. ⌜ headOf r ≡ front (now (file .entry)) ⌝ }
+{
+    let first = number_at(file, 0);
+    match first {
+        Number::Refused(why, place) => Head::Stop(why, place),
+        Number::Value(edition, next) => {
+            if edition != EDITION {
+                return Head::Stop(7, 0);
+            }
+            read_letters(file, next)
+        }
+    }
+}
+
+// Two numbers and the next place; or the refusal and where it shows.
+pub enum Pair {
+    Both(u32, u32, usize),
+    Neither(u8, usize),
+}
+
+// The two numbers of an arrow.
+fn read_two(file: &[u8], c: Cursor) -> Pair
+    ensures { λ r. ⌜ pairOf r ≡ twoAt (now (file .entry)) (c .at) ⌝ }
+{
+    let first = number_at(file, c.at);
+    match first {
+        Number::Refused(why, place) => Pair::Neither(why, place),
+        Number::Value(a, between) => {
+            let second = number_at(file, between.at);
+            match second {
+                Number::Refused(why, place) => Pair::Neither(why, place),
+                Number::Value(b, next) => Pair::Both(a, b, next.at),
+            }
+        }
+    }
+}
+
+// The file's arrows are the word's own; or the refusal and where it shows.
+pub enum Verdict {
+    Right,
+    Wrong(u8, usize),
+}
+
+// So many declared arrows from a place of the file on, against all of the word's own.
+fn compare_arrows(word: &[u8], table: &[u16], file: &[u8], start: Cursor, declared: u32) -> Verdict
+    requires { ⌜ Tabled (now word) (now table) ⌝ }
+    ensures { λ r. ⌜ verdictOf r ≡ arrowsAt (now (file .entry)) (start .at) declared (ownSteps (now (word .entry))) ⌝ }
+{
+    let total = saved::arrow_count(word, table);
+    let mut at = start.at;
+    let mut left = declared;
+    let mut slot: usize = 0;
+    let mut from = words::State(0);
+    while left > 0 {
+        let two = read_two(file, Cursor { at });
+        match two {
+            Pair::Neither(why, place) => {
+                return Verdict::Wrong(why, place);
+            }
+            Pair::Both(up, over, next) => {
+                if slot >= total {
+                    return Verdict::Wrong(10, at);
+                }
+                let own = saved::next_step(word, table, from, slot);
+                if !((up == own.up) & (over == own.over)) {
+                    return Verdict::Wrong(10, at);
+                }
+                at = next;
+                left -= 1;
+                slot += 1;
+                from = own.source;
+            }
+        }
+    }
+    if slot < total {
+        return Verdict::Wrong(10, at);
+    }
+    if at < file.len() {
+        return Verdict::Wrong(11, at);
+    }
+    Verdict::Right
+}
+
+// The file from a place on, where the number of arrows stands, against a word and its table.
+pub fn compare(word: &[u8], table: &[u16], file: &[u8], at: usize) -> Verdict
+    requires { ⌜ Tabled (now word) (now table) ⌝ }
+    ensures { λ r. ⌜ verdictOf r ≡ verdict (now (file .entry)) at (now (word .entry)) ⌝ }
+{
+    let count = number_at(file, at);
+    match count {
+        Number::Refused(why, place) => Verdict::Wrong(why, place),
+        Number::Value(declared, next) => {
+            if declared as usize > word.len() - 1 {
+                return Verdict::Wrong(9, at);
+            }
+            compare_arrows(word, table, file, next, declared)
+        }
+    }
+}

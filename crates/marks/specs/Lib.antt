@@ -1,3 +1,6 @@
 pub mod Answers
 pub mod Build
 pub mod Search
+pub mod Save
+pub mod Load
+pub mod SearchFile

@@ -4,17 +4,19 @@ use mathlib.Core.Path.{_≡_, refl, sym, ap, _∙_}
 use mathlib.Core.Bool.{true}
 use mathlib.Core.Logic.{_⊎_, inl, inr, _≢_}
 use mathlib.Core.Option.{Option, none, some}
-use mathlib.Core.List.{List, [], _∷_, _++_, map, append-nil, append-assoc, List·Memᴰ, List·Memᴰ·head, List·Memᴰ·tail, List·Memᴰ·append-cases, Memᴰ·of-map}
+use mathlib.Core.List.{List, [], _∷_, _++_, map, append-nil, append-assoc, List·Memᴰ, List·Memᴰ·head, List·Memᴰ·tail, List·Memᴰ·append-cases, Memᴰ·map, Memᴰ·of-map}
 use Prim.Native.Nat.{ℕ, zero, suc, pred, _+_, _-_, _≤_, _<_}
 use native.Mathlib.Decide.{ℕ-discrete}
 use native.Mathlib.Omega.{arith}
-use lib.ListN.{length, getD, length-append, length-map}
+use lib.ListN.{length, getD, length-append, length-map, List·getD-append, List·getD-map}
+use lib.Seq.{getD-append-add}
 use borrow.Author.Tests.{eqb-true, eq-eqb}
+use Rattle.words.specs.Lists.{from, only}
 use Rattle.words.specs.Words.{Word, letter}
 use Rattle.words.proofs.Lists.{only-in, in-only, from-in, in-from, Rising, end, up, rising-above, rising-from}
 use Rattle.oracle.specs.Arrows.{State, Arrow, arrow, Delta, spine}
 use Rattle.oracle.specs.SuffixRule.{extraArrows, suffixRule, oracle}
-use Rattle.oracle.specs.FileOrder.{leadsTo, extraTargets, targetsBefore}
+use Rattle.oracle.specs.FileOrder.{leadsTo, extraTargets, targetsBefore, Extra, extra, extrasBefore}
 use Rattle.oracle.proofs.Targets.{target-member}
 use Rattle.oracle.proofs.Count.{extra-arrows-few}
 
@@ -31,6 +33,21 @@ entry-below : {b : ℕ} (l : List ℕ) (i : ℕ) → ((y : ℕ) → List·Memᴰ
 entry-below [] i f = omega arith
 entry-below (y ∷ l) zero f = f y (List·Memᴰ·head refl)
 entry-below (y ∷ l) (suc i) f = entry-below l i (λ z m. f z (List·Memᴰ·tail m))
+
+entry-in : {A : Type 0} (l : List A) (i : ℕ) (d : A) → i < length l → List·Memᴰ (getD l i d) l
+entry-in [] i d h = absurd (omega arith)
+entry-in (a ∷ l) zero d h = List·Memᴰ·head refl
+entry-in (a ∷ l) (suc i) d h = List·Memᴰ·tail (entry-in l i d (omega arith))
+
+-- arrows and targets, each behind equally many
+behind-both : (E : List Extra) (T l : List State) (x s : ℕ) → length E ≡ length T → length T ≤ s
+    → getD (E ++ map (extra x) l) s (extra x 0) ≡ extra x (getD (T ++ l) s 0)
+behind-both E T l x s e h =
+    let p : length E + (s - length T) ≡ s = omega arith in
+    let q : length T + (s - length T) ≡ s = omega arith in
+    let left = getD-append-add E (map (extra x) l) (s - length T) (extra x 0) in
+    let right = getD-append-add T l (s - length T) 0 in
+    (rw p at left) ∙ List·getD-map (extra x) l (s - length T) 0 ∙ ap (extra x) (sym (rw q at right))
 
 module _ (δ : Delta) (p : Word) where
   -- ── The extra targets of a state ─────────────────────────────────────────
@@ -91,6 +108,71 @@ module _ (δ : Delta) (p : Word) where
   pub before-at : (k : State) (s : ℕ) → getD (targetsBefore δ p k) s 0 ≤ length p
   before-at k s = entry-below (targetsBefore δ p k) s (λ y m. before-bound k m)
 
+  -- the last state has none
+  pub before-last : targetsBefore δ p (suc (length p)) ≡ targetsBefore δ p (length p)
+  unfolding targetsBefore extraTargets from only
+  before-last = let e : length p - suc (length p) ≡ 0 = omega arith in rw e (append-nil (targetsBefore δ p (length p)))
+
+  -- ── The arrows of all states ─────────────────────────────────────────────
+
+  -- as many as targets
+  pub extras-length : (k : State) → length (extrasBefore δ p k) ≡ length (targetsBefore δ p k)
+  unfolding extrasBefore targetsBefore
+  extras-length zero = refl
+  extras-length (suc x) = simp (length-append, length-map, extras-length x)
+
+  -- each leaves a state before k and leads to one of its extra targets
+  pub extra-before : (k : State) {a : Extra} → List·Memᴰ a (extrasBefore δ p k) → (a .source < k) × List·Memᴰ (a .to) (extraTargets δ p (a .source))
+  unfolding extrasBefore
+  extra-before zero m = absurd (elim m [ ])
+  extra-before (suc k) {a} m = by (List·Memᴰ·append-cases (extrasBefore δ p k) m) (extra-before k)
+    where
+      Found : State → Type 0
+      Found k = (a .source < k) × List·Memᴰ (a .to) (extraTargets δ p (a .source))
+
+      by : List·Memᴰ a (extrasBefore δ p k) ⊎ List·Memᴰ a (map (extra k) (extraTargets δ p k)) → (List·Memᴰ a (extrasBefore δ p k) → Found k) → Found (suc k)
+      by (inl n) rec = let r = rec n in (omega (arith, r .0), r .1)
+      by (inr n) rec = let r = Memᴰ·of-map (extra k) (extraTargets δ p k) n in rw (← r .2) (omega arith, r .1)
+
+  -- ── By slots ─────────────────────────────────────────────────────────────
+
+  -- the slots of x begin where those of the states before x end
+  abbrev pub SlotOf : State → ℕ → Type 0
+  SlotOf x s = (length (targetsBefore δ p x) ≤ s) × (s < length (targetsBefore δ p (suc x)))
+
+  module _ {x : State} {s : ℕ} (own : SlotOf x s) where
+    slot-inside : (k : State) → x < k → s < length (extrasBefore δ p k)
+    slot-inside k h = omega (arith, own .1, extras-length k, before-length x, before-room x k h)
+
+    -- a slot of x holds an arrow that leaves x
+    pub slot-arrow : (k : State) → x < k → getD (extrasBefore δ p k) s (extra x 0) ≡ extra x (getD (targetsBefore δ p k) s 0)
+    unfolding extrasBefore targetsBefore
+    slot-arrow zero h = absurd (omega arith)
+    slot-arrow (suc k) h = by (ℕ-discrete x k) (slot-arrow k)
+      where
+        E : List Extra
+        E = extrasBefore δ p k
+
+        T : List State
+        T = targetsBefore δ p k
+
+        Says : List Extra → List State → Type 0
+        Says e t = getD e s (extra x 0) ≡ extra x (getD t s 0)
+
+        by : Dec (x ≡ k) → (x < k → Says E T) → Says (E ++ map (extra k) (extraTargets δ p k)) (T ++ extraTargets δ p k)
+        by (yes e) rec = rw e (behind-both E T (extraTargets δ p k) k s (extras-length k) (rw e at (own .0)))
+        by (no e) rec =
+            let i = slot-inside k (omega arith) in
+            List·getD-append E _ (extra x 0) s i ∙ rec (omega arith) ∙ ap (extra x) (sym (List·getD-append T _ 0 s (omega (arith, extras-length k))))
+
+    -- and its target is one of x
+    pub slot-target : (k : State) → x < k → (x + 2 ≤ getD (targetsBefore δ p k) s 0) × (getD (targetsBefore δ p k) s 0 ≤ length p)
+    slot-target k h =
+        let y = getD (targetsBefore δ p k) s 0 in
+        let m : List·Memᴰ (extra x y) (extrasBefore δ p k) = rw (slot-arrow k h) at (entry-in (extrasBefore δ p k) s (extra x 0) (slot-inside k h)) in
+        let t = extra-target x (extra-before k m .1) in
+        (t .0, t .1)
+
 -- ── Without repetition, each in another list ───────────────────────────────
 
 -- nothing stands twice
@@ -134,62 +216,40 @@ module _ {A : Type 0} where
 -- ── As few as the extra arrows ─────────────────────────────────────────────
 
 module _ (δ : Delta) (p : Word) where
-  -- the arrow from x into y carries y's letter
-  abbrev arrowInto : State → State → Arrow
-  arrowInto x y = arrow x (letter p (pred y)) y
-
-  -- the arrows whose targets are listed, in the same order
-  arrowsBefore : State → List Arrow
-  arrowsBefore zero = []
-  arrowsBefore (suc x) = arrowsBefore x ++ map (arrowInto x) (extraTargets δ p x)
-
-  arrows-length : (k : State) → length (arrowsBefore k) ≡ length (targetsBefore δ p k)
-  unfolding targetsBefore arrowsBefore
-  arrows-length zero = refl
-  arrows-length (suc x) = simp (length-append, length-map, arrows-length x)
-
-  arrow-before : (k : State) (a : Arrow) → List·Memᴰ a (arrowsBefore k)
-      → (x : State) × (y : State) × (x < k) × List·Memᴰ y (extraTargets δ p x) × (a ≡ arrowInto x y)
-  unfolding arrowsBefore
-  arrow-before zero a m = absurd (elim m [ ])
-  arrow-before (suc k) a m = by (List·Memᴰ·append-cases (arrowsBefore k) m) (arrow-before k a)
-    where
-      Found : State → Type 0
-      Found k = (x : State) × (y : State) × (x < k) × List·Memᴰ y (extraTargets δ p x) × (a ≡ arrowInto x y)
-
-      by : List·Memᴰ a (arrowsBefore k) ⊎ List·Memᴰ a (map (arrowInto k) (extraTargets δ p k)) → (List·Memᴰ a (arrowsBefore k) → Found k) → Found (suc k)
-      by (inl n) rec = let r = rec n in (r .0, r .1, omega (arith, r .2), r .3, r .4)
-      by (inr n) rec = let r = Memᴰ·of-map (arrowInto k) (extraTargets δ p k) n in (k, r .0, omega arith, r .1, sym (r .2))
-
-  rising-distinct : (x : State) {a : State} {l : List State} → Rising a l → Distinct (map (arrowInto x) l)
+  rising-distinct : (x : State) {a : State} {l : List State} → Rising a l → Distinct (map (extra x) l)
   rising-distinct x end = empty
   rising-distinct x (up {x = y} {l = l} h r) = more other (rising-distinct x r)
     where
-      other : (b : Arrow) → List·Memᴰ b (map (arrowInto x) l) → b ≢ arrowInto x y
+      other : (b : Extra) → List·Memᴰ b (map (extra x) l) → b ≢ extra x y
       other b m e =
-          let s = Memᴰ·of-map (arrowInto x) l m in
-          let q : s .0 ≡ y = ap (λ (d : Arrow). d .to) (s .2 ∙ e) in
+          let s = Memᴰ·of-map (extra x) l m in
+          let q : s .0 ≡ y = ap (λ (d : Extra). d .to) (s .2 ∙ e) in
           omega (arith, rising-above r (s .1))
 
-  arrows-distinct : (k : State) → Distinct (arrowsBefore k)
-  unfolding arrowsBefore
-  arrows-distinct zero = empty
-  arrows-distinct (suc x) = distinct-append (arrows-distinct x) (rising-distinct x (extra-targets-rise δ p x)) apart
+  extras-distinct : (k : State) → Distinct (extrasBefore δ p k)
+  unfolding extrasBefore
+  extras-distinct zero = empty
+  extras-distinct (suc x) = distinct-append (extras-distinct x) (rising-distinct x (extra-targets-rise δ p x)) apart
     where
-      apart : (a b : Arrow) → List·Memᴰ a (arrowsBefore x) → List·Memᴰ b (map (arrowInto x) (extraTargets δ p x)) → b ≢ a
+      apart : (a b : Extra) → List·Memᴰ a (extrasBefore δ p x) → List·Memᴰ b (map (extra x) (extraTargets δ p x)) → b ≢ a
       apart a b m n e =
-          let r = arrow-before x a m in
-          let s = Memᴰ·of-map (arrowInto x) (extraTargets δ p x) n in
-          let q : x ≡ r .0 = ap (λ (d : Arrow). d .source) (s .2 ∙ e ∙ r .4) in
-          omega (arith, r .2)
+          let s = Memᴰ·of-map (extra x) (extraTargets δ p x) n in
+          let q : x ≡ a .source = ap (λ (d : Extra). d .source) (s .2 ∙ e) in
+          omega (arith, extra-before δ p x m .0)
 
   -- where E has every extra arrow, the list of all targets is no longer than E
   pub extras-fit : (E : List Arrow) → ((x y : State) → x + 2 ≤ y → y ≤ length p → δ x (letter p (pred y)) ≡ some y → List·Memᴰ (arrow x (letter p (pred y)) y) E)
       → (k : State) → length (targetsBefore δ p k) ≤ length E
-  extras-fit E f k = rw (arrows-length k) at (pigeonhole (arrows-distinct k) E inside)
+  extras-fit E f k = omega (arith, extras-length δ p k, length-map E ends, pigeonhole (extras-distinct k) (map ends E) inside)
     where
-      inside : (a : Arrow) → List·Memᴰ a (arrowsBefore k) → List·Memᴰ a E
-      inside a m = let r = arrow-before k a m in let t = extra-target δ p (r .0) (r .3) in rw (r .4) (f (r .0) (r .1) (t .0) (t .1) (t .2))
+      ends : Arrow → Extra
+      ends a = extra (a .source) (a .to)
+
+      inside : (a : Extra) → List·Memᴰ a (extrasBefore δ p k) → List·Memᴰ a (map ends E)
+      inside a m =
+          let r = extra-before δ p k m in
+          let t = extra-target δ p (a .source) (r .1) in
+          Memᴰ·map ends (f (a .source) (a .to) (t .0) (t .1) (t .2))
 
 -- ── The spine has no extra arrow ───────────────────────────────────────────
 

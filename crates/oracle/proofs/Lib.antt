@@ -9,4 +9,5 @@ pub mod Shortest
 pub mod Supply
 pub mod Count
 pub mod FileOrder
+pub mod FileArrows
 pub mod Theorems

@@ -10,7 +10,8 @@ ghost use Rattle.table.specs.Table.{tableOf, readArrow};
 ghost use Rattle.table.specs.Formed.{Formed};
 ghost use Rattle.table.specs.Layout.{Fits, Unchained, Laid};
 
-fn clear(entries: &mut [u16])
+// Zeros.
+pub fn clear(entries: &mut [u16])
     ensures { λ _. ⌜ now (entries .exit) ≡ replicate (length (now (entries .entry))) 0 ⌝ }
 {
     let mut i = 0;

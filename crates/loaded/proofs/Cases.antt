@@ -1,0 +1,154 @@
+-- The ways of `specs/Cases` are those that `front`, `arrowsAt` and `verdict` go: for each, first that some way leads to what it shows, then that every way
+-- that applies leads there.
+use mathlib.Core.Path.{_≡_, refl}
+use mathlib.Core.Bool.{Bool, true, false, _&&_, cond}
+use mathlib.Core.Logic.{_⊎_, inl, inr}
+use mathlib.Core.List.{List, [], _∷_}
+use Prim.Native.Nat.{ℕ, zero, suc, _+_, _-_, _≤_, _<_}
+use native.Mathlib.Omega.{arith}
+use lib.ListN.{length}
+use lib.Dec.{eqb, leb, ltb}
+use borrow.Author.Tests.{eqb-true, eqb-false, leb-true, leb-false, ltb-true, ltb-false, eq-eqb, ne-eqb, le-leb, lt-leb, lt-ltb, le-ltb}
+use Rattle.words.specs.Words.{Word, Place}
+use Rattle.words.specs.Limits.{longestWord}
+use Rattle.words.proofs.Lists.{and-true}
+use Rattle.number.specs.declared.Number.{Number}
+use Rattle.number.specs.declared.Number.the-variants.{Value, Refused}
+use Rattle.number.specs.Number.{numberAt}
+use Rattle.number.proofs.Theorems.{number-at-refused}
+use Rattle.saved.specs.File.{edition, Step, ownSteps}
+use Rattle.loaded.specs.Load.{taking, field, Front, stop, front, neither, twoAt, Verdict, wrong, nextIs, compared, arrowsAt, verdict}
+use Rattle.loaded.specs.Cases.{Reads, Unread, cut-off, bad-byte}
+use Rattle.loaded.specs.Cases.{BadLength, FrontCase, edition-unread, edition-other, length-unread, length-bad, letters-missing, letters-there}
+use Rattle.loaded.specs.Cases.{ArrowsCase, arrow-agrees, up-unread, over-unread, arrow-differs, no-arrow-left, arrows-missing, leftovers, all-read}
+use Rattle.loaded.specs.Cases.{VerdictCase, count-unread, count-too-large, count-fits}
+
+-- ── A number ───────────────────────────────────────────────────────────────
+
+unread : {s : List ℕ} {i : Place} {r : ℕ} {p : Place} → Unread s i r p → numberAt s i ≡ Refused r p
+unread (cut-off e) = e
+unread (bad-byte e) = e
+
+refused-unread : (s : List ℕ) (i : Place) {r : ℕ} {p : Place} → numberAt s i ≡ Refused r p → Unread s i r p
+refused-unread s i {r} {p} e = by (number-at-refused s i e)
+  where
+    by : ((r ≡ 5) × (p ≡ length s)) ⊎ ((r ≡ 6) × (i ≤ p) × (p < length s)) → Unread s i r p
+    by (inl q) = rw (q .0, q .1) (cut-off (rw (q .0, q .1) at e))
+    by (inr q) = rw (q .0) (bad-byte (rw (q .0) at e))
+
+-- ── Fields and tests, by cases ─────────────────────────────────────────────
+
+module _ {A : Type 0} (P : A → Type 0) where
+  field-case : (s : List ℕ) (i : Place) (off on : ℕ → ℕ → A)
+      → ((r : ℕ) (p : Place) → Unread s i r p → P (off r p)) → ((v : ℕ) (j : Place) → Reads s i v j → P (on v j)) → P (field s i off on)
+  field-case s i off on f g = by (numberAt s i) refl
+    where
+      by : (x : Number) → numberAt s i ≡ x → P (taking x off on)
+      by (Value v c) e = g v (c .at) e
+      by (Refused r p) e = f r p (refused-unread s i e)
+
+  test-case : (b : Bool) {x y : A} → (b ≡ true → P x) → (b ≡ false → P y) → P (cond b x y)
+  test-case true f g = f refl
+  test-case false f g = g refl
+
+  most-case : (a b : ℕ) {x y : A} → (a ≤ b → P x) → (b < a → P y) → P (cond (leb a b) x y)
+  most-case a b f g = test-case (leb a b) (λ t. f (leb-true a b t)) (λ t. g (leb-false a b t))
+
+  length-case : (m : ℕ) {x y : A} → (1 ≤ m → m ≤ longestWord → P x) → (BadLength m → P y) → P (cond (leb 1 m && leb m longestWord) x y)
+  length-case zero f g = g (inl refl)
+  length-case (suc m) f g =
+      rw (le-leb 1 (suc m) (omega arith)) (most-case (suc m) longestWord (λ h. f (omega arith) h) (λ h. g (inr h)))
+
+-- whether two numbers are those of the arrow t
+module _ (a b : ℕ) (t : Step) where
+  next-differs : (eqb a (t .up) && eqb b (t .over)) ≡ false → a ≡ t .up → b ≡ t .over → ⊥
+  next-differs e x y = let z : _≡_ {A = ℕ} 0 1 = cc (e, eq-eqb a (t .up) x, eq-eqb b (t .over) y) in omega arith
+
+  differs-next : (a ≡ t .up → b ≡ t .over → ⊥) → (eqb a (t .up) && eqb b (t .over)) ≡ false
+  differs-next d = by (eqb a (t .up)) (eqb b (t .over)) refl refl
+    where
+      by : (x y : Bool) → eqb a (t .up) ≡ x → eqb b (t .over) ≡ y → (x && y) ≡ false
+      by true true e f = absurd (d (eqb-true a (t .up) e) (eqb-true b (t .over) f))
+      by true false e f = refl
+      by false y e f = refl
+
+module _ (s : List ℕ) where
+  -- ── Up to the letters ────────────────────────────────────────────────────
+
+  -- some way leads to what is shown
+  pub front-case : FrontCase s (front s)
+  unfolding front
+  front-case =
+      field-case (FrontCase s) s 0 stop _ (λ r p u. edition-unread u) (λ e i h.
+      test-case (FrontCase s) (eqb e edition) (λ t. let g : Reads s 0 edition i = rw (eqb-true e edition t) at h in
+      field-case (FrontCase s) s i stop _ (λ r p u. length-unread g u) (λ m j k.
+      length-case (FrontCase s) m (λ least most.
+      most-case (FrontCase s) (j + m) (length s) (λ d. letters-there g k least most d) (λ d. letters-missing g k least most d))
+      (λ d. length-bad g k d)))
+      (λ t. edition-other h (eqb-false e edition t)))
+
+  -- and every way that applies leads there
+  pub case-front : {f : Front} → FrontCase s f → front s ≡ f
+  unfolding front
+  case-front (edition-unread u) = rw (unread u)
+  case-front (edition-other {e = e} h d) = rw (h, ne-eqb e edition d)
+  case-front (length-unread h u) = rw (h, eq-eqb edition edition refl, unread u)
+  case-front (length-bad {m = m} h k (inl z)) = rw (h, eq-eqb edition edition refl, k, lt-leb 1 m (omega arith))
+  case-front (length-bad {m = m} h k (inr z)) = rw (h, eq-eqb edition edition refl, k, le-leb 1 m (omega arith), lt-leb m longestWord z)
+  case-front (letters-missing {m = m} {j = j} h k a b c) =
+      rw (h, eq-eqb edition edition refl, k, le-leb 1 m a, le-leb m longestWord b, lt-leb (j + m) (length s) c)
+  case-front (letters-there {m = m} {j = j} h k a b c) =
+      rw (h, eq-eqb edition edition refl, k, le-leb 1 m a, le-leb m longestWord b, le-leb (j + m) (length s) c)
+
+  -- ── The arrows ───────────────────────────────────────────────────────────
+
+  two-case : {C : Type 0} (P : C → Type 0) (i : Place) (off : ℕ → ℕ → C) (on : ℕ → ℕ → ℕ → C)
+      → ((r : ℕ) (p : Place) → Unread s i r p → P (off r p))
+      → ((a : ℕ) (j : Place) (r : ℕ) (p : Place) → Reads s i a j → Unread s j r p → P (off r p))
+      → ((a : ℕ) (j : Place) (b : ℕ) (k : Place) → Reads s i a j → Reads s j b k → P (on a b k)) → P (compared (twoAt s i) off on)
+  unfolding twoAt
+  two-case P i off on f g h =
+      field-case (λ t. P (compared t off on)) s i neither _ f (λ a j x.
+      field-case (λ t. P (compared t off on)) s j neither _ (λ r p u. g a j r p x u) (λ b k y. h a j b k x y))
+
+  -- some way leads to what is shown
+  pub arrows-case : (i : Place) (n : ℕ) (l : List Step) → ArrowsCase s i n l (arrowsAt s i n l)
+  unfolding arrowsAt
+  arrows-case i zero [] =
+      test-case (ArrowsCase s i zero []) (ltb i (length s)) (λ t. leftovers (ltb-true i (length s) t)) (λ t. all-read (ltb-false i (length s) t))
+  arrows-case i zero (t ∷ l) = arrows-missing
+  arrows-case i (suc n) [] =
+      two-case (ArrowsCase s i (suc n) []) i wrong _ (λ r p u. up-unread u) (λ a j r p h u. over-unread h u) (λ a j b k h g. no-arrow-left h g)
+  arrows-case i (suc n) (t ∷ l) =
+      two-case (ArrowsCase s i (suc n) (t ∷ l)) i wrong _ (λ r p u. up-unread u) (λ a j r p h u. over-unread h u) (λ a j b k h g.
+      test-case (ArrowsCase s i (suc n) (t ∷ l)) (nextIs a b (t ∷ l)) (λ e. let q = and-true {a = eqb a (t .up)} e in
+      arrow-agrees (rw (eqb-true a (t .up) (q .0)) at h) (rw (eqb-true b (t .over) (q .1)) at g) (arrows-case k n l))
+      (λ e. arrow-differs h g (next-differs a b t e)))
+
+  -- and every way that applies leads there
+  pub case-arrows : {i : Place} {n : ℕ} {l : List Step} {v : Verdict} → ArrowsCase s i n l v → arrowsAt s i n l ≡ v
+  unfolding arrowsAt twoAt
+  case-arrows (arrow-agrees {t = t} h g c) = rw (h, g, eq-eqb (t .up) (t .up) refl, eq-eqb (t .over) (t .over) refl) (case-arrows c)
+  case-arrows (up-unread u) = rw (unread u)
+  case-arrows (over-unread h u) = rw (h, unread u)
+  case-arrows (arrow-differs {a = a} {b = b} {t = t} h g d) = rw (h, g, differs-next a b t d)
+  case-arrows (no-arrow-left h g) = rw (h, g)
+  case-arrows arrows-missing = refl
+  case-arrows (leftovers {i = i} h) = rw (lt-ltb i (length s) h)
+  case-arrows (all-read {i = i} h) = rw (le-ltb i (length s) h)
+
+  -- ── The verdict ──────────────────────────────────────────────────────────
+
+  -- some way leads to what is shown
+  pub verdict-case : (i : Place) (w : Word) → VerdictCase s i w (verdict s i w)
+  unfolding verdict
+  verdict-case i w =
+      field-case (VerdictCase s i w) s i wrong _ (λ r p u. count-unread u) (λ n j h.
+      most-case (VerdictCase s i w) n (length w - 1) (λ d. count-fits h d (arrows-case j n (ownSteps w))) (λ d. count-too-large h d))
+
+  -- and every way that applies leads there
+  pub case-verdict : {i : Place} {w : Word} {v : Verdict} → VerdictCase s i w v → verdict s i w ≡ v
+  unfolding verdict
+  case-verdict (count-unread u) = rw (unread u)
+  case-verdict {w = w} (count-too-large {n = n} h g) = rw (h, lt-leb n (length w - 1) g)
+  case-verdict {w = w} (count-fits {n = n} h g c) = rw (h, le-leb n (length w - 1) g) (case-arrows c)

@@ -1,0 +1,87 @@
+-- A number of the file by its place: one that stands there is read, and what is read stays so when more bytes follow. That what is read stood there
+-- is a law of the numbers, `number-at-stood`.
+use mathlib.Core.Path.{_≡_, refl, sym, ap, _∙_}
+use mathlib.Core.Logic.{_⊎_, inl, inr}
+use mathlib.Core.List.{List, _++_}
+use Prim.Native.Nat.{ℕ, _+_, _≤_, _<_}
+use native.Mathlib.Decide.{decLe}
+use native.Mathlib.Omega.{arith}
+use lib.ListN.{length, drop, length-drop, drop-of-length-le}
+use lib.Seq.{drop-drop, drop-append-seam, drop-append-le}
+use Rattle.words.specs.Words.{Place}
+use Rattle.number.specs.declared.Cursor.{Cursor}
+use Rattle.number.specs.declared.Number.the-variants.{Value, Refused}
+use Rattle.number.specs.Number.{greatest, spellNumber, Seen, number, ends, refused, see, seeNumber, placed, numberAt}
+use Rattle.number.proofs.Seeing.{Within, see-within}
+use Rattle.number.proofs.Theorems.{spelling-length, read-append, number-at-spelled, number-at-cut}
+use Rattle.loaded.specs.Cases.{Reads, Unread, cut-off, bad-byte}
+
+-- ── Numbers that stand there ───────────────────────────────────────────────
+
+-- v is read at place i, and l stands behind it
+pub record ReadsBefore (s : List ℕ) (i v : ℕ) (l : List ℕ) : Type 0 where
+  pub next : Place
+  pub read : Reads s i v next
+  pub rest : drop next s ≡ l
+
+-- a number that stands there is read
+pub reads-spelled : (s : List ℕ) (i v : ℕ) {l : List ℕ} → v ≤ greatest → drop i s ≡ spellNumber v ++ l → ReadsBefore s i v l
+reads-spelled s i v {l} h e = record {
+  next = i + length (spellNumber v);
+  read = number-at-spelled s i v l h e;
+  rest = sym (drop-drop (length (spellNumber v)) i s) ∙ ap (drop (length (spellNumber v))) e ∙ drop-append-seam (spellNumber v) l;
+}
+
+-- ── Where they stand ───────────────────────────────────────────────────────
+
+module _ (s : List ℕ) (i : Place) where
+  -- a number that is read has at least one byte, and ends within the file
+  pub reads-inside : {v : ℕ} {j : Place} → Reads s i v j → (i < j) × (j ≤ length s)
+  unfolding numberAt seeNumber
+  reads-inside {v} {j} e = by (see 0 (drop i s)) (see-within 0 (drop i s)) e
+    where
+      by : (g : Seen) → Within 0 (length (drop i s)) g → {c : Cursor} → placed s i g ≡ Value v c → (i < c .at) × (c .at ≤ length s)
+      by (number u n) w {c} q = let r : c .at ≡ i + n = cc in (omega arith, omega (arith, length-drop i s))
+      by ends w q = let z : _≡_ {A = ℕ} 0 1 = cc in absurd (omega arith)
+      by (refused n) w q = let z : _≡_ {A = ℕ} 0 1 = cc in absurd (omega arith)
+
+  -- ── With more bytes behind ───────────────────────────────────────────────
+
+  module _ (x : List ℕ) where
+    -- they change nothing, unless the file ends before or inside the number
+    number-longer : (numberAt s i ≡ Refused 5 (length s)) ⊎ (numberAt (s ++ x) i ≡ numberAt s i)
+    unfolding numberAt
+    number-longer = by-place (decLe i (length s))
+      where
+        Same : Type 0
+        Same = (numberAt s i ≡ Refused 5 (length s)) ⊎ (numberAt (s ++ x) i ≡ numberAt s i)
+
+        by-seen : (g : Seen) → seeNumber (drop i s) ≡ g → seeNumber (drop i (s ++ x)) ≡ g → Same
+        by-seen (number v n) e q = inr (rw (q, e))
+        by-seen ends e q = inl (rw e)
+        by-seen (refused n) e q = inr (rw (q, e))
+
+        by : (seeNumber (drop i s) ≡ ends) ⊎ (seeNumber (drop i s ++ x) ≡ seeNumber (drop i s)) → i ≤ length s → Same
+        by (inl e) h = inl (rw e)
+        by (inr e) h = by-seen (seeNumber (drop i s)) refl (rw (drop-append-le i s x h) e)
+
+        by-place : Dec (i ≤ length s) → Same
+        by-place (yes h) = by (read-append (drop i s) x) h
+        by-place (no h) = inl (number-at-cut s i {v = 0} {n = 0} (omega arith) (spelling-length 0 .0) (drop-of-length-le s {i = i} (omega arith)))
+
+    -- what was read is read
+    pub reads-longer : {v : ℕ} {j : Place} → Reads s i v j → Reads (s ++ x) i v j
+    reads-longer {v} {j} h = by number-longer
+      where
+        by : (numberAt s i ≡ Refused 5 (length s)) ⊎ (numberAt (s ++ x) i ≡ numberAt s i) → Reads (s ++ x) i v j
+        by (inl e) = let z : _≡_ {A = ℕ} 0 1 = cc in absurd (omega arith)
+        by (inr e) = e ∙ h
+
+    -- what was refused is refused, unless the file ended too soon
+    pub unread-longer : {r : ℕ} {p : Place} → Unread s i r p → ((r ≡ 5) × (p ≡ length s)) ⊎ Unread (s ++ x) i r p
+    unread-longer (cut-off e) = inl (refl, refl)
+    unread-longer (bad-byte {p = p} e) = inr (bad-byte (by number-longer))
+      where
+        by : (numberAt s i ≡ Refused 5 (length s)) ⊎ (numberAt (s ++ x) i ≡ numberAt s i) → numberAt (s ++ x) i ≡ Refused 6 p
+        by (inl q) = let z : _≡_ {A = ℕ} 0 1 = cc in absurd (omega arith)
+        by (inr q) = q ∙ e

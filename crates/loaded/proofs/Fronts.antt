@@ -1,0 +1,72 @@
+-- THE FILE UP TO ITS LETTERS: what it shows, from the numbers that were read; and what a caller may take from the answer that the letters are there.
+use mathlib.Core.Path.{_≡_, refl}
+use mathlib.Core.Bool.{true, false, _&&_}
+use mathlib.Core.List.{List}
+use Prim.Native.Nat.{ℕ, _+_, _-_, _≤_, _<_}
+use native.Mathlib.Omega.{arith}
+use lib.ListN.{length}
+use lib.Dec.{leb}
+use borrow.Author.Tests.{le-leb, lt-leb, leb-true}
+use Rattle.words.specs.Limits.{longestWord}
+use Rattle.words.proofs.Lists.{and-true}
+use Rattle.words.proofs.Limits.{word-limit}
+use Rattle.number.specs.declared.Cursor.{Cursor}
+use Rattle.number.specs.declared.Number.the-variants.{Value}
+use Rattle.number.specs.Number.{numberAt}
+use Rattle.saved.specs.File.{edition}
+use Rattle.loaded.specs.Cases.{FrontCase, edition-unread, edition-other, length-unread, length-bad, letters-missing, letters-there}
+use Rattle.loaded.proofs.Cases.{front-case}
+use Rattle.loaded.specs.Load.{Front, letters, stop, lettersAt, front}
+
+-- the code's constant
+pub edition-number : edition ≡ 1
+unfolding edition
+edition-number = refl
+
+between : (m k : ℕ) → leb 1 m && leb m k ≡ true → (1 ≤ m) × (m ≤ k)
+between m k e = let tests = and-true {a = leb 1 m} {b = leb m k} e in (leb-true 1 m (tests .0), leb-true m k (tests .1))
+
+-- ── From the number of letters ─────────────────────────────────────────────
+
+module _ (s : List ℕ) (i : ℕ) {m : ℕ} {c : Cursor} (read : numberAt s i ≡ Value m c) where
+  -- it is 0 or above the limit
+  pub shows-other-size : leb 1 m && leb m 1024 ≡ false → stop 8 i ≡ lettersAt s i
+  shows-other-size off = simp (read, word-limit, off)
+
+  module _ (sized : leb 1 m && leb m 1024 ≡ true) where
+    -- the file ends before the last of the letters
+    pub shows-cut : length s - c .at < m → stop 5 (length s) ≡ lettersAt s i
+    shows-cut short = simp (read, word-limit, sized, lt-leb (c .at + m) (length s) (omega arith))
+
+    -- the letters are there
+    pub shows-letters : m ≤ length s - c .at → letters m (c .at) ≡ lettersAt s i
+    shows-letters there = simp (read, word-limit, sized, le-leb (c .at + m) (length s) (omega (arith, between m 1024 sized)))
+
+-- ── What a caller has ──────────────────────────────────────────────────────
+
+-- m letters, as many as are allowed, stand in the file s from place j on
+pub record LettersIn (s : List ℕ) (m j : ℕ) : Type 0 where
+  pub least : 1 ≤ m
+  pub most : m ≤ longestWord
+  pub inside : j + m ≤ length s
+
+-- the letters that are answered are there
+pub front-letters : (s : List ℕ) {m j : ℕ} → front s ≡ letters m j → LettersIn s m j
+front-letters s {m} {j} e = by (front-case s) e
+  where
+    never : {r p : ℕ} → stop r p ≡ letters m j → LettersIn s m j
+    never g = let z : _≡_ {A = ℕ} 0 1 = cc in absurd (omega arith)
+
+    same : {n k : ℕ} → LettersIn s n k → letters n k ≡ letters m j → LettersIn s m j
+    same {n} {k} I g =
+        let size : n ≡ m = cc in
+        let place : k ≡ j = cc in
+        record { least = omega (arith, I .least); most = omega (arith, I .most); inside = omega (arith, I .inside) }
+
+    by : {f : Front} → FrontCase s f → f ≡ letters m j → LettersIn s m j
+    by (edition-unread a) g = never g
+    by (edition-other a b) g = never g
+    by (length-unread a b) g = never g
+    by (length-bad a b d) g = never g
+    by (letters-missing a b d k h) g = never g
+    by (letters-there a b d l h) g = same (record { least = d; most = l; inside = h }) g

@@ -1,0 +1,152 @@
+-- THE THEOREMS on `saveSays`: each refusal exactly where it is tabled, what a refusal and a success leave, and that the promise allows one outcome.
+use mathlib.Core.Path.{_≡_, refl, sym, ap, _∙_}
+use mathlib.Core.List.{List, _++_}
+use Prim.Native.Nat.{ℕ, _≤_, _<_}
+use native.Mathlib.Decide.{decLt}
+use native.Mathlib.Omega.{arith}
+use lib.ListN.{length, take, drop, replicate}
+use lib.Seq.{take-at, drop-at}
+use borrow.Author.Tests.{lt-ltb, le-ltb}
+use Rattle.words.specs.Words.{Word}
+use Rattle.words.specs.Limits.{longestWord}
+use Rattle.words.proofs.Limits.{words-fit}
+use Rattle.table.specs.Table.{room, tableOf}
+use Rattle.table.proofs.Theorems.{table-size}
+use Rattle.saved.specs.File.{spell}
+use Rattle.saved.specs.Stepping.{Tabled}
+use Rattle.marks.specs.declared.Saved.{Saved}
+use Rattle.marks.specs.declared.Saved.the-variants.{Done, EmptyWord, LongWord, ShortRoom, ShortOutput}
+use Rattle.marks.specs.Answers.{done, refused, emptyWord, longWord, shortRoom, shortOutput}
+use Rattle.marks.specs.Save.{Outcome, outcome, answerOf, savedAs, saveSays}
+
+module _ (word : Word) (T O : List ℕ) where
+  abbrev m : ℕ
+  m = length word
+
+  abbrev size : ℕ
+  size = length (spell word)
+
+  -- what a save with too little output says, and one that is not refused
+  abbrev pub cleared : Outcome
+  cleared = outcome (refused shortOutput) (replicate (room m) 0 ++ drop (room m) T) O
+
+  abbrev pub written : Outcome
+  written = outcome (done size) (tableOf word ++ drop (room m) T) (spell word ++ drop size O)
+
+  -- ── Its cases, in the order of the tests ─────────────────────────────────
+
+  pub says-empty : m < 1 → saveSays word T O ≡ outcome (refused emptyWord) T O
+  unfolding saveSays
+  says-empty h = rw (lt-ltb m 1 h)
+
+  pub says-long : 1 ≤ m → longestWord < m → saveSays word T O ≡ outcome (refused longWord) T O
+  unfolding saveSays
+  says-long h l = rw (le-ltb m 1 h, lt-ltb longestWord m l)
+
+  pub says-short : 1 ≤ m → m ≤ longestWord → length T < room m → saveSays word T O ≡ outcome (refused shortRoom) T O
+  unfolding saveSays
+  says-short h l s = rw (le-ltb m 1 h, le-ltb longestWord m l, lt-ltb (length T) (room m) s)
+
+  pub says-full : 1 ≤ m → m ≤ longestWord → room m ≤ length T → length O < size → saveSays word T O ≡ cleared
+  unfolding saveSays
+  says-full h l s o = rw (le-ltb m 1 h, le-ltb longestWord m l, le-ltb (length T) (room m) s, lt-ltb (length O) size o)
+
+  pub says-done : 1 ≤ m → m ≤ longestWord → room m ≤ length T → size ≤ length O → saveSays word T O ≡ written
+  unfolding saveSays
+  says-done h l s o = rw (le-ltb m 1 h, le-ltb longestWord m l, le-ltb (length T) (room m) s, le-ltb (length O) size o)
+
+  -- ── When each is given ───────────────────────────────────────────────────
+
+  -- what 01's table says of each answer of save, in its order
+  pub data Case : Outcome → Type 0 where
+    empty : m < 1 → Case (outcome (refused emptyWord) T O)
+    long : 1 ≤ m → longestWord < m → Case (outcome (refused longWord) T O)
+    short : 1 ≤ m → m ≤ longestWord → length T < room m → Case (outcome (refused shortRoom) T O)
+    full : 1 ≤ m → m ≤ longestWord → room m ≤ length T → length O < size → Case cleared
+    good : 1 ≤ m → m ≤ longestWord → room m ≤ length T → size ≤ length O → Case written
+
+  -- every input is of one case, and its outcome is that case's
+  pub save-answers : Case (saveSays word T O)
+  save-answers = by (decLt m 1) (decLt longestWord m) (decLt (length T) (room m)) (decLt (length O) size)
+    where
+      by : Dec (m < 1) → Dec (longestWord < m) → Dec (length T < room m) → Dec (length O < size) → Case (saveSays word T O)
+      by (yes h) d e f = rw (says-empty h) (empty h)
+      by (no h) (yes l) e f = rw (says-long (omega arith) l) (long (omega arith) l)
+      by (no h) (no l) (yes s) f = rw (says-short (omega arith) (omega arith) s) (short (omega arith) (omega arith) s)
+      by (no h) (no l) (no s) (yes o) = rw (says-full (omega arith) (omega arith) (omega arith) o) (full (omega arith) (omega arith) (omega arith) o)
+      by (no h) (no l) (no s) (no o) = rw (says-done (omega arith) (omega arith) (omega arith) (omega arith)) (good (omega arith) (omega arith) (omega arith) (omega arith))
+
+  -- ── What it leaves ───────────────────────────────────────────────────────
+
+  -- a success: the file and nothing behind it, the word's table and nothing behind it
+  pub record Left (o : Outcome) : Type 0 where
+    pub file : take size (o .output) ≡ spell word
+    pub behind : drop size (o .output) ≡ drop size O
+    pub entries : take (room m) (o .tables) ≡ tableOf word
+    pub others : drop (room m) (o .tables) ≡ drop (room m) T
+
+  pub done-leaves : 1 ≤ m → m ≤ longestWord → room m ≤ length T → size ≤ length O → Left (saveSays word T O)
+  done-leaves h l s o = rw (says-done h l s o) (record {
+    file = take-at (spell word) (drop size O) size refl;
+    behind = drop-at (spell word) (drop size O) size refl;
+    entries = take-at (tableOf word) (drop (room m) T) (room m) (table-size word);
+    others = drop-at (tableOf word) (drop (room m) T) (room m) (table-size word);
+  })
+
+  -- ── What the code's steps come to ────────────────────────────────────────
+
+  -- P is what was filled, and R what stands behind it in the room
+  module _ {P : List ℕ} (R : List ℕ) (filled-in : P ≡ tableOf word) where
+    sized : length P ≡ room m
+    sized = ap length filled-in ∙ table-size word
+
+    lent : take (room m) (P ++ R) ≡ tableOf word
+    lent = take-at P R (room m) sized ∙ filled-in
+
+    pub lent-size : room m ≡ length (take (room m) (P ++ R))
+    lent-size = sym (ap length lent ∙ table-size word)
+
+    pub lent-tabled : 1 ≤ m → m ≤ longestWord → Tabled word (take (room m) (P ++ R))
+    lent-tabled h l = record { table = lent; least = h; most = omega (arith, words-fit) }
+
+    pub wiped : {C : List ℕ} → C ≡ replicate (length (take (room m) (P ++ R))) 0 → outcome (refused shortOutput) (C ++ drop (room m) (P ++ R)) O ≡ outcome (refused shortOutput) (replicate (room m) 0 ++ R) O
+    wiped c = rw (c, ← lent-size, drop-at P R (room m) sized)
+
+    pub put-out : {n : ℕ} {O′ : List ℕ} → n ≡ size → O′ ≡ spell word ++ drop size O → outcome (done n) (P ++ R) O′ ≡ outcome (done size) (tableOf word ++ R) (spell word ++ drop size O)
+    put-out n o = rw (n, o, filled-in)
+
+-- ── One outcome ────────────────────────────────────────────────────────────
+
+-- different answers of the code mean different things
+answer-one : (r s : Saved) → answerOf r ≡ answerOf s → r ≡ s
+answer-one (Done a) (Done b) e = cc
+answer-one (Done a) EmptyWord e = cc
+answer-one (Done a) LongWord e = cc
+answer-one (Done a) ShortRoom e = cc
+answer-one (Done a) ShortOutput e = cc
+answer-one EmptyWord (Done b) e = cc
+answer-one EmptyWord EmptyWord e = refl
+answer-one EmptyWord LongWord e = cc
+answer-one EmptyWord ShortRoom e = cc
+answer-one EmptyWord ShortOutput e = cc
+answer-one LongWord (Done b) e = cc
+answer-one LongWord EmptyWord e = cc
+answer-one LongWord LongWord e = refl
+answer-one LongWord ShortRoom e = cc
+answer-one LongWord ShortOutput e = cc
+answer-one ShortRoom (Done b) e = cc
+answer-one ShortRoom EmptyWord e = cc
+answer-one ShortRoom LongWord e = cc
+answer-one ShortRoom ShortRoom e = refl
+answer-one ShortRoom ShortOutput e = cc
+answer-one ShortOutput (Done b) e = cc
+answer-one ShortOutput EmptyWord e = cc
+answer-one ShortOutput LongWord e = cc
+answer-one ShortOutput ShortRoom e = cc
+answer-one ShortOutput ShortOutput e = refl
+
+-- two outcomes that the promise of save allows are equal
+pub save-one : (word : Word) (T O : List ℕ) (r s : Saved) (A B C D : List ℕ) → savedAs r A C ≡ saveSays word T O → savedAs s B D ≡ saveSays word T O → (r ≡ s) × (A ≡ B) × (C ≡ D)
+save-one word T O r s A B C D e f =
+    let g : savedAs r A C ≡ savedAs s B D = e ∙ sym f in
+    (answer-one r s (ap (λ o. o .answer) g), ap (λ o. o .tables) g, ap (λ o. o .output) g)

@@ -1,0 +1,78 @@
+-- THE THEOREMS on `searchFileSays`: 4 comes first, then loading decides, then the mirror of the file's word is searched for; and the promise allows one outcome.
+use mathlib.Core.Path.{_≡_, sym, ap, _∙_}
+use mathlib.Core.List.{List, reverse-reverse}
+use Prim.Native.Nat.{ℕ, _≤_, _<_}
+use native.Mathlib.Omega.{arith}
+use lib.ListN.{length, take}
+use lib.Seq.{length-take-le}
+use borrow.Author.Tests.{lt-ltb, le-ltb}
+use Rattle.words.specs.Words.{Word, Place, mirror}
+use Rattle.words.specs.Limits.{longestText}
+use Rattle.words.proofs.Limits.{words-fit, texts-fit}
+use Rattle.oracle.specs.SuffixRule.{oracle}
+use Rattle.backward.specs.Steps.{steps, backward}
+use Rattle.backward.proofs.Windows.{steps-same, steps-mirror}
+use Rattle.backward.proofs.Theorems.{search-lists-occurrences}
+use Rattle.table.specs.Table.{room, tableOf, readArrow}
+use Rattle.table.specs.Formed.{Formed}
+use Rattle.table.proofs.Theorems.{table-arrow}
+use Rattle.table.proofs.Formed.{table-formed}
+use Rattle.search.specs.declared.Tally.{Tally}
+use Rattle.search.specs.Finds.{tallyOf, filled}
+use Rattle.marks.specs.declared.Loaded.{Loaded}
+use Rattle.marks.specs.declared.Loaded.the-variants.{Done as LoadDone, Refused as LoadRefused}
+use Rattle.marks.specs.declared.FileSearched.the-variants.{Done, Refused}
+use Rattle.marks.specs.Answers.{refused, longText}
+use Rattle.marks.specs.Load.{answerOf as loadedAnswer, loadedAs, loadSays}
+use Rattle.marks.specs.SearchFile.{Outcome, outcome, fileSearched, afterLoad, searchFileSays}
+use Rattle.marks.proofs.LoadSays.{Standing, told-stands}
+
+-- ── The word's own table, searched with ────────────────────────────────────
+
+-- the steps over a word's table are the published ones of its mirror
+pub own-table-steps : (w text : Word) → steps (readArrow (length w) (tableOf w)) w text ≡ backward (mirror w) text
+unfolding backward
+own-table-steps w text =
+    steps-same (readArrow (length w) (tableOf w)) (oracle w) w text (table-arrow w) ∙ steps-mirror (oracle w) w text
+    ∙ ap (λ (v : Word). steps (oracle v) (mirror w) text) (sym (reverse-reverse w))
+
+module _ (file : List ℕ) (text : Word) (R T : List ℕ) (F : List Place) where
+  -- ── Its cases, in the order of the tests ─────────────────────────────────
+
+  pub says-long-text : longestText < length text → searchFileSays file text R T F ≡ outcome (refused longText) R T F
+  unfolding searchFileSays
+  says-long-text h = rw (lt-ltb longestText (length text) h)
+
+  -- once the code was told what loading says
+  module _ (short : length text ≤ longestText) (said : Loaded) {R′ T′ : List ℕ} (told : loadedAs said R′ T′ ≡ loadSays file R T) where
+    pub says-loaded : searchFileSays file text R T F ≡ afterLoad (loadedAnswer said) text R′ T′ F
+    unfolding searchFileSays
+    says-loaded = rw (le-ltb longestText (length text) short, ← told)
+
+    pub says-refused : {n : ℕ} → said ≡ LoadRefused n → fileSearched (Refused n) R′ T′ F ≡ searchFileSays file text R T F
+    says-refused e = sym (says-loaded ∙ ap (λ (s : Loaded). afterLoad (loadedAnswer s) text R′ T′ F) e)
+
+    -- the mirror of the loaded word is searched for, with its own table
+    module _ {m : ℕ} (e : said ≡ LoadDone m) where
+      stood : Standing m R′ T′
+      stood = told-stands file R T told e
+
+      size : length (take m R′) ≡ m
+      size = length-take-le m R′ (stood .inside)
+
+      pub lent-sized : ((1 ≤ length (take m R′)) × (length text < 4294967295)) × Formed (take (room m) T′) (length (take m R′))
+      lent-sized =
+          let few : length (take m R′) < 65535 = omega (arith, size, stood .most, words-fit) in
+          ((omega (arith, size, stood .least), omega (arith, texts-fit)), rw (stood .table) (table-formed (take m R′) few))
+
+      pub scan-counts : {t : Tally} {F′ : List Place} → t ≡ tallyOf (steps (readArrow (length (take m R′)) (take (room m) T′)) (take m R′) text)
+          → F′ ≡ filled (steps (readArrow (length (take m R′)) (take (room m) T′)) (take m R′) text .starts) F → fileSearched (Done t) R′ T′ F′ ≡ searchFileSays file text R T F
+      scan-counts t f =
+          rw (t, f, stood .table, own-table-steps (take m R′) text, search-lists-occurrences (mirror (take m R′)) text)
+          (sym (says-loaded ∙ ap (λ (s : Loaded). afterLoad (loadedAnswer s) text R′ T′ F) e))
+
+-- ── One outcome ────────────────────────────────────────────────────────────
+
+-- two outcomes that the promise of a search with a file allows are equal
+pub search-file-one : (file : List ℕ) (text : Word) (R T : List ℕ) (F : List Place) (o o′ : Outcome) → o ≡ searchFileSays file text R T F → o′ ≡ searchFileSays file text R T F → o ≡ o′
+search-file-one file text R T F o o′ e f = e ∙ sym f

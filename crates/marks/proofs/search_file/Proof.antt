@@ -1,0 +1,162 @@
+use mathlib.Core.Path.{sym}
+use native.Mathlib.Omega.{arith}
+use lib.Seq.{length-take-le}
+use Rattle.words.proofs.Limits.{text-limit, words-fit}
+use Rattle.marks.proofs.LoadSays.{told-stands}
+use Rattle.marks.proofs.SearchFileSays.{says-long-text, says-refused, lent-sized, scan-counts}
+use borrow.Author.Needs.{needs}
+use Rattle.marks.proofs.search_file.Statement.{statement}
+use Rattle.marks.proofs.search_file.Tie as tie
+use Rattle.marks.proofs.search_file.Reads as reads
+use Rattle.marks.proofs.search_file.Lts as lts
+use Rattle.marks.proofs.load.Reads as load-reads
+use Rattle.search.proofs.scan.Reads as scan-reads
+
+-- src/lib.rt:165:9
+returns : tie.Need-returns
+returns c =
+    let at-start = c .before .before .before .before .before .before in
+    sym (says-long-text (at-start .args .file .now) (at-start .args .text .now) (at-start .args .room .now) (at-start .args .tables .now) (at-start .args .finds .now) (omega (arith, text-limit, c .if1 .taken)))
+
+-- src/lib.rt:167:9
+load-requires : tie.Need-load-requires
+load-requires c κs = search needs
+
+-- src/lib.rt:169:25
+enum-known-said : tie.Need-enum-known-said
+enum-known-said c = search needs
+
+-- src/lib.rt:170:22
+enum-known-said-2 : tie.Need-enum-known-said-2
+enum-known-said-2 c = search needs
+
+-- src/lib.rt:171:29
+add-need : tie.Need-add-need
+add-need c =
+    let at-said2 = c .before in
+    let at-load = at-said2 .before .before .before .before .before .before in
+    let at-if1 = at-load .before .before .before in
+    let at-start = at-if1 .before .before .before .before .before .before in
+    let stands = told-stands (at-start .args .file .now) (at-start .args .room .now) (at-start .args .tables .now) (at-load .load .ensures) (at-said2 .said2 .given .1) in
+    record { fits = omega (arith, stands .most, words-fit) }
+
+-- src/lib.rt:171:24
+mul-need : tie.Need-mul-need
+mul-need c =
+    let at-said2 = c .before in
+    let at-load = at-said2 .before .before .before .before .before .before in
+    let at-if1 = at-load .before .before .before in
+    let at-start = at-if1 .before .before .before .before .before .before in
+    let stands = told-stands (at-start .args .file .now) (at-start .args .room .now) (at-start .args .tables .now) (at-load .load .ensures) (at-said2 .said2 .given .1) in
+    record { fits = omega (arith, stands .most, words-fit) }
+
+-- src/lib.rt:172:45
+slice-reshare-prefix-scan : tie.Need-slice-reshare-prefix-scan
+slice-reshare-prefix-scan c =
+    let at-said2 = c .before in
+    let at-load = at-said2 .before .before .before .before .before .before in
+    let at-if1 = at-load .before .before .before in
+    let at-start = at-if1 .before .before .before .before .before .before in
+    let stands = told-stands (at-start .args .file .now) (at-start .args .room .now) (at-start .args .tables .now) (at-load .load .ensures) (at-said2 .said2 .given .1) in
+    search (needs, stands .inside)
+
+-- src/lib.rt:172:45
+slice-aggregate-scan : tie.Need-slice-aggregate-scan
+slice-aggregate-scan c =
+    let at-said2 = c .before .before in
+    let at-load = at-said2 .before .before .before .before .before .before in
+    let at-if1 = at-load .before .before .before in
+    let at-start = at-if1 .before .before .before .before .before .before in
+    let stands = told-stands (at-start .args .file .now) (at-start .args .room .now) (at-start .args .tables .now) (at-load .load .ensures) (at-said2 .said2 .given .1) in
+    sym (length-take-le _ _ (stands .inside))
+
+-- src/lib.rt:172:57
+slice-reshare-prefix-scan-2 : tie.Need-slice-reshare-prefix-scan-2
+slice-reshare-prefix-scan-2 c =
+    let at-said2 = c .before .before in
+    let at-load = at-said2 .before .before .before .before .before .before in
+    let at-if1 = at-load .before .before .before in
+    let at-start = at-if1 .before .before .before .before .before .before in
+    let stands = told-stands (at-start .args .file .now) (at-start .args .room .now) (at-start .args .tables .now) (at-load .load .ensures) (at-said2 .said2 .given .1) in
+    search (needs, stands .enough)
+
+-- src/lib.rt:172:57
+slice-aggregate-scan-2 : tie.Need-slice-aggregate-scan-2
+slice-aggregate-scan-2 c =
+    let at-said2 = c .before .before .before in
+    let at-load = at-said2 .before .before .before .before .before .before in
+    let at-if1 = at-load .before .before .before in
+    let at-start = at-if1 .before .before .before .before .before .before in
+    let stands = told-stands (at-start .args .file .now) (at-start .args .room .now) (at-start .args .tables .now) (at-load .load .ensures) (at-said2 .said2 .given .1) in
+    sym (length-take-le _ _ (stands .enough))
+
+-- src/lib.rt:172:32
+scan-requires : tie.Need-scan-requires
+scan-requires c κs =
+    let at-said2 = c .before .before .before .before in
+    let at-load = at-said2 .before .before .before .before .before .before in
+    let at-if1 = at-load .before .before .before in
+    let at-start = at-if1 .before .before .before .before .before .before in
+    lent-sized (at-start .args .file .now) (at-start .args .text .now) (at-start .args .room .now) (at-start .args .tables .now) (at-start .args .finds .now) (omega (arith, text-limit, at-if1 .if1 .left)) (at-load .load .result) (at-load .load .ensures) (at-said2 .said2 .given .1)
+
+-- src/lib.rt:161:1
+same-length : tie.Need-same-length
+same-length c = search needs
+
+-- src/lib.rt:161:1
+same-length-2 : tie.Need-same-length-2
+same-length-2 c = search needs
+
+-- src/lib.rt:161:1
+returns-2 : tie.Need-returns-2
+returns-2 c =
+    let at-said = c .before in
+    let at-load = at-said .before .before .before .before .before .before in
+    let at-if1 = at-load .before .before .before in
+    let at-start = at-if1 .before .before .before .before .before .before in
+    says-refused (at-start .args .file .now) (at-start .args .text .now) (at-start .args .room .now) (at-start .args .tables .now) (at-start .args .finds .now) (omega (arith, text-limit, at-if1 .if1 .left)) (at-load .load .result) (at-load .load .ensures) (at-said .said .given .1)
+
+-- src/lib.rt:161:1
+same-length-3 : tie.Need-same-length-3
+same-length-3 c = search needs
+
+-- src/lib.rt:161:1
+same-length-4 : tie.Need-same-length-4
+same-length-4 c = search needs
+
+-- src/lib.rt:161:1
+same-length-5 : tie.Need-same-length-5
+same-length-5 c = search needs
+
+-- src/lib.rt:161:1
+returns-3 : tie.Need-returns-3
+returns-3 c =
+    let at-scan = c .before .before in
+    let at-said2 = at-scan .before .before .before .before .before in
+    let at-load = at-said2 .before .before .before .before .before .before in
+    let at-if1 = at-load .before .before .before in
+    let at-start = at-if1 .before .before .before .before .before .before in
+    scan-counts (at-start .args .file .now) (at-start .args .text .now) (at-start .args .room .now) (at-start .args .tables .now) (at-start .args .finds .now) (omega (arith, text-limit, at-if1 .if1 .left)) (at-load .load .result) (at-load .load .ensures) (at-said2 .said2 .given .1) (at-scan .scan .ensures .0) (at-scan .scan .ensures .1)
+
+pub search-file-spec : {M : Type 1} → statement M
+search-file-spec =
+    tie.close
+    (tie.spec
+    returns
+    load-requires
+    enum-known-said
+    enum-known-said-2
+    add-need
+    mul-need
+    slice-reshare-prefix-scan
+    slice-aggregate-scan
+    slice-reshare-prefix-scan-2
+    slice-aggregate-scan-2
+    scan-requires
+    same-length
+    same-length-2
+    returns-2
+    same-length-3
+    same-length-4
+    same-length-5
+    returns-3)

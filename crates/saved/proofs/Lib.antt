@@ -1,0 +1,5 @@
+pub mod Slots
+pub mod Spelled
+pub mod Sizing
+pub mod Putting
+pub mod Theorems
