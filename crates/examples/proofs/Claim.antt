@@ -1,15 +1,23 @@
--- Every example of the table holds: the checker computes both rules, the supplies and the searches, and compares.
+-- Every example of the table holds: the checker computes both rules, the supplies, the searches, the files and the refusals, and compares.
 use lib.Dec.{T}
 use Rattle.words.specs.Lists.{from, only, first}
 use Rattle.words.specs.Words.{same, stands, occurrences}
+use Rattle.words.specs.Limits.{longestWord}
 use Rattle.oracle.specs.Arrows.{target, walk, spine}
 use Rattle.oracle.specs.SuffixRule.{far, mend, missing, extrasAfter, extraArrows, suffixRule}
 use Rattle.oracle.specs.LetterRule.{climb, addLetter, builtUpTo, letterRule}
 use Rattle.oracle.specs.Supply.{ends, twice, repeated, supply}
+use Rattle.oracle.specs.FileOrder.{leadsTo, extraTargets, extrasBefore, fileArrows}
 use Rattle.backward.specs.Steps.{readDown, afterFind, windows, steps, backward}
-use Rattle.examples.specs.Examples.{is, isNone, walked, empty, has, gives, holds, allHold, word, table}
+use Rattle.number.specs.Number.{groups, spellNumber, refuses, see, seeNumber, numberAt}
+use Rattle.saved.specs.File.{edition, stepsFrom, spellSteps, ownSteps, spell}
+use Rattle.loaded.specs.Load.{front}
+use Rattle.marks.specs.Load.{loadSays}
+use Rattle.examples.specs.Examples.{is, isNone, walked, empty, has, gives, isRefused, refusedWith, refusedInRooms, holds, allHold, word, digit, bytes, table}
 
 pub examples-hold : T (allHold table)
 unfolding from only first same stands occurrences target walk spine far mend missing extrasAfter extraArrows suffixRule climb addLetter builtUpTo letterRule
-    ends twice repeated supply readDown afterFind windows steps backward is isNone walked empty has gives holds allHold word table
+    ends twice repeated supply readDown afterFind windows steps backward
+    longestWord leadsTo extraTargets extrasBefore fileArrows groups spellNumber refuses see seeNumber numberAt edition stepsFrom spellSteps ownSteps spell front loadSays
+    is isNone walked empty has gives isRefused refusedWith refusedInRooms holds allHold word digit bytes table
 examples-hold = tt

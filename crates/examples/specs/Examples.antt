@@ -2,18 +2,20 @@
 --
 --   Example         one line of 01's list
 --   holds e         whether the definitions say what the line says
+--   word s          a word, written in its letters
+--   bytes s         a file, written in hexadecimal digits
 --   table           the lines
 --   allHold l       whether every one of them holds
 --
 -- 01, 'Examples to hold against the rules'.
-use mathlib.Core.Bool.{Bool, true, false, _&&_}
+use mathlib.Core.Bool.{Bool, true, false, _&&_, cond}
 use mathlib.Core.Option.{Option, none, some}
 use mathlib.Core.List.{List, [], _∷_}
-use Prim.Native.Nat.{ℕ, suc, pred}
+use Prim.Native.Nat.{ℕ, suc, pred, _+_, _*_, _-_}
 use Prim.Native.Char.{code}
 use Prim.Native.String.{String}
-use lib.ListN.{length}
-use lib.Dec.{eqb}
+use lib.ListN.{length, replicate}
+use lib.Dec.{eqb, ltb}
 use Rattle.words.specs.Words.{Word, Place, letter, same, occurrences}
 use Rattle.oracle.specs.Arrows.{State, Delta, target, walk}
 use Rattle.oracle.specs.SuffixRule.{suffixRule, extraArrows, oracle}
@@ -21,6 +23,10 @@ use Rattle.oracle.specs.LetterRule.{supplyIn, letterRule}
 use Rattle.oracle.specs.Supply.{supply}
 use Rattle.oracle.specs.FileOrder.{Extra, extra}
 use Rattle.backward.specs.Steps.{backward}
+use Rattle.table.specs.Table.{room}
+use Rattle.saved.specs.File.{spell}
+use Rattle.marks.specs.Answers.{Answer, done, refused}
+use Rattle.marks.specs.Load.{Outcome, loadSays}
 
 -- an extra arrow as 01 writes it, 0-2: its letter is that of the state it leads to
 abbrev pub _to_ : State → State → Extra
@@ -34,6 +40,10 @@ pub data Example : Type 0 where
   acceptsNoFactor : (word walked : Word) → Example
   -- a word and a text, the starts of the occurrences, the letters read
   search : (word text : Word) (starts : List Place) (letters : ℕ) → Example
+  -- a word and its whole file
+  fileOf : (word : Word) (file : List ℕ) → Example
+  -- bytes that are no file, and the number with which load refuses them
+  loadRefused : (file : List ℕ) (number : ℕ) → Example
 
 unfoldable pub is : Option ℕ → ℕ → Bool
 is none y = false
@@ -61,6 +71,21 @@ unfoldable pub gives : (State → Option State) → State → List State → Boo
 gives S i [] = true
 gives S i (y ∷ l) = is (S i) y && gives S (suc i) l
 
+unfoldable pub isRefused : Answer ℕ → ℕ → Bool
+isRefused (done m) n = false
+isRefused (refused r) n = eqb r n
+
+-- refused with n, both rooms as they were
+unfoldable pub refusedWith : ℕ → List ℕ → List ℕ → Outcome → Bool
+refusedWith n R T o = isRefused (o .answer) n && (same (o .word) R && same (o .tables) T)
+
+-- the same of load, lent the rooms of a word of m letters, no entry zero
+unfoldable pub refusedInRooms : List ℕ → ℕ → ℕ → Bool
+refusedInRooms f n m =
+    let R : List ℕ = replicate m 9 in
+    let T : List ℕ = replicate (room m) 9 in
+    refusedWith n R T (loadSays f R T)
+
 unfoldable pub holds : Example → Bool
 holds (arrowsOf p extra n l) =
     let rule = letterRule p in
@@ -77,6 +102,9 @@ holds (acceptsNoFactor p v) = walked (walk (oracle p) 0 v) && empty (occurrences
 holds (search w t starts n) =
     let r = backward w t in
     same (r .starts) starts && (eqb (r .letters) n && same (occurrences w t) starts)
+holds (fileOf p f) = same (spell p) f
+-- the rooms of no letter, too short for any word, and those of three letters: these refusals come before 3
+holds (loadRefused f n) = refusedInRooms f n 0 && refusedInRooms f n 3
 
 unfoldable pub allHold : List Example → Bool
 allHold [] = true
@@ -87,12 +115,26 @@ unfoldable pub word : String → Word
 word String.[] = []
 word (String._∷_ c s) = code c ∷ word s
 
+-- the number that a hexadecimal digit stands for, 0 to 9 and A to F
+unfoldable pub digit : ℕ → ℕ
+digit c = cond (ltb c 65) (c - 48) (c - 55)
+
+-- the bytes of a file as 01 writes it, 61 for 97: two digits for each, a gap before the next
+unfoldable pub bytes : String → List ℕ
+bytes String.[] = []
+bytes (String._∷_ h String.[]) = digit (code h) ∷ []
+bytes (String._∷_ h (String._∷_ l String.[])) = (16 * digit (code h) + digit (code l)) ∷ []
+bytes (String._∷_ h (String._∷_ l (String._∷_ gap s))) = (16 * digit (code h) + digit (code l)) ∷ bytes s
+
 unfoldable pub table : List Example
 table =
     arrowsOf (word "a") [] 1 (0 ∷ [])
+    ∷ fileOf (word "a") (bytes "01 01 61 00")
     ∷ arrowsOf (word "aaa") [] 3 (0 ∷ 1 ∷ 2 ∷ [])
+    ∷ fileOf (word "aaa") (bytes "01 03 61 61 61 00")
     ∷ arrowsOf (word "abbbaab") (0 to 2 ∷ 1 to 6 ∷ 2 to 5 ∷ 3 to 5 ∷ []) 11 (0 ∷ 0 ∷ 2 ∷ 3 ∷ 1 ∷ 1 ∷ 2 ∷ [])
     ∷ acceptsNoFactor (word "abbbaab") (word "aba")
+    ∷ fileOf (word "abbbaab") (bytes "01 07 61 62 62 62 61 61 62 04 00 00 01 03 01 01 01 00")
     ∷ arrowsOf (word "abcacdace") (0 to 2 ∷ 0 to 3 ∷ 0 to 6 ∷ 0 to 9 ∷ 1 to 5 ∷ 3 to 6 ∷ 3 to 9 ∷ 5 to 9 ∷ []) 17 (0 ∷ 0 ∷ 0 ∷ 1 ∷ 3 ∷ 0 ∷ 1 ∷ 5 ∷ 0 ∷ [])
     ∷ acceptsNoFactor (word "abcacdace") (word "cace")
     ∷ search (word "aa") (word "aaaa") (0 ∷ 1 ∷ 2 ∷ []) 6
@@ -100,4 +142,6 @@ table =
     ∷ search (word "aba") (word "ababa") (0 ∷ 2 ∷ []) 9
     ∷ search (word "abc") (word "xxxxxx") [] 2
     ∷ search (word "abc") (word "ab") [] 0
+    ∷ loadRefused (bytes "01 FF FF FF FF 0F") 8
+    ∷ loadRefused (bytes "01 83 00 61 61 61 00") 6
     ∷ []

@@ -1,13 +1,13 @@
 -- THE THEOREMS on `searchFileSays`: 4 comes first, then loading decides, then the mirror of the file's word is searched for; and the promise allows one outcome.
-use mathlib.Core.Path.{_≡_, sym, ap, _∙_}
-use mathlib.Core.List.{List, reverse-reverse}
+use mathlib.Core.Path.{_≡_, refl, sym, ap, _∙_}
+use mathlib.Core.List.{List, _++_, reverse-reverse}
 use Prim.Native.Nat.{ℕ, _≤_, _<_}
 use native.Mathlib.Omega.{arith}
-use lib.ListN.{length, take}
-use lib.Seq.{length-take-le}
+use lib.ListN.{length, take, drop}
+use lib.Seq.{take-at, length-take-le}
 use borrow.Author.Tests.{lt-ltb, le-ltb}
-use Rattle.words.specs.Words.{Word, Place, mirror}
-use Rattle.words.specs.Limits.{longestText}
+use Rattle.words.specs.Words.{Word, Place, mirror, occurrences}
+use Rattle.words.specs.Limits.{longestWord, longestText}
 use Rattle.words.proofs.Limits.{words-fit, texts-fit}
 use Rattle.oracle.specs.SuffixRule.{oracle}
 use Rattle.backward.specs.Steps.{steps, backward}
@@ -22,9 +22,11 @@ use Rattle.search.specs.Finds.{tallyOf, filled}
 use Rattle.marks.specs.declared.Loaded.{Loaded}
 use Rattle.marks.specs.declared.Loaded.the-variants.{Done as LoadDone, Refused as LoadRefused}
 use Rattle.marks.specs.declared.FileSearched.the-variants.{Done, Refused}
-use Rattle.marks.specs.Answers.{refused, longText}
+use Rattle.marks.specs.Answers.{done, refused, longText}
 use Rattle.marks.specs.Load.{answerOf as loadedAnswer, loadedAs, loadSays}
 use Rattle.marks.specs.SearchFile.{Outcome, outcome, fileSearched, afterLoad, searchFileSays}
+use Rattle.saved.specs.File.{spell}
+use Rattle.marks.proofs.LoadTheorems.{file-loads}
 use Rattle.marks.proofs.LoadSays.{Standing, told-stands}
 
 -- ── The word's own table, searched with ────────────────────────────────────
@@ -70,6 +72,16 @@ module _ (file : List ℕ) (text : Word) (R T : List ℕ) (F : List Place) where
       scan-counts t f =
           rw (t, f, stood .table, own-table-steps (take m R′) text, search-lists-occurrences (mirror (take m R′)) text)
           (sym (says-loaded ∙ ap (λ (s : Loaded). afterLoad (loadedAnswer s) text R′ T′ F) e))
+
+  -- ── What is found with a word's file ─────────────────────────────────────
+
+  -- every occurrence of the mirror of the file's word is counted, the first of them are listed, and the letters are the published steps' own
+  pub file-searched : (w : Word) → 1 ≤ length w → length w ≤ longestWord → file ≡ spell w → length text ≤ longestText → length w ≤ length R → room (length w) ≤ length T
+      → searchFileSays file text R T F
+      ≡ outcome (done (record { count = length (occurrences (mirror w) text); letters = backward (mirror w) text .letters })) (w ++ drop (length w) R)
+      (tableOf w ++ drop (room (length w)) T) (filled (occurrences (mirror w) text) F)
+  unfolding searchFileSays
+  file-searched w least most f short h t = rw (f, le-ltb longestText (length text) short, file-loads R T w least most h t, take-at w (drop (length w) R) (length w) refl)
 
 -- ── One outcome ────────────────────────────────────────────────────────────
 

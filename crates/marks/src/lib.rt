@@ -182,7 +182,7 @@ pub fn search_file(
 ) -> FileSearched
     ensures { λ r. ⌜ fileSearched r (now (room .exit)) (now (tables .exit)) (now (finds .exit)) ≡ searchFileSays (now (file .entry)) (now (text .entry)) (now (room .entry)) (now (tables .entry)) (now (finds .entry)) ⌝ }
 {
-    if words::TEXT_LIMIT < text.len() {
+    if text.len() > words::TEXT_LIMIT {
         return FileSearched::Refused(LONG_TEXT);
     }
     let said = load(file, room, tables);
