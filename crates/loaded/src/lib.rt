@@ -9,9 +9,6 @@ use number::Cursor;
 use number::Number;
 use number::Reader;
 
-// The edition that is read, and no other.
-const EDITION: u32 = 1;
-
 // The number that the file shows at a place. Loading keeps a reader over the lent file and its place, and this is where it reads on.
 fn number_at(file: &[u8], at: usize) -> Number
     ensures { λ r. ⌜ r ≡ numberAt (now (file .entry)) at ⌝ }
@@ -53,7 +50,7 @@ pub fn read_front(file: &[u8]) -> Head
     match first {
         Number::Refused(why, place) => Head::Stop(why, place),
         Number::Value(edition, next) => {
-            if edition != EDITION {
+            if edition != saved::EDITION {
                 return Head::Stop(7, 0);
             }
             read_letters(file, next)

@@ -7,7 +7,8 @@ ghost use Rattle.saved.specs.File.{ownSteps, spell};
 ghost use Rattle.saved.specs.Stepping.{Tabled, Standing, Leapt};
 use number::Cursor;
 
-const EDITION: u32 = 1;
+// The edition that is written and read, and no other.
+pub const EDITION: u32 = 1;
 
 // An arrow as the file has it, and its source.
 pub struct Leap {
