@@ -21,12 +21,14 @@ use Rattle.search.specs.declared.Tally.{Tally}
 use Rattle.search.specs.Finds.{tallyOf, filled}
 use Rattle.marks.specs.declared.Loaded.{Loaded}
 use Rattle.marks.specs.declared.Loaded.the-variants.{Done as LoadDone, Refused as LoadRefused}
+use Rattle.marks.specs.declared.FileSearched.{FileSearched}
 use Rattle.marks.specs.declared.FileSearched.the-variants.{Done, Refused}
 use Rattle.marks.specs.Answers.{done, refused, longText}
 use Rattle.marks.specs.Load.{answerOf as loadedAnswer, loadedAs, loadSays}
-use Rattle.marks.specs.SearchFile.{Outcome, outcome, fileSearched, afterLoad, searchFileSays}
+use Rattle.marks.specs.SearchFile.{outcome, answerOf, fileSearched, afterLoad, searchFileSays}
 use Rattle.saved.specs.File.{spell}
 use Rattle.marks.proofs.LoadTheorems.{file-loads}
+use Rattle.marks.proofs.SearchSays.{tally-one}
 use Rattle.marks.proofs.LoadSays.{Standing, told-stands}
 
 -- ── The word's own table, searched with ────────────────────────────────────
@@ -85,6 +87,16 @@ module _ (file : List ℕ) (text : Word) (R T : List ℕ) (F : List Place) where
 
 -- ── One outcome ────────────────────────────────────────────────────────────
 
+-- different answers of the code mean different things
+answer-one : (r s : FileSearched) → answerOf r ≡ answerOf s → r ≡ s
+answer-one (Done a) (Done b) e = ap Done (tally-one a b e)
+answer-one (Done a) (Refused n) e = cc
+answer-one (Refused n) (Done b) e = cc
+answer-one (Refused n) (Refused k) e = cc
+
 -- two outcomes that the promise of a search with a file allows are equal
-pub search-file-one : (file : List ℕ) (text : Word) (R T : List ℕ) (F : List Place) (o o′ : Outcome) → o ≡ searchFileSays file text R T F → o′ ≡ searchFileSays file text R T F → o ≡ o′
-search-file-one file text R T F o o′ e f = e ∙ sym f
+pub search-file-one : (file : List ℕ) (text : Word) (R T : List ℕ) (F : List Place) (r s : FileSearched) (A B C D : List ℕ) (G H : List Place)
+    → fileSearched r A C G ≡ searchFileSays file text R T F → fileSearched s B D H ≡ searchFileSays file text R T F → (r ≡ s) × (A ≡ B) × (C ≡ D) × (G ≡ H)
+search-file-one file text R T F r s A B C D G H e f =
+    let g : fileSearched r A C G ≡ fileSearched s B D H = e ∙ sym f in
+    (answer-one r s (ap (λ o. o .answer) g), ap (λ o. o .word) g, ap (λ o. o .tables) g, ap (λ o. o .finds) g)

@@ -1,6 +1,6 @@
 -- THE THEOREMS on `searchSays`: each refusal exactly where it is tabled, what is listed and counted, what a refusal and a success leave, and that the promise allows one
 -- outcome.
-use mathlib.Core.Path.{_≡_, sym, ap, _∙_}
+use mathlib.Core.Path.{_≡_, refl, sym, ap, _∙_}
 use mathlib.Core.Bool.{true}
 use mathlib.Core.Logic.{_⊎_, inl, inr, _↔_}
 use mathlib.Core.List.{List, _++_, List·Memᴰ}
@@ -23,10 +23,11 @@ use Rattle.table.proofs.Theorems.{table-size, table-arrow}
 use Rattle.table.proofs.Formed.{table-formed}
 use Rattle.search.specs.declared.Tally.{Tally}
 use Rattle.search.specs.Finds.{tallyOf, filled}
-use Rattle.marks.specs.declared.Searched.the-variants.{Done}
+use Rattle.marks.specs.declared.Searched.{Searched}
+use Rattle.marks.specs.declared.Searched.the-variants.{Done, EmptyWord, LongWord, LongText, ShortRoom}
 use Rattle.words.specs.Limits.{longestWord, longestText}
 use Rattle.marks.specs.Answers.{Answer, done, refused, emptyWord, longWord, longText, shortRoom}
-use Rattle.marks.specs.Search.{Found, Outcome, outcome, searched, searchSays}
+use Rattle.marks.specs.Search.{Found, Outcome, outcome, answerOf, searched, searchSays}
 
 -- ── The caller's list ──────────────────────────────────────────────────────
 
@@ -178,6 +179,44 @@ module _ (word text : Word) (T : List ℕ) (F : List Place) where
 
 -- ── One outcome ────────────────────────────────────────────────────────────
 
+-- a tally is what is told of it
+abbrev pub told : Tally → Found
+told t = record { count = t .count; letters = t .letters }
+
+pub tally-one : (a b : Tally) → _≡_ {A = Answer Found} (done (told a)) (done (told b)) → a ≡ b
+tally-one a b e = let q : told a ≡ told b = cc in ap (λ (f : Found). record { count = f .count; letters = f .letters }) q
+
+-- different answers of the code mean different things
+answer-one : (r s : Searched) → answerOf r ≡ answerOf s → r ≡ s
+answer-one (Done a) (Done b) e = ap Done (tally-one a b e)
+answer-one (Done a) EmptyWord e = cc
+answer-one (Done a) LongWord e = cc
+answer-one (Done a) LongText e = cc
+answer-one (Done a) ShortRoom e = cc
+answer-one EmptyWord (Done b) e = cc
+answer-one EmptyWord EmptyWord e = refl
+answer-one EmptyWord LongWord e = cc
+answer-one EmptyWord LongText e = cc
+answer-one EmptyWord ShortRoom e = cc
+answer-one LongWord (Done b) e = cc
+answer-one LongWord EmptyWord e = cc
+answer-one LongWord LongWord e = refl
+answer-one LongWord LongText e = cc
+answer-one LongWord ShortRoom e = cc
+answer-one LongText (Done b) e = cc
+answer-one LongText EmptyWord e = cc
+answer-one LongText LongWord e = cc
+answer-one LongText LongText e = refl
+answer-one LongText ShortRoom e = cc
+answer-one ShortRoom (Done b) e = cc
+answer-one ShortRoom EmptyWord e = cc
+answer-one ShortRoom LongWord e = cc
+answer-one ShortRoom LongText e = cc
+answer-one ShortRoom ShortRoom e = refl
+
 -- two outcomes that the promise of search allows are equal
-pub search-one : (word text : Word) (T : List ℕ) (F : List Place) (o o′ : Outcome) → o ≡ searchSays word text T F → o′ ≡ searchSays word text T F → o ≡ o′
-search-one word text T F o o′ e f = e ∙ sym f
+pub search-one : (word text : Word) (T : List ℕ) (F : List Place) (r s : Searched) (A B : List ℕ) (G H : List Place)
+    → searched r A G ≡ searchSays word text T F → searched s B H ≡ searchSays word text T F → (r ≡ s) × (A ≡ B) × (G ≡ H)
+search-one word text T F r s A B G H e f =
+    let g : searched r A G ≡ searched s B H = e ∙ sym f in
+    (answer-one r s (ap (λ o. o .answer) g), ap (λ o. o .tables) g, ap (λ o. o .finds) g)
