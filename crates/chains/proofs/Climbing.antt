@@ -1,8 +1,8 @@
 -- CLIMBING: a climb that can start can go on, and what the code's answers say of the next step.
-use mathlib.Core.Path.{_≡_, refl, ap}
+use mathlib.Core.Path.{_≡_, refl, sym, ap, _∙_}
 use mathlib.Core.Logic.{_≢_}
 use mathlib.Core.List.{List}
-use Prim.Native.Nat.{ℕ, suc, _+_, _-_, _%_, _≤_, _<_}
+use Prim.Native.Nat.{ℕ, suc, _+_, _*_, _-_, _%_, _≤_, _<_}
 use native.Mathlib.Nat.{le-refl, mod-eq-of-lt}
 use native.Mathlib.Numerals.{add-one}
 use native.Mathlib.Decide.{ℕ-discrete}
@@ -10,18 +10,19 @@ use native.Mathlib.Omega.{arith}
 use lib.ListN.{length, set}
 use Rattle.words.specs.Lists.{at}
 use Rattle.words.specs.Words.{Letter}
-use Rattle.words.specs.Answers.{supplyOf}
+use Rattle.words.specs.Answers.{arrowTo, supplyOf}
 use Rattle.words.specs.declared.State.{State as Stated}
 use Rattle.words.specs.declared.Supply.{Supply}
 use Rattle.words.specs.declared.Supply.the-variants.{Of, Without}
+use Rattle.words.specs.declared.Arrow.{Arrow}
 use Rattle.words.specs.declared.Arrow.the-variants.{Missing}
 use Rattle.oracle.specs.Arrows.{State}
 use Rattle.oracle.specs.SuffixPath.{SuffixPath, ended, falls}
 use Rattle.oracle.proofs.LetterRule.{path-agree}
-use Rattle.chains.specs.Chains.{supplyIn, Looks, pushed}
+use Rattle.chains.specs.Chains.{supplyIn, Chain, lookIn, Looks, pushed}
 use Rattle.chains.specs.Letters.{Ready, Climbs, runs-out, goes-on, Begun, Added, later-letter}
-use Rattle.chains.proofs.Looking.{supply-none, supply-some}
-use Rattle.chains.proofs.Pushing.{push-elsewhere, push-heads, push-chained}
+use Rattle.chains.proofs.Looking.{chain-one, supply-none, supply-some, chain-states, look-same}
+use Rattle.chains.proofs.Pushing.{push-elsewhere, other-chain, push-heads, push-chained}
 
 -- ── What an answer says of a supply ────────────────────────────────────────
 
@@ -75,9 +76,27 @@ module _ {L : List ℕ} {n t u : ℕ} {k : State} (R : Ready L n t u k) where
         free = omega arith;
       }
 
+  -- and so is the arrow of state 0
+  pub zero-kept : {c : Letter} {r : Arrow} → k ≢ 0 → Looks L n t 0 c r → Looks (pushed L n u k (suc t)) n t 0 c r
+  zero-kept {c} {r} f Z = record { says = λ l C. by l C (R .chained .chain 0 (omega (arith, R .inside))) }
+    where
+      L′ : List ℕ
+      L′ = pushed L n u k (suc t)
+
+      letters-kept : (y : State) → y < n → at L y ≡ at L′ y
+      letters-kept y h = sym (push-elsewhere (R .chained) ready-slot (R .heads) k ready-state (suc t) y (omega arith) (omega arith) (omega arith))
+
+      by : (l : List State) → Chain L′ n (at L′ (2 * n + 0)) l → (l′ : List State) × Chain L n (at L (2 * n + 0)) l′ → r ≡ arrowTo (lookIn (at L′) t l 0 c)
+      by l C (l′, D) =
+          let q : l ≡ l′ = chain-one C (other-chain (R .chained) ready-slot (R .heads) k ready-state (suc t) 0 (omega (arith, R .inside)) (λ z. f (sym z)) D) in
+          Z .says l′ D ∙ ap arrowTo (look-same (at L) (at L′) t l′ 0 c letters-kept (omega (arith, R .inside)) (λ y i. chain-states D i) ∙ ap (λ v. lookIn (at L′) t v 0 c) (sym q))
+
 -- ── In the code's sums ─────────────────────────────────────────────────────
 
 module _ {L L₁ : List ℕ} {n t u : ℕ} {k : State} (e : L₁ ≡ pushed L n u k (t + 1)) where
+  pub zero-again : {c : Letter} {r : Arrow} → Ready L n t u k → k ≢ 0 → Looks L n t 0 c r → Looks L₁ n t 0 c r
+  zero-again R f Z = rw (e, add-one t) (zero-kept R f Z)
+
   pub ready-again : Ready L n t u k → k ≢ 0 → {s : State} → s ≡ at L (n + k) → Ready L₁ n t (u + 1) s
   ready-again R f q = rw (e, q, add-one t, add-one u) (ready-next R f)
 
@@ -105,6 +124,9 @@ module _ {L : List ℕ} {n t u : ℕ} (B : Begun L n t u) where
   -- its letter is the one in row 0
   pub begun-letter : at L (t + 1) % 256 ≡ at L (suc t)
   begun-letter = rw (add-one t) (mod-eq-of-lt (B .letter))
+
+  pub begun-zero : {r : Arrow} → Looks L n t 0 (at L (t + 1)) r → Looks L n t 0 (at L (t + 1) % 256) r
+  begun-zero Z = rw begun-letter (rw (add-one t) at Z)
 
   pub letter-added : t ≢ 0 → {k : State} → k ≡ at L (n + t) → {L₁ : List ℕ} {u′ : ℕ} {y : State} → Climbs n t (at L (t + 1) % 256) L u k L₁ u′ y → Added n t L u (set L₁ (n + t + 1) y) u′
   letter-added f q {L₁} {u′} {y} C =

@@ -4,3 +4,4 @@ pub mod Climbing
 pub mod Model
 pub mod Sources
 pub mod Grown
+pub mod Firsts

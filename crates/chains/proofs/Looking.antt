@@ -2,7 +2,8 @@
 use mathlib.Core.Path.{_≡_, refl, sym, ap, _∙_}
 use mathlib.Core.Logic.{_≢_}
 use mathlib.Core.Option.{none, some}
-use mathlib.Core.List.{List}
+use mathlib.Core.Bool.{Bool}
+use mathlib.Core.List.{List, [], _∷_, List·Memᴰ, List·Memᴰ·head, List·Memᴰ·tail}
 use Prim.Native.Nat.{ℕ, suc, _+_, _*_, _≤_, _<_}
 use native.Mathlib.Numerals.{add-one}
 use native.Mathlib.Omega.{arith}
@@ -11,6 +12,7 @@ use borrow.Author.Tests.{lt-ltb, le-ltb, eq-eqb, ne-eqb}
 use Rattle.words.specs.Lists.{at, first}
 use Rattle.words.specs.Words.{Letter}
 use Rattle.words.specs.Answers.{arrowTo, supplyOf}
+use Rattle.words.specs.declared.Arrow.{Arrow}
 use Rattle.words.specs.declared.Arrow.the-variants.{To, Missing}
 use Rattle.words.specs.declared.Supply.the-variants.{Of, Without}
 use Rattle.words.proofs.Lists.{first-yes, first-not}
@@ -50,6 +52,22 @@ module _ (a : State → Letter) (t : ℕ) (l : List State) (x : State) (c : Lett
   unfolding lookIn
   look-chain h e = rw (lt-ltb x t h, ne-eqb (a (suc x)) c e)
 
+-- ── Lookups by letters that agree ──────────────────────────────────────────
+
+pub chain-states : {L : List ℕ} {n j : ℕ} {l : List State} → Chain L n j l → {y : State} → List·Memᴰ y l → y < n
+chain-states (ends e) m = absurd (elim m [ ])
+chain-states (links p b y g o r) (List·Memᴰ·head e) = omega arith
+chain-states (links p b y g o r) (List·Memᴰ·tail m) = chain-states r m
+
+first-same : {A : Type 0} (P Q : A → Bool) (l : List A) → ((y : A) → List·Memᴰ y l → P y ≡ Q y) → first P l ≡ first Q l
+unfolding first
+first-same P Q [] h = refl
+first-same P Q (y ∷ l) h = rw (h y (List·Memᴰ·head refl), first-same P Q l (λ z m. h z (List·Memᴰ·tail m)))
+
+pub look-same : (a b : State → Letter) {n : ℕ} (t : ℕ) (l : List State) (x : State) (c : Letter) → ((y : State) → y < n → a y ≡ b y) → suc x < n → ((y : State) → List·Memᴰ y l → y < n) → lookIn a t l x c ≡ lookIn b t l x c
+unfolding lookIn
+look-same a b t l x c same h inside = rw (same (suc x) h, first-same (λ y. eqb (a y) c) (λ y. eqb (b y) c) l (λ y m. ap (λ d. eqb d c) (same y (inside y m))))
+
 -- ── Slot by slot ───────────────────────────────────────────────────────────
 
 pub record Chasing (L : List ℕ) (n t : ℕ) (x : State) (c : Letter) (j : ℕ) : Type 0 where
@@ -58,6 +76,9 @@ pub record Chasing (L : List ℕ) (n t : ℕ) (x : State) (c : Letter) (j : ℕ)
   pub same : (l : List State) → Chain L n (at L (2 * n + x)) l → lookIn (at L) t l x c ≡ first (λ y. eqb (at L y) c) rest
 
 module _ {L : List ℕ} {n t : ℕ} {x : State} {c : Letter} where
+  pub looks-zero : {r : Arrow} → x ≡ 0 → Looks L n t 0 c r → Looks L n t x c r
+  looks-zero e R = rw e R
+
   pub looks-far : t ≤ x → Looks L n t x c Missing
   looks-far h = record { says = λ l C. ap arrowTo (sym (look-far (at L) t l x c h)) }
 

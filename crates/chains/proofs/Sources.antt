@@ -1,7 +1,7 @@
 -- WHAT A CLIMB OF THE CODE COMES TO: the climb of figure 4 over the targets that the table holds, with the new state put before the targets of each source, and all other
 -- entries as they were.
 use mathlib.Core.Path.{_≡_, refl, sym, ap, _∙_}
-use mathlib.Core.Bool.{Bool, cond}
+use mathlib.Core.Bool.{cond}
 use mathlib.Core.Logic.{inl, inr, _≢_}
 use mathlib.Core.List.{List, [], _∷_, List·Memᴰ, List·Memᴰ·head, List·Memᴰ·tail}
 use Prim.Native.Nat.{ℕ, zero, suc, _+_, _*_, _≤_, _<_}
@@ -11,13 +11,14 @@ use native.Mathlib.Omega.{arith}
 use lib.ListN.{length}
 use lib.Dec.{eqb}
 use borrow.Author.Tests.{eq-eqb, ne-eqb}
-use Rattle.words.specs.Lists.{at, first}
+use Rattle.words.specs.Lists.{at}
 use Rattle.words.specs.Words.{Letter}
 use Rattle.words.proofs.Answers.{arrow-told, arrow-untold}
 use Rattle.oracle.specs.Arrows.{State, Delta}
 use Rattle.oracle.proofs.Grow.{Climb, stop, out, go}
-use Rattle.chains.specs.Chains.{Chain, ends, links, Chained, lookIn, pushed}
+use Rattle.chains.specs.Chains.{Chain, Chained, lookIn, pushed}
 use Rattle.chains.specs.Letters.{Ready, Climbs, finds, runs-out, goes-on}
+use Rattle.chains.proofs.Looking.{chain-states, look-same}
 use Rattle.chains.proofs.Pushing.{push-size, push-elsewhere, push-chain, other-chain, push-heads}
 use Rattle.chains.proofs.Climbing.{ready-slot, ready-state, ready-next}
 use Rattle.chains.proofs.Model.{Targets, arrowsOf, Gets}
@@ -78,22 +79,6 @@ push-held {L} {n} {u} {T} H more k b y g = record {
     by : (x : State) → x < n → Dec (x ≡ k) → Chain (pushed L n u k y) n (at (pushed L n u k y) (2 * n + x)) (put T k y x)
     by x h (yes e) = rw (e, put-here T k y) (push-chain (held-chained H) more (H .heads) k b y g (H .chain k b))
     by x h (no e) = rw (put-other T k y x e) (other-chain (held-chained H) more (H .heads) k b y x h e (H .chain x h))
-
--- ── Lookups by letters that agree ──────────────────────────────────────────
-
-chain-states : {L : List ℕ} {n j : ℕ} {l : List State} → Chain L n j l → {y : State} → List·Memᴰ y l → y < n
-chain-states (ends e) m = absurd (elim m [ ])
-chain-states (links p b y g o r) (List·Memᴰ·head e) = omega arith
-chain-states (links p b y g o r) (List·Memᴰ·tail m) = chain-states r m
-
-first-same : {A : Type 0} (P Q : A → Bool) (l : List A) → ((y : A) → List·Memᴰ y l → P y ≡ Q y) → first P l ≡ first Q l
-unfolding first
-first-same P Q [] h = refl
-first-same P Q (y ∷ l) h = rw (h y (List·Memᴰ·head refl), first-same P Q l (λ z m. h z (List·Memᴰ·tail m)))
-
-look-same : (a b : State → Letter) {n : ℕ} (t : ℕ) (l : List State) (x : State) (c : Letter) → ((y : State) → y < n → a y ≡ b y) → suc x < n → ((y : State) → List·Memᴰ y l → y < n) → lookIn a t l x c ≡ lookIn b t l x c
-unfolding lookIn
-look-same a b t l x c same h inside = rw (same (suc x) h, first-same (λ y. eqb (a y) c) (λ y. eqb (b y) c) l (λ y m. ap (λ d. eqb d c) (same y (inside y m))))
 
 -- ── Climbs ─────────────────────────────────────────────────────────────────
 
@@ -156,7 +141,7 @@ module _ {L : List ℕ} {n t u : ℕ} {T : Targets} {k : State} (R : Ready L n t
 -- ── All of them ────────────────────────────────────────────────────────────
 
 -- the lookup of the code is that of the targets held
-look-held : (a : State → Letter) {L : List ℕ} {n u : ℕ} (t : ℕ) (c : Letter) {T : Targets} {k : State} → Held L n u T → ((y : State) → y < n → at L y ≡ a y) → suc k < n
+pub look-held : (a : State → Letter) {L : List ℕ} {n u : ℕ} (t : ℕ) (c : Letter) {T : Targets} {k : State} → Held L n u T → ((y : State) → y < n → at L y ≡ a y) → suc k < n
     → lookIn (at L) t (T k) k c ≡ arrowsOf a t T k c
 look-held a {L} t c {T = T} {k = k} H same b = look-same (at L) a t (T k) k c same b (λ y m. chain-states (H .chain k (omega arith)) m)
 

@@ -5,15 +5,23 @@
 --   Climbs ..           what a climb does, a case for each way in which it goes on or ends
 --   Begun L n t u       letter t + 1 can be added
 --   Added ..            what adding it does, a case for state 0 and one for the others
+--   zeroArrow y         the arrow from state 0 on a letter whose first state is y, 0 standing for none
+--   FirstState a t c y  y is the first of the states 1 to t that has the letter c, or 0 where none has
+--   Firsts a t F        F has the first state of each letter
 --   Blank L m           a word of m letters stands in row 0, and nothing elsewhere
 --   ChainsOf B m L u    L has the chains and supplies of the word that stands in B, in u slots
 use mathlib.Core.Path.{_≡_}
-use mathlib.Core.Option.{some}
+use mathlib.Core.Logic.{_≢_}
+use mathlib.Core.Bool.{cond}
+use mathlib.Core.Option.{none, some}
 use mathlib.Core.List.{List, reverse}
 use Prim.Native.Nat.{ℕ, suc, _+_, _*_, _-_, _≤_, _<_}
 use lib.ListN.{length, set}
+use lib.Dec.{eqb}
 use Rattle.words.specs.Lists.{at}
 use Rattle.words.specs.Words.{Letter, Word, part}
+use Rattle.words.specs.Answers.{arrowTo}
+use Rattle.words.specs.declared.Arrow.{Arrow}
 use Rattle.words.specs.declared.Arrow.the-variants.{To, Missing}
 use Rattle.oracle.specs.Arrows.{State}
 use Rattle.oracle.specs.SuffixPath.{SuffixPath}
@@ -51,6 +59,17 @@ pub record Begun (L : List ℕ) (n t u : ℕ) : Type 0 where
 pub data Added (n t : ℕ) (L : List ℕ) (u : ℕ) (L′ : List ℕ) (u′ : ℕ) : Type 0 where
   first-letter : t ≡ 0 → L′ ≡ L → u′ ≡ u → Added n t L u L′ u′
   later-letter : (L₁ : List ℕ) (y : State) → 0 < t → Climbs n t (at L (suc t)) L u (at L (n + t)) L₁ u′ y → L′ ≡ set L₁ (n + suc t) y → Added n t L u L′ u′
+
+unfoldable pub zeroArrow : ℕ → Arrow
+zeroArrow y = arrowTo (cond (eqb y 0) none (some y))
+
+pub data FirstState (a : State → Letter) (t : ℕ) (c : Letter) (y : ℕ) : Type 0 where
+  unseen : y ≡ 0 → ((x : State) → 0 < x → x ≤ t → a x ≢ c) → FirstState a t c y
+  seen : 0 < y → y ≤ t → a y ≡ c → ((x : State) → 0 < x → x < y → a x ≢ c) → FirstState a t c y
+
+pub record Firsts (a : State → Letter) (t : ℕ) (F : List ℕ) : Type 0 where
+  pub size : length F ≡ 256
+  pub says : (c : Letter) → c < 256 → FirstState a t c (at F c)
 
 pub record Blank (L : List ℕ) (m : ℕ) : Type 0 where
   pub size : length L ≡ 6 * suc m

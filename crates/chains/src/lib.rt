@@ -3,10 +3,10 @@
 // Serves the table's room, which lays the chains out.
 ghost use mathlib.Core.Path.{_≡_};
 ghost use Prim.Native.Nat.{_+_, _*_, _<_, _≤_};
-ghost use lib.ListN.{length};
-ghost use Rattle.words.specs.Answers.{arrowTo, supplyOf};
+ghost use Rattle.words.specs.Lists.{at};
+ghost use Rattle.words.specs.Answers.{supplyOf};
 ghost use Rattle.chains.specs.Chains.{supplyIn, Chained, Looks, pushed};
-ghost use Rattle.chains.specs.Letters.{Ready, Climbs, Begun, Added, Blank, ChainsOf};
+ghost use Rattle.chains.specs.Letters.{Ready, Climbs, Begun, Added, Blank, ChainsOf, zeroArrow};
 
 // How many slots are used, and the new state's supply.
 pub struct Climbed {
@@ -25,14 +25,34 @@ fn supply_at(table: &[u16], n: usize, x: words::State) -> words::Supply
     words::Supply::Of(words::State(table[n + of]))
 }
 
-// The arrow from x on c, over t letters.
-fn look(table: &[u16], n: usize, t: usize, x: words::State, c: words::Letter) -> words::Arrow
+// State 0 may have an arrow on every letter, so its arrows are told by the first state that has the letter, which is 0 where none has.
+fn zero_arrow(first: u16) -> words::Arrow
+    ensures { λ r. ⌜ r ≡ zeroArrow first ⌝ }
+{
+    if first == 0 {
+        return words::Arrow::Missing;
+    }
+    words::Arrow::To(words::State(first))
+}
+
+// The arrow from x on c, over t letters; that from state 0 is known.
+fn look(
+    table: &[u16],
+    n: usize,
+    t: usize,
+    zero: words::Arrow,
+    x: words::State,
+    c: words::Letter,
+) -> words::Arrow
     requires { ⌜ (n ≤ 65536) × (t < n) × (x .0 < n) ⌝ }
-    requires { ⌜ Chained (now table) n ⌝ }
+    requires { ⌜ Chained (now table) n × Looks (now table) n t 0 (c .0) zero ⌝ }
     ensures { λ r. ⌜ Looks (now (table .entry)) n t (x .0) (c .0) r ⌝ }
 {
     let from = x.0 as usize;
     let on = c.0 as u16;
+    if from == 0 {
+        return zero;
+    }
     if from >= t {
         return words::Arrow::Missing;
     }
@@ -71,14 +91,15 @@ fn climb(
     n: usize,
     t: usize,
     used: usize,
+    zero: words::Arrow,
     c: words::Letter,
     k: words::State,
 ) -> Climbed
     requires { ⌜ n ≤ 65536 ⌝ }
-    requires { ⌜ Ready (now table) n t used (k .0) ⌝ }
+    requires { ⌜ Ready (now table) n t used (k .0) × Looks (now table) n t 0 (c .0) zero ⌝ }
     ensures { λ r. ⌜ Climbs n t (c .0) (now (table .entry)) used (k .0) (now (table .exit)) (r .used) (r .supply .0) ⌝ }
 {
-    let found = look(table, n, t, k, c);
+    let found = look(table, n, t, zero, k, c);
     let words::Arrow::To(y) = found else {
         let next = supply_at(table, n, k);
         push(table, n, used, k, words::State((t + 1) as u16));
@@ -88,7 +109,7 @@ fn climb(
                 supply: words::State(0),
             };
         };
-        return climb(table, n, t, used + 1, c, s);
+        return climb(table, n, t, used + 1, zero, c, s);
     };
     Climbed {
         used: used,
@@ -96,10 +117,10 @@ fn climb(
     }
 }
 
-// State t + 1, with the letter that stands in row 0.
-fn add_letter(table: &mut [u16], n: usize, t: usize, used: usize) -> usize
+// State t + 1, with the letter that stands in row 0; the arrow from state 0 on it is known.
+fn add_letter(table: &mut [u16], n: usize, t: usize, used: usize, zero: words::Arrow) -> usize
     requires { ⌜ n ≤ 65536 ⌝ }
-    requires { ⌜ Begun (now table) n t used ⌝ }
+    requires { ⌜ Begun (now table) n t used × Looks (now table) n t 0 (at (now table) (t + 1)) zero ⌝ }
     ensures { λ r. ⌜ Added n t (now (table .entry)) used (now (table .exit)) r ⌝ }
 {
     let supply = supply_at(table, n, words::State(t as u16));
@@ -107,7 +128,7 @@ fn add_letter(table: &mut [u16], n: usize, t: usize, used: usize) -> usize
         return used;
     };
     let c = words::Letter((table[t + 1] % 256) as u8);
-    let climbed = climb(table, n, t, used, c, k);
+    let climbed = climb(table, n, t, used, zero, c, k);
     let s = climbed.supply;
     table[n + t + 1] = s.0;
     climbed.used
@@ -120,11 +141,17 @@ pub fn add_letters(table: &mut [u16], m: usize) -> usize
     ensures { λ r. ⌜ ChainsOf (now (table .entry)) m (now (table .exit)) r ⌝ }
 {
     let n = m + 1;
+    let mut firsts = [0u16; 256];
     let mut t = 0;
     let mut used = 0;
     while t < m {
-        used = add_letter(table, n, t, used);
+        let c = (table[t + 1] % 256) as usize;
+        let first = firsts[c];
+        used = add_letter(table, n, t, used, zero_arrow(first));
         t += 1;
+        if first == 0 {
+            firsts[c] = t as u16;
+        }
     }
     used
 }

@@ -1,6 +1,6 @@
 use mathlib.Core.Path.{refl, _∙_}
 use Rattle.chains.specs.Letters.{finds}
-use Rattle.chains.proofs.Climbing.{supply-told, supply-untold, ready-slot, ready-state, ready-again, climb-again, climb-out}
+use Rattle.chains.proofs.Climbing.{supply-told, supply-untold, ready-slot, ready-state, ready-again, zero-again, climb-again, climb-out}
 use native.Mathlib.Omega.{arith}
 use borrow.Author.Needs.{needs}
 use Prim.Native.Nat.{ℕ, _<_}
@@ -16,7 +16,7 @@ use Rattle.chains.proofs.+climb.{statement}
 use Rattle.chains.proofs.+climb.Tie.{close}
 
 abbrev μ-climb : Measures 1 climb-kinds.ps ℕ
-μ-climb κs a = a .1 .1 .1 .1 .1 .0 .0
+μ-climb κs a = a .1 .1 .1 .1 .1 .1 .0 .0
 
 abbrev climb-at : ℕ → In 1 climb-kinds.ps
 climb-at t = and 1 climb-kinds.ps (is 1 climb-kinds.ps μ-climb t) climb.Pre
@@ -24,7 +24,7 @@ climb-at t = and 1 climb-kinds.ps (is 1 climb-kinds.ps μ-climb t) climb.Pre
 abbrev climb-below : ℕ → In 1 climb-kinds.ps
 climb-below t = and 1 climb-kinds.ps (falls 1 climb-kinds.ps _<_ μ-climb t) climb.Pre
 
--- src/lib.rt:81:9
+-- src/lib.rt:103:9
 climb-look-requires : (t : ℕ) → climb-lts.Need-look-requires (
   look-reads.Asked,
   look-reads.Learnt,
@@ -37,9 +37,9 @@ climb-look-requires : (t : ℕ) → climb-lts.Need-look-requires (
 ) (climb-at t) climb.Post
 climb-look-requires t c κs =
     let at-start = c .before .before in
-    let R = at-start .pre .1 .1 in ((at-start .pre .1 .0, omega (arith, R .inside), ready-state R), R .chained)
+    let R = at-start .pre .1 .1 .0 in ((at-start .pre .1 .0, omega (arith, R .inside), ready-state R), (R .chained, at-start .pre .1 .1 .1))
 
--- src/lib.rt:82:26
+-- src/lib.rt:104:26
 climb-enum-known-found : (t : ℕ) → climb-lts.Need-enum-known-found (
   look-reads.Asked,
   look-reads.Learnt,
@@ -52,7 +52,7 @@ climb-enum-known-found : (t : ℕ) → climb-lts.Need-enum-known-found (
 ) (climb-at t) climb.Post
 climb-enum-known-found t c = search needs
 
--- src/lib.rt:83:30
+-- src/lib.rt:105:30
 climb-enum-told : (t : ℕ) → climb-lts.Need-enum-told (
   look-reads.Asked,
   look-reads.Learnt,
@@ -65,7 +65,7 @@ climb-enum-told : (t : ℕ) → climb-lts.Need-enum-told (
 ) (climb-at t) climb.Post
 climb-enum-told t c = search needs
 
--- src/lib.rt:83:13
+-- src/lib.rt:105:13
 climb-supply-at-requires : (t : ℕ) → climb-lts.Need-supply-at-requires (
   look-reads.Asked,
   look-reads.Learnt,
@@ -78,10 +78,10 @@ climb-supply-at-requires : (t : ℕ) → climb-lts.Need-supply-at-requires (
 ) (climb-at t) climb.Post
 climb-supply-at-requires t c κs =
     let at-start = c .before .before .before .before .before .before in
-    let R = at-start .pre .1 .1 in (ready-state R, omega (arith, R .chained .size))
+    let R = at-start .pre .1 .1 .0 in (ready-state R, omega (arith, R .chained .size))
 
--- src/lib.rt:84:47
-climb-add-t18 : (t : ℕ) → climb-lts.Need-add-t18 (
+-- src/lib.rt:106:47
+climb-add-t19 : (t : ℕ) → climb-lts.Need-add-t19 (
   look-reads.Asked,
   look-reads.Learnt,
   supply-at-reads.Asked,
@@ -91,10 +91,10 @@ climb-add-t18 : (t : ℕ) → climb-lts.Need-add-t18 (
   climb-below t,
   climb.Post,
 ) (climb-at t) climb.Post
-climb-add-t18 t c = search needs
+climb-add-t19 t c = search needs
 
--- src/lib.rt:84:46
-climb-cast-t19 : (t : ℕ) → climb-lts.Need-cast-t19 (
+-- src/lib.rt:106:46
+climb-cast-t20 : (t : ℕ) → climb-lts.Need-cast-t20 (
   look-reads.Asked,
   look-reads.Learnt,
   supply-at-reads.Asked,
@@ -104,9 +104,9 @@ climb-cast-t19 : (t : ℕ) → climb-lts.Need-cast-t19 (
   climb-below t,
   climb.Post,
 ) (climb-at t) climb.Post
-climb-cast-t19 t c = search needs
+climb-cast-t20 t c = search needs
 
--- src/lib.rt:84:9
+-- src/lib.rt:106:9
 climb-push-requires : (t : ℕ) → climb-lts.Need-push-requires (
   look-reads.Asked,
   look-reads.Learnt,
@@ -119,9 +119,9 @@ climb-push-requires : (t : ℕ) → climb-lts.Need-push-requires (
 ) (climb-at t) climb.Post
 climb-push-requires t c κs =
     let at-start = c .before .before .before .before .before .before .before .before in
-    let R = at-start .pre .1 .1 in (at-start .pre .1 .0, (omega (arith, ready-slot R), ready-state R, omega (arith, R .chained .size)))
+    let R = at-start .pre .1 .1 .0 in (at-start .pre .1 .0, (omega (arith, ready-slot R), ready-state R, omega (arith, R .chained .size)))
 
--- src/lib.rt:85:31
+-- src/lib.rt:107:31
 climb-enum-known-next : (t : ℕ) → climb-lts.Need-enum-known-next (
   look-reads.Asked,
   look-reads.Learnt,
@@ -134,7 +134,7 @@ climb-enum-known-next : (t : ℕ) → climb-lts.Need-enum-known-next (
 ) (climb-at t) climb.Post
 climb-enum-known-next t c = search needs
 
--- src/lib.rt:87:23
+-- src/lib.rt:109:23
 climb-enum-told-2 : (t : ℕ) → climb-lts.Need-enum-told-2 (
   look-reads.Asked,
   look-reads.Learnt,
@@ -147,8 +147,8 @@ climb-enum-told-2 : (t : ℕ) → climb-lts.Need-enum-told-2 (
 ) (climb-at t) climb.Post
 climb-enum-told-2 t c = search needs
 
--- src/lib.rt:87:23
-climb-add-t21 : (t : ℕ) → climb-lts.Need-add-t21 (
+-- src/lib.rt:109:23
+climb-add-t22 : (t : ℕ) → climb-lts.Need-add-t22 (
   look-reads.Asked,
   look-reads.Learnt,
   supply-at-reads.Asked,
@@ -158,9 +158,9 @@ climb-add-t21 : (t : ℕ) → climb-lts.Need-add-t21 (
   climb-below t,
   climb.Post,
 ) (climb-at t) climb.Post
-climb-add-t21 t c = search needs
+climb-add-t22 t c = search needs
 
--- src/lib.rt:86:13
+-- src/lib.rt:108:13
 climb-same-length : (t : ℕ) → climb-lts.Need-same-length (
   look-reads.Asked,
   look-reads.Learnt,
@@ -175,7 +175,7 @@ climb-same-length t c =
     let at-push = c .before .before .before .before in
     at-push .push .kept .0
 
--- src/lib.rt:86:13
+-- src/lib.rt:108:13
 climb-returns : (t : ℕ) → climb-lts.Need-returns (
   look-reads.Asked,
   look-reads.Learnt,
@@ -194,7 +194,7 @@ climb-returns t c =
     let at-start = at-look .before .before .before in
     climb-out (at-push .push .ensures) (supply-untold (at-start .args .table .now) (at-start .args .n) (at-start .args .k .0) _ (at-supply-at .supply-at .ensures) (c .enum-told2 .given .1)) (rw (at-enum-told .enum-told .given .1) at (at-look .look .ensures))
 
--- src/lib.rt:91:35
+-- src/lib.rt:113:35
 climb-add-climb : (t : ℕ) → climb-lts.Need-add-climb (
   look-reads.Asked,
   look-reads.Learnt,
@@ -207,7 +207,7 @@ climb-add-climb : (t : ℕ) → climb-lts.Need-add-climb (
 ) (climb-at t) climb.Post
 climb-add-climb t c = search needs
 
--- src/lib.rt:91:9
+-- src/lib.rt:113:9
 climb-climb-requires : (t : ℕ) → climb-lts.Need-climb-requires (
   look-reads.Asked,
   look-reads.Learnt,
@@ -223,9 +223,9 @@ climb-climb-requires t c κs =
     let at-push = at-next .before .before .before .before in
     let at-supply-at = at-push .before .before in
     let at-start = at-supply-at .before .before .before .before .before .before .before in
-    let R = at-start .pre .1 .1 in let s = supply-told (at-start .args .table .now) (at-start .args .n) (at-start .args .k .0) _ (at-supply-at .supply-at .ensures) _ (at-next .next .given .1) in (omega (arith, at-start .pre .0, s .0, s .1, R .down (at-start .args .k .0) (omega (arith, R .below))), (at-start .pre .1 .0, ready-again (at-push .push .ensures) R (s .0) (s .1)))
+    let R = at-start .pre .1 .1 .0 in let s = supply-told (at-start .args .table .now) (at-start .args .n) (at-start .args .k .0) _ (at-supply-at .supply-at .ensures) _ (at-next .next .given .1) in (omega (arith, at-start .pre .0, s .0, s .1, R .down (at-start .args .k .0) (omega (arith, R .below))), (at-start .pre .1 .0, (ready-again (at-push .push .ensures) R (s .0) (s .1), zero-again (at-push .push .ensures) R (s .0) (at-start .pre .1 .1 .1))))
 
--- src/lib.rt:91:9
+-- src/lib.rt:113:9
 climb-same-length-2 : (t : ℕ) → climb-lts.Need-same-length-2 (
   look-reads.Asked,
   look-reads.Learnt,
@@ -241,7 +241,7 @@ climb-same-length-2 t c =
     let at-push = at-climb .before .before .before .before .before .before .before in
     at-climb .climb .kept .0 ∙ at-push .push .kept .0
 
--- src/lib.rt:91:9
+-- src/lib.rt:113:9
 climb-returns-2 : (t : ℕ) → climb-lts.Need-returns-2 (
   look-reads.Asked,
   look-reads.Learnt,
@@ -262,7 +262,7 @@ climb-returns-2 t c =
     let at-start = at-look .before .before .before in
     let s = supply-told (at-start .args .table .now) (at-start .args .n) (at-start .args .k .0) _ (at-supply-at .supply-at .ensures) _ (at-next .next .given .1) in climb-again (at-push .push .ensures) (s .0) (s .1) (rw (at-enum-told .enum-told .given .1) at (at-look .look .ensures)) (at-climb .climb .ensures)
 
--- src/lib.rt:69:1
+-- src/lib.rt:90:1
 climb-same-length-3 : (t : ℕ) → climb-lts.Need-same-length-3 (
   look-reads.Asked,
   look-reads.Learnt,
@@ -275,7 +275,7 @@ climb-same-length-3 : (t : ℕ) → climb-lts.Need-same-length-3 (
 ) (climb-at t) climb.Post
 climb-same-length-3 t c = refl
 
--- src/lib.rt:69:1
+-- src/lib.rt:90:1
 climb-returns-3 : (t : ℕ) → climb-lts.Need-returns-3 (
   look-reads.Asked,
   look-reads.Learnt,
@@ -308,12 +308,12 @@ pub +climb-spec : {M : Type 1} → statement M
     (climb-enum-known-found t)
     (climb-enum-told t)
     (climb-supply-at-requires t)
-    (climb-add-t18 t)
-    (climb-cast-t19 t)
+    (climb-add-t19 t)
+    (climb-cast-t20 t)
     (climb-push-requires t)
     (climb-enum-known-next t)
     (climb-enum-told-2 t)
-    (climb-add-t21 t)
+    (climb-add-t22 t)
     (climb-same-length t)
     (climb-returns t)
     (climb-add-climb t)

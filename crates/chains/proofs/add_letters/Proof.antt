@@ -1,6 +1,10 @@
-use mathlib.Core.Path.{sym, _∙_}
-use Prim.Native.Nat.{_-_}
+use native.Mathlib.Omega.{arith}
+use Rattle.chains.proofs.Firsts.{firsts-start, code-zero, code-new, code-old}
 use Rattle.chains.proofs.Grown.{Grown, grown-start, code-begun, code-letter, code-end}
+use Rattle.chains.specs.Letters.{Firsts}
+use Rattle.words.specs.Lists.{at}
+use Prim.Native.Nat.{_-_}
+use mathlib.Core.Path.{sym, _∙_}
 use native.Mathlib.Omega.{arith}
 use borrow.Author.Needs.{needs}
 use Rattle.chains.proofs.add_letters.Statement.{statement}
@@ -8,61 +12,122 @@ use Rattle.chains.proofs.add_letters.Tie as tie
 use Rattle.chains.proofs.add_letters.Reads as reads
 use Rattle.chains.proofs.add_letters.Lts as lts
 use Rattle.chains.proofs.add_letter.Reads as add-letter-reads
+use Rattle.chains.proofs.zero_arrow.Reads as zero-arrow-reads
 
 abbrev Inv-loop : tie.InvT-loop
-Inv-loop table₀ m n t₀ used₀ table t used = Grown table₀ m table t used
+Inv-loop table₀ m n firsts₀ t₀ used₀ table firsts t used = Grown table₀ m table t used × Firsts (at table₀) t firsts
 
 abbrev μ-loop : tie.MeasureT-loop
-μ-loop table₀ m n t₀ used₀ table t used = m - t
+μ-loop table₀ m n firsts₀ t₀ used₀ table firsts t used = m - t
 
--- src/lib.rt:122:13
+-- src/lib.rt:144:13
 add-n : tie.Need-add-n Inv-loop μ-loop
 add-n c = search needs
 
--- src/lib.rt:125:5
+-- src/lib.rt:148:5
 loop-holds : tie.Need-loop-holds Inv-loop μ-loop
 loop-holds c =
     let at-start = c .before in
-    grown-start (at-start .pre .1)
+    (grown-start (at-start .pre .1), firsts-start (at (at-start .args .table .now)))
 
--- src/lib.rt:126:9
+-- src/lib.rt:149:24
+add-c : tie.Need-add-c Inv-loop μ-loop
+add-c c = search needs
+
+-- src/lib.rt:149:18
+mul-c : tie.Need-mul-c Inv-loop μ-loop
+mul-c c = search needs
+
+-- src/lib.rt:149:18
+slice-read-c : tie.Need-slice-read-c Inv-loop μ-loop
+slice-read-c c =
+    let at-loop = c .before .before in
+    let at-start = at-loop .before .before in
+    omega (arith, at-loop .loop .inv .0 .held .size, at-start .pre .1 .size)
+
+-- src/lib.rt:149:17
+cast-c : tie.Need-cast-c Inv-loop μ-loop
+cast-c c = search needs
+
+-- src/lib.rt:150:21
+mul-first : tie.Need-mul-first Inv-loop μ-loop
+mul-first c = search needs
+
+-- src/lib.rt:150:21
+array-read-first : tie.Need-array-read-first Inv-loop μ-loop
+array-read-first c =
+    let at-loop = c .before .before in
+    omega (arith, at-loop .loop .inv .1 .size)
+
+-- src/lib.rt:151:46
+zero-arrow-requires : tie.Need-zero-arrow-requires Inv-loop μ-loop
+zero-arrow-requires c κs = search needs
+
+-- src/lib.rt:151:9
 add-letter-requires : tie.Need-add-letter-requires Inv-loop μ-loop
 add-letter-requires c κs =
-    let at-loop-test = c .before in
+    let at-loop-test = c .before .before .before in
     let at-loop = at-loop-test .before in
     let at-start = at-loop .before .before in
-    (omega (arith, at-start .pre .0), code-begun (at-start .pre .1) (at-loop .loop .inv) (at-loop-test .loop-test .taken))
+    (omega (arith, at-start .pre .0), (code-begun (at-start .pre .1) (at-loop .loop .inv .0) (at-loop-test .loop-test .taken), rw (c .zero-arrow .ensures) (code-zero (at-start .pre .1) (at-loop .loop .inv .0) (at-loop-test .loop-test .taken) (at-loop .loop .inv .1))))
 
--- src/lib.rt:127:9
+-- src/lib.rt:152:9
 add-t : tie.Need-add-t Inv-loop μ-loop
 add-t c = search needs
 
--- src/lib.rt:125:5
+-- src/lib.rt:154:25
+cast-firsts : tie.Need-cast-firsts Inv-loop μ-loop
+cast-firsts c = search needs
+
+-- src/lib.rt:154:13
+mul-firsts : tie.Need-mul-firsts Inv-loop μ-loop
+mul-firsts c = search needs
+
+-- src/lib.rt:154:13
+array-write-firsts : tie.Need-array-write-firsts Inv-loop μ-loop
+array-write-firsts c =
+    let at-loop = c .before .before .before .before .before .before .before .before in
+    omega (arith, at-loop .loop .inv .1 .size)
+
+-- src/lib.rt:148:5
 loop-less : tie.Need-loop-less Inv-loop μ-loop
 loop-less c = search needs
 
--- src/lib.rt:125:5
+-- src/lib.rt:148:5
 loop-again : tie.Need-loop-again Inv-loop μ-loop
 loop-again c =
-    let at-add-letter = c .before .before in
-    let at-loop-test = at-add-letter .before .before in
+    let at-add-letter = c .before .before .before in
+    let at-loop-test = at-add-letter .before .before .before .before in
     let at-loop = at-loop-test .before in
     let at-start = at-loop .before .before in
-    code-letter (at-start .pre .1) (at-loop .loop .inv) (at-loop-test .loop-test .taken) (at-add-letter .add-letter .ensures)
+    (code-letter (at-start .pre .1) (at-loop .loop .inv .0) (at-loop-test .loop-test .taken) (at-add-letter .add-letter .ensures), code-new (at-start .pre .1) (at-loop .loop .inv .0) (at-loop-test .loop-test .taken) (at-loop .loop .inv .1) (c .if1 .taken))
 
--- src/lib.rt:117:1
+-- src/lib.rt:148:5
+loop-less-2 : tie.Need-loop-less-2 Inv-loop μ-loop
+loop-less-2 c = search needs
+
+-- src/lib.rt:148:5
+loop-again-2 : tie.Need-loop-again-2 Inv-loop μ-loop
+loop-again-2 c =
+    let at-add-letter = c .before .before .before in
+    let at-loop-test = at-add-letter .before .before .before .before in
+    let at-loop = at-loop-test .before in
+    let at-start = at-loop .before .before in
+    (code-letter (at-start .pre .1) (at-loop .loop .inv .0) (at-loop-test .loop-test .taken) (at-add-letter .add-letter .ensures), code-old (at-start .pre .1) (at-loop .loop .inv .0) (at-loop-test .loop-test .taken) (at-loop .loop .inv .1) (c .if1 .left))
+
+-- src/lib.rt:139:1
 same-length : tie.Need-same-length Inv-loop μ-loop
 same-length c =
     let at-loop = c .before in
     let at-start = at-loop .before .before in
-    at-loop .loop .inv .held .size ∙ sym (at-start .pre .1 .size)
+    at-loop .loop .inv .0 .held .size ∙ sym (at-start .pre .1 .size)
 
--- src/lib.rt:117:1
+-- src/lib.rt:139:1
 returns : tie.Need-returns Inv-loop μ-loop
 returns c =
     let at-loop = c .before in
     let at-start = at-loop .before .before in
-    code-end (at-start .pre .1) (at-loop .loop .inv) (c .loop-test .left)
+    code-end (at-start .pre .1) (at-loop .loop .inv .0) (c .loop-test .left)
 
 pub add-letters-spec : {M : Type 1} → statement M
 add-letters-spec =
@@ -72,9 +137,21 @@ add-letters-spec =
     μ-loop
     add-n
     loop-holds
+    add-c
+    mul-c
+    slice-read-c
+    cast-c
+    mul-first
+    array-read-first
+    zero-arrow-requires
     add-letter-requires
     add-t
+    cast-firsts
+    mul-firsts
+    array-write-firsts
     loop-less
     loop-again
+    loop-less-2
+    loop-again-2
     same-length
     returns)
