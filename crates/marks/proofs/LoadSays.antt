@@ -60,21 +60,29 @@ module _ (file R T : List ℕ) where
 
 -- ── In the word's part of the rooms ────────────────────────────────────────
 
--- what the code makes of them: R has the m letters of the file from place i on
-module _ (file R : List ℕ) (i m : ℕ) (copied : R ≡ take (i + m - i) (drop i file)) (inside : i + m ≤ length file) where
-  is-part : R ≡ part file i m
-  is-part = let e : i + m - i ≡ m = omega arith in copied ∙ ap (λ (n : ℕ). take n (drop i file)) e
+-- what the code makes of them: R is a copy of the m letters that stand in the file from place i on, and T their table
+module _ (file : List ℕ) (i m : ℕ) (inside : i + m ≤ length file) where
+  abbrev shown-letters : Word
+  shown-letters = take (i + m - i) (drop i file)
 
-  size : length R ≡ m
-  size = ap length is-part ∙ part-length file i m inside
+  is-part : shown-letters ≡ part file i m
+  is-part = let e : i + m - i ≡ m = omega arith in ap (λ (n : ℕ). take n (drop i file)) e
 
-  module _ {T : List ℕ} (table : T ≡ tableOf R) {said : Compared} (told : verdictOf said ≡ verdict file (i + m) R) where
+  size : length (part file i m) ≡ m
+  size = part-length file i m inside
+
+  module _ {R T : List ℕ} (copied : R ≡ shown-letters) (table : T ≡ tableOf shown-letters) (said : Compared)
+      (told : verdictOf said ≡ verdict file (i + m) shown-letters) where
     pub taken-right : said ≡ Right → outcome (done m) R T ≡ judged (verdict file (i + m) (part file i m)) (part file i m)
-    taken-right e = let v : verdict file (i + m) R ≡ right = sym told ∙ ap verdictOf e in rw (← is-part, v, table, size)
+    taken-right e =
+        let v : verdict file (i + m) (part file i m) ≡ right = ap (verdict file (i + m)) (sym is-part) ∙ sym told ∙ ap verdictOf e in
+        rw (v, copied, table, is-part, size)
 
     pub taken-wrong : {n j : ℕ} → said ≡ Wrong n j → {R′ T′ : List ℕ} → R′ ≡ replicate (length R) 0 → T′ ≡ replicate (length T) 0
         → outcome (refused n) R′ T′ ≡ judged (verdict file (i + m) (part file i m)) (part file i m)
-    taken-wrong {n} {j} e r t = let v : verdict file (i + m) R ≡ wrong n j = sym told ∙ ap verdictOf e in rw (← is-part, v, r, t, table, table-size R)
+    taken-wrong {n} {j} e r t =
+        let v : verdict file (i + m) (part file i m) ≡ wrong n j = ap (verdict file (i + m)) (sym is-part) ∙ sym told ∙ ap verdictOf e in
+        rw (v, r, t, copied, table, is-part, table-size (part file i m))
 
 -- the parts of longer rooms that the code lends, and what it gives back
 module _ (file R T : List ℕ) {m i : ℕ} (shown : front file ≡ letters m i) (fits : m ≤ length R) (enough : room m ≤ length T) where

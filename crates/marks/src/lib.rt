@@ -133,8 +133,8 @@ fn take_word(file: &[u8], at: usize, room: &mut [u8], table: &mut [u16]) -> Load
     let m = room.len();
     let end = at + m;
     saved::put_letters(&file[at..end], room);
-    table::fill(room, table);
-    let said = loaded::compare(room, table, file, end);
+    table::fill(&file[at..end], table);
+    let said = loaded::compare(&file[at..end], table, file, end);
     match said {
         loaded::Verdict::Right => Loaded::Done(m),
         loaded::Verdict::Wrong(why, place) => {
