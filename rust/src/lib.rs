@@ -1,164 +1,43 @@
-//! The exported entries as they are. Every one may be handed any slice: it answers, or refuses with its number and leaves what its promise says.
+//! Finding marks in broken ride files: a safe face of the proved library.
+//!
+//! A [`Mark`] is a word of 1 to 1,024 bytes. It is made from the word itself or from a saved file, owns the rooms that the library works in, and can be used for
+//! any number of texts of any length.
+//!
+//! ```
+//! use marks::Mark;
+//!
+//! let mut mark = Mark::new(b"aba")?;
+//! assert_eq!(mark.find_iter(b"ababa").collect::<Vec<_>>(), [0, 2]);
+//!
+//! let file = mark.to_file();
+//! let mut again = Mark::from_file(&file)?;
+//! assert_eq!(again.word(), b"aba");
+//! assert_eq!(again.count(b"xxabaxx"), 1);
+//! # Ok::<(), marks::Refusal>(())
+//! ```
+//!
+//! What is refused is refused with a number of one table, [`Refusal`]; nothing panics, and no declared number is acted on before it is checked. [`entries`]
+//! has the five entries themselves, over slices that the caller lends.
 
-extern "C" {
-    fn marks_build(word: *const u8, word_len: usize, tables: *mut u16, tables_len: usize, m: *mut u64) -> u32;
-    fn marks_save(
-        word: *const u8,
-        word_len: usize,
-        tables: *mut u16,
-        tables_len: usize,
-        out: *mut u8,
-        out_len: usize,
-        length: *mut u64,
-    ) -> u32;
-    fn marks_load(
-        file: *const u8,
-        file_len: usize,
-        room: *mut u8,
-        room_len: usize,
-        tables: *mut u16,
-        tables_len: usize,
-        m: *mut u64,
-    ) -> u32;
-    fn marks_search(
-        word: *const u8,
-        word_len: usize,
-        text: *const u8,
-        text_len: usize,
-        tables: *mut u16,
-        tables_len: usize,
-        finds: *mut u32,
-        finds_len: usize,
-        count: *mut u64,
-        letters: *mut u64,
-    ) -> u32;
-    fn marks_search_file(
-        file: *const u8,
-        file_len: usize,
-        text: *const u8,
-        text_len: usize,
-        room: *mut u8,
-        room_len: usize,
-        tables: *mut u16,
-        tables_len: usize,
-        finds: *mut u32,
-        finds_len: usize,
-        count: *mut u64,
-        letters: *mut u64,
-    ) -> u32;
-}
+pub mod entries;
+mod finds;
+mod mark;
+mod refusal;
 
-/// The table of a word's oracle, in the first 6(m+1) entries of `tables`; the answer is m.
-pub fn build(word: &[u8], tables: &mut [u16]) -> Result<u64, u32> {
-    let mut m = 0;
-    // SAFETY: each pointer and length is of one slice, and `m` outlives the call.
-    match unsafe { marks_build(word.as_ptr(), word.len(), tables.as_mut_ptr(), tables.len(), &mut m) } {
-        0 => Ok(m),
-        refused => Err(refused),
-    }
-}
+pub use finds::Finds;
+pub use mark::Mark;
+pub use refusal::Refusal;
 
-/// The file of a word, at the front of `out`; the answer is its length.
-pub fn save(word: &[u8], tables: &mut [u16], out: &mut [u8]) -> Result<u64, u32> {
-    let mut length = 0;
-    // SAFETY: as above.
-    let said = unsafe {
-        marks_save(
-            word.as_ptr(),
-            word.len(),
-            tables.as_mut_ptr(),
-            tables.len(),
-            out.as_mut_ptr(),
-            out.len(),
-            &mut length,
-        )
-    };
-    match said {
-        0 => Ok(length),
-        refused => Err(refused),
-    }
-}
+/// The longest word, in bytes.
+pub const LONGEST_WORD: usize = 1_024;
 
-/// The file's word in the first m bytes of `room`, its table in the first 6(m+1) entries of `tables`; the answer is m.
-pub fn load(file: &[u8], room: &mut [u8], tables: &mut [u16]) -> Result<u64, u32> {
-    let mut m = 0;
-    // SAFETY: as above.
-    let said = unsafe {
-        marks_load(
-            file.as_ptr(),
-            file.len(),
-            room.as_mut_ptr(),
-            room.len(),
-            tables.as_mut_ptr(),
-            tables.len(),
-            &mut m,
-        )
-    };
-    match said {
-        0 => Ok(m),
-        refused => Err(refused),
-    }
-}
+/// The longest text that one call of an entry takes, in bytes. [`Mark`] takes longer ones, in parts.
+pub const LONGEST_TEXT: usize = 16_777_216;
 
-/// How often a word stands in a text, and how many letters were read to find out.
-#[derive(Clone, Copy, Debug, PartialEq, Eq)]
-pub struct Tally {
-    pub count: u64,
-    pub letters: u64,
-}
+/// So many bytes are room enough for the file of any word.
+pub const LONGEST_FILE: usize = 5_121;
 
-/// Every place where the word stands in the text: the first of them in `finds`, as many as fit, the count exact.
-pub fn search(word: &[u8], text: &[u8], tables: &mut [u16], finds: &mut [u32]) -> Result<Tally, u32> {
-    let mut tally = Tally { count: 0, letters: 0 };
-    // SAFETY: as above.
-    let said = unsafe {
-        marks_search(
-            word.as_ptr(),
-            word.len(),
-            text.as_ptr(),
-            text.len(),
-            tables.as_mut_ptr(),
-            tables.len(),
-            finds.as_mut_ptr(),
-            finds.len(),
-            &mut tally.count,
-            &mut tally.letters,
-        )
-    };
-    match said {
-        0 => Ok(tally),
-        refused => Err(refused),
-    }
-}
-
-/// Every place where the mirror of the file's word stands in the text; `room` and `tables` are left as `load` leaves them.
-pub fn search_file(
-    file: &[u8],
-    text: &[u8],
-    room: &mut [u8],
-    tables: &mut [u16],
-    finds: &mut [u32],
-) -> Result<Tally, u32> {
-    let mut tally = Tally { count: 0, letters: 0 };
-    // SAFETY: as above.
-    let said = unsafe {
-        marks_search_file(
-            file.as_ptr(),
-            file.len(),
-            text.as_ptr(),
-            text.len(),
-            room.as_mut_ptr(),
-            room.len(),
-            tables.as_mut_ptr(),
-            tables.len(),
-            finds.as_mut_ptr(),
-            finds.len(),
-            &mut tally.count,
-            &mut tally.letters,
-        )
-    };
-    match said {
-        0 => Ok(tally),
-        refused => Err(refused),
-    }
+/// How many entries the table of a word of m letters takes.
+pub const fn table_room(m: usize) -> usize {
+    6 * (m + 1)
 }

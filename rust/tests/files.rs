@@ -1,5 +1,6 @@
 //! Saved files at the limit of 1,024 letters, and refusals with what they leave, through the entries as Rust sees them.
-use marks::{load, save, search_file, Tally};
+use marks::entries::{load, save, search_file, Tally};
+use marks::Refusal;
 
 const WORD_LIMIT: usize = 1024;
 const TABLES: usize = 6 * (WORD_LIMIT + 1);
@@ -28,7 +29,7 @@ fn the_longest_word_is_saved_loaded_and_searched_for() {
 #[test]
 fn an_output_one_byte_short_is_not_touched() {
     let (mut tables, mut out) = ([7u16; 6 * 8 + 1], [9u8; 18]);
-    assert_eq!(save(b"abbbaab", &mut tables, &mut out[..17]), Err(12));
+    assert_eq!(save(b"abbbaab", &mut tables, &mut out[..17]), Err(Refusal::ShortOutput));
     assert_eq!(out, [9; 18]);
     assert!(tables[..48].iter().all(|&e| e == 0));
     assert_eq!(tables[48], 7);
@@ -40,12 +41,12 @@ fn an_output_one_byte_short_is_not_touched() {
 fn the_text_comes_before_the_file_and_the_room_before_the_arrows() {
     let text = vec![b'a'; 16_777_217];
     let (mut room, mut tables, mut finds) = ([8u8; 3], [7u16; 24], [5u32; 2]);
-    assert_eq!(search_file(b"", &text, &mut room, &mut tables, &mut finds), Err(4));
-    assert_eq!(search_file(b"", &text[1..], &mut room, &mut tables, &mut finds), Err(5));
+    assert_eq!(search_file(b"", &text, &mut room, &mut tables, &mut finds), Err(Refusal::LongText));
+    assert_eq!(search_file(b"", &text[1..], &mut room, &mut tables, &mut finds), Err(Refusal::CutFile));
     // bytes behind the last arrow, and a room that is too short for the word
-    assert_eq!(load(b"\x01\x03aaa\0\0", &mut room[..2], &mut tables), Err(3));
+    assert_eq!(load(b"\x01\x03aaa\0\0", &mut room[..2], &mut tables), Err(Refusal::ShortRoom));
     assert_eq!((room, tables), ([8; 3], [7; 24]));
-    assert_eq!(load(b"\x01\x03aaa\0\0", &mut room, &mut tables), Err(11));
+    assert_eq!(load(b"\x01\x03aaa\0\0", &mut room, &mut tables), Err(Refusal::Leftovers));
     assert_eq!((room, tables), ([0; 3], [0; 24]));
     let tally = search_file(b"\x01\x03aaa\0", b"aaaa", &mut room, &mut tables, &mut finds[..1]);
     assert_eq!(tally, Ok(Tally { count: 2, letters: 6 }));

@@ -1,5 +1,6 @@
 //! Texts at the limit of 16,777,216 bytes and above it. A program of the library's own language would need them on its stack, so they are run from here.
-use marks::{search, Tally};
+use marks::entries::{search, Tally};
+use marks::Refusal;
 
 const TEXT_LIMIT: usize = 16_777_216;
 
@@ -22,13 +23,13 @@ fn a_text_at_the_limit_is_searched_to_its_last_letter() {
 fn one_byte_more_is_refused_and_changes_nothing() {
     let text = vec![b'a'; TEXT_LIMIT + 1];
     let (mut tables, mut finds) = ([7u16; 19], [9u32; 3]);
-    assert_eq!(search(b"xy", &text, &mut tables, &mut finds), Err(4));
+    assert_eq!(search(b"xy", &text, &mut tables, &mut finds), Err(Refusal::LongText));
     assert_eq!((tables, finds), ([7; 19], [9; 3]));
     // the order of the refusals: an empty word and a long one come before the text, the room behind it
-    assert_eq!(search(b"", &text, &mut tables, &mut finds), Err(1));
-    assert_eq!(search(&[0; 1025], &text, &mut tables, &mut finds), Err(2));
-    assert_eq!(search(b"xy", &text, &mut tables[..17], &mut finds), Err(4));
-    assert_eq!(search(b"xy", &text[1..], &mut tables[..17], &mut finds), Err(3));
+    assert_eq!(search(b"", &text, &mut tables, &mut finds), Err(Refusal::EmptyWord));
+    assert_eq!(search(&[0; 1025], &text, &mut tables, &mut finds), Err(Refusal::LongWord));
+    assert_eq!(search(b"xy", &text, &mut tables[..17], &mut finds), Err(Refusal::LongText));
+    assert_eq!(search(b"xy", &text[1..], &mut tables[..17], &mut finds), Err(Refusal::ShortRoom));
     assert_eq!((tables, finds), ([7; 19], [9; 3]));
 }
 

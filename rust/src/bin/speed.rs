@@ -1,6 +1,7 @@
-//! speed: measures `build` and `search` on this machine, and prints the tables of docs/SPEED.md. Run it by `tools/speed`.
+//! speed: measures `build`, `load` and `search` on this machine, and prints the tables of docs/SPEED.md. Run it by `tools/speed`.
 
-use marks::{build, search};
+use marks::entries::{build, load, save, search};
+use marks::{table_room, LONGEST_FILE};
 use std::time::Instant;
 
 extern "C" {
@@ -57,6 +58,63 @@ fn build_times() {
         }
         println!("{line}");
     }
+}
+
+/// A file and what becomes of it when it is damaged.
+fn damaged(file: &[u8], how: &str) -> Vec<u8> {
+    let (&last, before) = file.split_last().expect("no file is empty");
+    match how {
+        "good" => file.to_vec(),
+        "last arrow differs (10)" => [before, &[last ^ 1]].concat(),
+        "one byte more (11)" => [file, &[0]].concat(),
+        _ => before.to_vec(),
+    }
+}
+
+fn load_times() {
+    println!(
+        "\n## Load\n\nMicroseconds a load, how often the time of half the letters it is, and nanoseconds for each byte of the file.\n"
+    );
+    println!("| Letters of the alphabet | File | m = 128 | 256 | 512 | 1,024 |");
+    println!("|---|---|---|---|---|---|");
+    for letters in [2, 4, 256] {
+        for how in ["good", "last arrow differs (10)", "one byte more (11)", "one byte less (5)"] {
+            let mut line = format!("| {letters} | {how} |");
+            let mut before = 0.0;
+            for m in [128usize, 256, 512, 1024] {
+                let (mut tables, mut room) = (vec![0u16; table_room(m)], vec![0u8; m]);
+                let files: Vec<Vec<u8>> = (0..64)
+                    .map(|i| {
+                        let mut out = vec![0; LONGEST_FILE];
+                        let word = Random(88172645463325252 + i).bytes(m, letters);
+                        let length = save(&word, &mut tables, &mut out).expect("a word within the limit");
+                        damaged(&out[..length as usize], how)
+                    })
+                    .collect();
+                assert!(files.iter().all(|file| load(file, &mut room, &mut tables).is_ok() == (how == "good")));
+                let took = best(|| {
+                    for _ in 0..4 {
+                        for file in &files {
+                            let _ = std::hint::black_box(load(file, &mut room, &mut tables));
+                        }
+                    }
+                }) / 256.0
+                    * 1e6;
+                let bytes = files.iter().map(Vec::len).sum::<usize>() as f64 / files.len() as f64;
+                let ratio = if before > 0.0 { format!("{:.2}, ", took / before) } else { String::new() };
+                line += &format!(" {took:.1} ({ratio}{:.0}) |", took * 1e3 / bytes);
+                before = took;
+            }
+            println!("{line}");
+        }
+    }
+    let (mut tables, mut room) = (vec![0u16; table_room(1_024)], vec![0u8; 1_024]);
+    let took = best(|| {
+        for _ in 0..1_000_000 {
+            let _ = std::hint::black_box(load(&[0x01, 0xFF, 0xFF, 0xFF, 0xFF, 0x0F], &mut room, &mut tables));
+        }
+    });
+    println!("\n01 FF FF FF FF 0F, which declares 4,294,967,295 letters, is refused in {:.0} nanoseconds.", took * 1e3);
 }
 
 /// The backward search in plain safe Rust, over the oracle of the mirrored word with a full table of 256 columns: what a careful engineer would write.
@@ -152,5 +210,6 @@ fn search_times() {
 
 fn main() {
     build_times();
+    load_times();
     search_times();
 }

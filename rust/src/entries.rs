@@ -1,0 +1,142 @@
+//! The exported entries over lent slices, as they are. Every one may be handed any slices: it answers, or refuses with its number of the table and leaves
+//! what its promise says. Nothing is allocated. [`Mark`](crate::Mark) is easier to use.
+
+use crate::Refusal;
+
+extern "C" {
+    fn marks_build(word: *const u8, word_len: usize, tables: *mut u16, tables_len: usize, m: *mut u64) -> u32;
+    fn marks_save(
+        word: *const u8,
+        word_len: usize,
+        tables: *mut u16,
+        tables_len: usize,
+        out: *mut u8,
+        out_len: usize,
+        length: *mut u64,
+    ) -> u32;
+    fn marks_load(
+        file: *const u8,
+        file_len: usize,
+        room: *mut u8,
+        room_len: usize,
+        tables: *mut u16,
+        tables_len: usize,
+        m: *mut u64,
+    ) -> u32;
+    fn marks_search(
+        word: *const u8,
+        word_len: usize,
+        text: *const u8,
+        text_len: usize,
+        tables: *mut u16,
+        tables_len: usize,
+        finds: *mut u32,
+        finds_len: usize,
+        count: *mut u64,
+        letters: *mut u64,
+    ) -> u32;
+    fn marks_search_file(
+        file: *const u8,
+        file_len: usize,
+        text: *const u8,
+        text_len: usize,
+        room: *mut u8,
+        room_len: usize,
+        tables: *mut u16,
+        tables_len: usize,
+        finds: *mut u32,
+        finds_len: usize,
+        count: *mut u64,
+        letters: *mut u64,
+    ) -> u32;
+}
+
+/// The table of a word's oracle, in the first 6(m+1) entries of `tables`; the answer is m.
+pub fn build(word: &[u8], tables: &mut [u16]) -> Result<u64, Refusal> {
+    let mut m = 0;
+    // SAFETY: each pointer and length is of one slice, and `m` outlives the call.
+    match unsafe { marks_build(word.as_ptr(), word.len(), tables.as_mut_ptr(), tables.len(), &mut m) } {
+        0 => Ok(m),
+        number => Err(Refusal::of(number)),
+    }
+}
+
+/// The file of a word, at the front of `out`; the answer is its length.
+pub fn save(word: &[u8], tables: &mut [u16], out: &mut [u8]) -> Result<u64, Refusal> {
+    let mut length = 0;
+    // SAFETY: as above.
+    let said =
+        unsafe { marks_save(word.as_ptr(), word.len(), tables.as_mut_ptr(), tables.len(), out.as_mut_ptr(), out.len(), &mut length) };
+    match said {
+        0 => Ok(length),
+        number => Err(Refusal::of(number)),
+    }
+}
+
+/// The file's word in the first m bytes of `room`, its table in the first 6(m+1) entries of `tables`; the answer is m.
+pub fn load(file: &[u8], room: &mut [u8], tables: &mut [u16]) -> Result<u64, Refusal> {
+    let mut m = 0;
+    // SAFETY: as above.
+    let said = unsafe { marks_load(file.as_ptr(), file.len(), room.as_mut_ptr(), room.len(), tables.as_mut_ptr(), tables.len(), &mut m) };
+    match said {
+        0 => Ok(m),
+        number => Err(Refusal::of(number)),
+    }
+}
+
+/// How often a word stands in a text, and how many letters were read to find out.
+#[derive(Clone, Copy, Debug, PartialEq, Eq)]
+pub struct Tally {
+    pub count: u64,
+    pub letters: u64,
+}
+
+/// Every place where the word stands in the text: the first of them in `finds`, as many as fit, the count exact.
+pub fn search(word: &[u8], text: &[u8], tables: &mut [u16], finds: &mut [u32]) -> Result<Tally, Refusal> {
+    let mut tally = Tally { count: 0, letters: 0 };
+    // SAFETY: as above.
+    let said = unsafe {
+        marks_search(
+            word.as_ptr(),
+            word.len(),
+            text.as_ptr(),
+            text.len(),
+            tables.as_mut_ptr(),
+            tables.len(),
+            finds.as_mut_ptr(),
+            finds.len(),
+            &mut tally.count,
+            &mut tally.letters,
+        )
+    };
+    match said {
+        0 => Ok(tally),
+        number => Err(Refusal::of(number)),
+    }
+}
+
+/// Every place where the mirror of the file's word stands in the text; `room` and `tables` are left as `load` leaves them.
+pub fn search_file(file: &[u8], text: &[u8], room: &mut [u8], tables: &mut [u16], finds: &mut [u32]) -> Result<Tally, Refusal> {
+    let mut tally = Tally { count: 0, letters: 0 };
+    // SAFETY: as above.
+    let said = unsafe {
+        marks_search_file(
+            file.as_ptr(),
+            file.len(),
+            text.as_ptr(),
+            text.len(),
+            room.as_mut_ptr(),
+            room.len(),
+            tables.as_mut_ptr(),
+            tables.len(),
+            finds.as_mut_ptr(),
+            finds.len(),
+            &mut tally.count,
+            &mut tally.letters,
+        )
+    };
+    match said {
+        0 => Ok(tally),
+        number => Err(Refusal::of(number)),
+    }
+}

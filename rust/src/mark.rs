@@ -1,0 +1,110 @@
+//! A word to be found, with the rooms that finding it takes.
+
+use crate::{entries, table_room, Finds, Refusal, LONGEST_FILE, LONGEST_TEXT, LONGEST_WORD};
+
+/// How many finds are listed at a time.
+const LIST: usize = 4_096;
+
+/// A word of 1 to 1,024 bytes, ready to be found in any number of texts.
+///
+/// It owns its rooms, so a search allocates nothing. To search on several threads at once, clone it.
+#[derive(Clone, Debug)]
+pub struct Mark {
+    pub(crate) word: Vec<u8>,
+    pub(crate) tables: Vec<u16>,
+    pub(crate) list: Vec<u32>,
+}
+
+impl Mark {
+    /// The mark of a word.
+    ///
+    /// ```
+    /// use marks::{Mark, Refusal};
+    ///
+    /// assert_eq!(Mark::new(b"").unwrap_err(), Refusal::EmptyWord);
+    /// assert_eq!(Mark::new(&[0; 1_025]).unwrap_err(), Refusal::LongWord);
+    /// assert!(Mark::new(&[0; 1_024]).is_ok());
+    /// ```
+    pub fn new(word: &[u8]) -> Result<Mark, Refusal> {
+        let mut tables = vec![0; table_room(word.len().min(LONGEST_WORD))];
+        entries::build(word, &mut tables)?;
+        Ok(Mark { word: word.to_vec(), tables, list: vec![0; LIST] })
+    }
+
+    /// The mark of a saved file. Searching with a file looks for the mirror of the file's word, so that the file holds the oracle that the search walks.
+    ///
+    /// ```
+    /// use marks::{Mark, Refusal};
+    ///
+    /// // the file of `ab` finds `ba`
+    /// let mark = Mark::from_file(&[0x01, 0x02, 0x61, 0x62, 0x01, 0x00, 0x00])?;
+    /// assert_eq!(mark.word(), b"ba");
+    /// assert_eq!(Mark::from_file(&[0x01, 0x02, 0x61, 0x62]).unwrap_err(), Refusal::CutFile);
+    /// # Ok::<(), Refusal>(())
+    /// ```
+    pub fn from_file(file: &[u8]) -> Result<Mark, Refusal> {
+        let (mut word, mut tables) = (vec![0; LONGEST_WORD], vec![0; table_room(LONGEST_WORD)]);
+        let m = entries::load(file, &mut word, &mut tables)? as usize;
+        word.truncate(m);
+        word.reverse();
+        tables.truncate(table_room(m));
+        Ok(Mark { word, tables, list: vec![0; LIST] })
+    }
+
+    /// The word that is looked for.
+    pub fn word(&self) -> &[u8] {
+        &self.word
+    }
+
+    /// The file from which [`from_file`](Mark::from_file) makes this mark again. It is the only file that does.
+    ///
+    /// ```
+    /// # use marks::Mark;
+    /// assert_eq!(Mark::new(b"a")?.to_file(), [0x01, 0x01, 0x61, 0x00]);
+    /// # Ok::<(), marks::Refusal>(())
+    /// ```
+    pub fn to_file(&self) -> Vec<u8> {
+        let mirror: Vec<u8> = self.word.iter().rev().copied().collect();
+        let (mut tables, mut out) = (vec![0; self.tables.len()], vec![0; LONGEST_FILE]);
+        let length = entries::save(&mirror, &mut tables, &mut out).expect("a mark's word is within the limit and has room");
+        out.truncate(length as usize);
+        out
+    }
+
+    /// Every place where the word stands in the text, overlaps included, rising. However many there are, and however long the text, none is missed.
+    ///
+    /// ```
+    /// # use marks::Mark;
+    /// let mut mark = Mark::new(b"aa")?;
+    /// assert_eq!(mark.find_iter(b"aaaa").collect::<Vec<_>>(), [0, 1, 2]);
+    /// assert_eq!(mark.find_iter(b"").next(), None);
+    /// # Ok::<(), marks::Refusal>(())
+    /// ```
+    pub fn find_iter<'a>(&'a mut self, text: &'a [u8]) -> Finds<'a> {
+        Finds::new(self, text)
+    }
+
+    /// The first place where the word stands in the text.
+    pub fn find(&mut self, text: &[u8]) -> Option<usize> {
+        self.find_iter(text).next()
+    }
+
+    /// How often the word stands in the text.
+    pub fn count(&mut self, text: &[u8]) -> u64 {
+        let beyond = self.word.len() - 1;
+        let starts = LONGEST_TEXT - beyond;
+        let (mut at, mut count) = (0, 0);
+        while at < text.len() {
+            let end = text.len().min(at + starts + beyond);
+            count += self.search(&text[at..end], 0).count;
+            at += starts;
+        }
+        count
+    }
+
+    /// One search of at most [`LONGEST_TEXT`] bytes, the first finds in the list, up to `most` of them.
+    pub(crate) fn search(&mut self, part: &[u8], most: usize) -> entries::Tally {
+        entries::search(&self.word, part, &mut self.tables, &mut self.list[..most])
+            .expect("a mark's word, rooms and parts are within the limits")
+    }
+}

@@ -1,0 +1,108 @@
+//! The table of refusals: each number and what it means.
+
+use std::{error::Error, fmt};
+
+/// Why an entry refused. The value of each case is its number in the table.
+///
+/// ```
+/// use marks::{Mark, Refusal};
+///
+/// // a header that declares four billion letters
+/// let refused = Mark::from_file(&[0x01, 0xFF, 0xFF, 0xFF, 0xFF, 0x0F]).unwrap_err();
+/// assert_eq!(refused, Refusal::BadLength);
+/// assert_eq!(refused.number(), 8);
+/// assert_eq!(refused.to_string(), "the file declares a word of no letters or of more than 1,024 (8)");
+/// ```
+#[derive(Clone, Copy, Debug, PartialEq, Eq, Hash, PartialOrd, Ord)]
+#[repr(u32)]
+pub enum Refusal {
+    /// The word is empty.
+    EmptyWord = 1,
+    /// The word is longer than 1,024 bytes.
+    LongWord = 2,
+    /// Fewer than 6(m+1) table entries are lent, or, with a file, fewer than m bytes for its word.
+    ShortRoom = 3,
+    /// The text is longer than 16,777,216 bytes.
+    LongText = 4,
+    /// The file ends before or inside a number, or before its last letter.
+    CutFile = 5,
+    /// A number's last of several groups is zero, or its fifth byte is above 15.
+    BadNumber = 6,
+    /// The file's edition is not 1.
+    OtherEdition = 7,
+    /// The declared length of the word is 0 or above 1,024.
+    BadLength = 8,
+    /// More arrows are declared than the word's length less 1.
+    BadCount = 9,
+    /// An arrow differs from the word's own at that place, or none is left there, or arrows are missing.
+    WrongArrows = 10,
+    /// Bytes remain after the last arrow.
+    Leftovers = 11,
+    /// The output room is below the size of the file to be saved.
+    ShortOutput = 12,
+}
+
+impl Refusal {
+    const TABLE: [Refusal; 12] = [
+        Refusal::EmptyWord,
+        Refusal::LongWord,
+        Refusal::ShortRoom,
+        Refusal::LongText,
+        Refusal::CutFile,
+        Refusal::BadNumber,
+        Refusal::OtherEdition,
+        Refusal::BadLength,
+        Refusal::BadCount,
+        Refusal::WrongArrows,
+        Refusal::Leftovers,
+        Refusal::ShortOutput,
+    ];
+
+    /// Its number in the table, from 1 to 12.
+    pub const fn number(self) -> u32 {
+        self as u32
+    }
+
+    /// The refusal that has a number.
+    pub(crate) fn of(number: u32) -> Refusal {
+        Refusal::TABLE[number as usize - 1]
+    }
+
+    fn meaning(self) -> &'static str {
+        match self {
+            Refusal::EmptyWord => "the word is empty",
+            Refusal::LongWord => "the word is longer than 1,024 bytes",
+            Refusal::ShortRoom => "the room lent for the table or for the word is too short",
+            Refusal::LongText => "the text is longer than 16,777,216 bytes",
+            Refusal::CutFile => "the file ends before its last field does",
+            Refusal::BadNumber => "a number in the file is not in its one spelling",
+            Refusal::OtherEdition => "the file is of another edition than 1",
+            Refusal::BadLength => "the file declares a word of no letters or of more than 1,024",
+            Refusal::BadCount => "the file declares more arrows than its word can have",
+            Refusal::WrongArrows => "the file's arrows are not those of its word",
+            Refusal::Leftovers => "bytes follow the file's last arrow",
+            Refusal::ShortOutput => "the room lent for the file is too short",
+        }
+    }
+}
+
+impl fmt::Display for Refusal {
+    fn fmt(&self, f: &mut fmt::Formatter<'_>) -> fmt::Result {
+        write!(f, "{} ({})", self.meaning(), self.number())
+    }
+}
+
+impl Error for Refusal {}
+
+#[cfg(test)]
+mod tests {
+    use super::Refusal;
+
+    #[test]
+    fn each_number_is_its_place_in_the_table() {
+        for (place, refusal) in Refusal::TABLE.into_iter().enumerate() {
+            assert_eq!(refusal.number() as usize, place + 1);
+            assert_eq!(Refusal::of(refusal.number()), refusal);
+        }
+    }
+}

@@ -1,0 +1,57 @@
+//! A header that declares four billion letters costs six bytes: the file goes on in memory that cannot be read, and the rooms cannot be touched at all.
+use marks as _; // for the archive that it links
+use std::{ffi::c_void, ptr};
+
+const PAGE: usize = 65_536;
+
+extern "C" {
+    fn mmap(at: *mut c_void, length: usize, protection: i32, flags: i32, file: i32, offset: i64) -> *mut c_void;
+    fn mprotect(at: *mut c_void, length: usize, protection: i32) -> i32;
+    fn marks_load(
+        file: *const u8,
+        file_len: usize,
+        room: *mut u8,
+        room_len: usize,
+        tables: *mut u16,
+        tables_len: usize,
+        m: *mut u64,
+    ) -> u32;
+}
+
+const NONE: i32 = 0;
+const READ_WRITE: i32 = 3;
+const PRIVATE_ANONYMOUS: i32 = 0x22;
+
+/// Pages that end any program which touches them, behind one that may be written.
+fn forbidden_behind_a_page(pages: usize) -> *mut u8 {
+    // SAFETY: new pages of this process; the first of them is opened.
+    unsafe {
+        let start = mmap(ptr::null_mut(), (pages + 1) * PAGE, NONE, PRIVATE_ANONYMOUS, -1, 0);
+        assert_ne!(start as isize, -1);
+        assert_eq!(mprotect(start, PAGE, READ_WRITE), 0);
+        start.cast::<u8>().add(PAGE)
+    }
+}
+
+fn load_with_forbidden_rest(bytes: &[u8]) -> u32 {
+    let (file, room, tables) = (forbidden_behind_a_page(16), forbidden_behind_a_page(1), forbidden_behind_a_page(1));
+    let mut m = 99;
+    // SAFETY: the entry is handed lengths that reach into pages which cannot be touched; that it does not is what is tested.
+    let refused = unsafe {
+        let start = file.sub(bytes.len());
+        ptr::copy_nonoverlapping(bytes.as_ptr(), start, bytes.len());
+        marks_load(start, 1 << 20, room, 1_024, tables.cast(), 6_150, &mut m)
+    };
+    assert_eq!(m, 99);
+    refused
+}
+
+#[test]
+fn a_declared_length_is_not_acted_on_before_it_is_checked() {
+    assert_eq!(load_with_forbidden_rest(&[0x01, 0xFF, 0xFF, 0xFF, 0xFF, 0x0F]), 8);
+    assert_eq!(load_with_forbidden_rest(&[0x01, 0x81, 0x08]), 8);
+    assert_eq!(load_with_forbidden_rest(&[0x01, 0x00]), 8);
+    assert_eq!(load_with_forbidden_rest(&[0x02]), 7);
+    assert_eq!(load_with_forbidden_rest(&[0x01, 0x83, 0x00]), 6);
+    assert_eq!(load_with_forbidden_rest(&[0x01, 0xFF, 0xFF, 0xFF, 0xFF, 0x10]), 6);
+}
