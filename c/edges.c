@@ -1,0 +1,88 @@
+/* What only a caller in C can hand over, a null pointer with length 0 for each buffer, and the deepest calls there are, on eight threads at once that have
+ * 128 KiB of stack each. */
+#define _POSIX_C_SOURCE 200809L
+#include <inttypes.h>
+#include <pthread.h>
+#include <stdio.h>
+#include <string.h>
+
+#include "marks.h"
+
+enum { THREADS = 8, STACK = 131072, TEXT = 65536 };
+
+static uint16_t tables[MARKS_TABLES(1)];
+static uint8_t room[1], out[4];
+static uint32_t finds[2];
+static uint64_t count, letters;
+
+static void null_buffers(void)
+{
+    const uint8_t *a = (const uint8_t *)"a", *aa = (const uint8_t *)"aa", *file = (const uint8_t *)"\1\1a";
+    uint64_t n;
+    printf("build, no word: %" PRIu32 "\n", marks_build(NULL, 0, tables, 12, &n));
+    printf("build, no tables: %" PRIu32 "\n", marks_build(a, 1, NULL, 0, &n));
+    printf("save, no word: %" PRIu32 "\n", marks_save(NULL, 0, tables, 12, out, 4, &n));
+    printf("save, no tables: %" PRIu32 "\n", marks_save(a, 1, NULL, 0, out, 4, &n));
+    printf("save, no output: %" PRIu32 "\n", marks_save(a, 1, tables, 12, NULL, 0, &n));
+    printf("load, no file: %" PRIu32 "\n", marks_load(NULL, 0, room, 1, tables, 12, &n));
+    printf("load, no room: %" PRIu32 "\n", marks_load(file, 4, NULL, 0, tables, 12, &n));
+    printf("load, no tables: %" PRIu32 "\n", marks_load(file, 4, room, 1, NULL, 0, &n));
+    printf("search, no word: %" PRIu32 "\n", marks_search(NULL, 0, aa, 2, tables, 12, finds, 2, &count, &letters));
+    printf("search, no tables: %" PRIu32 "\n", marks_search(a, 1, aa, 2, NULL, 0, finds, 2, &count, &letters));
+    printf("search, no text: %" PRIu32, marks_search(a, 1, NULL, 0, tables, 12, finds, 2, &count, &letters));
+    printf(", %" PRIu64 " places, %" PRIu64 " letters\n", count, letters);
+    printf("search, no list: %" PRIu32, marks_search(a, 1, aa, 2, tables, 12, NULL, 0, &count, &letters));
+    printf(", %" PRIu64 " places, %" PRIu64 " letters\n", count, letters);
+    printf("with a file, no file: %" PRIu32 "\n", marks_search_file(NULL, 0, aa, 2, room, 1, tables, 12, finds, 2, &count, &letters));
+    printf("with a file, no room: %" PRIu32 "\n", marks_search_file(file, 4, aa, 2, NULL, 0, tables, 12, finds, 2, &count, &letters));
+    printf("with a file, no tables: %" PRIu32 "\n", marks_search_file(file, 4, aa, 2, room, 1, NULL, 0, finds, 2, &count, &letters));
+    printf("with a file, no text: %" PRIu32, marks_search_file(file, 4, NULL, 0, room, 1, tables, 12, finds, 2, &count, &letters));
+    printf(", %" PRIu64 " places, %" PRIu64 " letters\n", count, letters);
+    printf("with a file, no list: %" PRIu32, marks_search_file(file, 4, aa, 2, room, 1, tables, 12, NULL, 0, &count, &letters));
+    printf(", %" PRIu64 " places, %" PRIu64 " letters\n", count, letters);
+}
+
+/* a word of 1,023 times a and one b: its last letter climbs over every state; each thread has a number of its own in the text */
+struct work {
+    uint8_t word[MARKS_LONGEST_WORD], text[TEXT], room[MARKS_LONGEST_WORD], file[MARKS_MOST_FILE];
+    uint16_t tables[MARKS_MOST_TABLES];
+    uint32_t finds[2], said;
+    uint64_t m, length, count, letters;
+};
+
+static struct work works[THREADS];
+
+static void *deepest(void *mine)
+{
+    struct work *w = mine;
+    w->said = marks_build(w->word, MARKS_LONGEST_WORD, w->tables, MARKS_MOST_TABLES, &w->m);
+    w->said += marks_save(w->word, MARKS_LONGEST_WORD, w->tables, MARKS_MOST_TABLES, w->file, MARKS_MOST_FILE, &w->length);
+    w->said += marks_load(w->file, w->length, w->room, MARKS_LONGEST_WORD, w->tables, MARKS_MOST_TABLES, &w->m);
+    w->said += marks_search_file(w->file, w->length, w->text, TEXT, w->room, MARKS_LONGEST_WORD, w->tables, MARKS_MOST_TABLES, w->finds, 2,
+                                 &w->count, &w->letters);
+    return NULL;
+}
+
+int main(void)
+{
+    pthread_t threads[THREADS];
+    pthread_attr_t small;
+    null_buffers();
+    if (pthread_attr_init(&small) != 0 || pthread_attr_setstacksize(&small, STACK) != 0)
+        return 1;
+    for (int i = 0; i < THREADS; i++) {
+        memset(works[i].word, 'a', MARKS_LONGEST_WORD - 1);
+        works[i].word[MARKS_LONGEST_WORD - 1] = 'b';
+        memset(works[i].text, 'a', TEXT);
+        works[i].text[1000 * i] = 'b';
+        if (pthread_create(&threads[i], &small, deepest, &works[i]) != 0)
+            return 1;
+    }
+    for (int i = 0; i < THREADS; i++) {
+        if (pthread_join(threads[i], NULL) != 0)
+            return 1;
+        printf("thread %d: %" PRIu32 ", file of %" PRIu64 " bytes, %" PRIu64 " place at %" PRIu32 "\n", i, works[i].said, works[i].length,
+               works[i].count, works[i].finds[0]);
+    }
+    return 0;
+}

@@ -1,0 +1,84 @@
+/* Finding marks in broken ride files, for C99 and C++.
+ *
+ * A mark is a word of 1 to 1,024 bytes. marks_search lists every place where it stands in a text. marks_save writes its index to a file of at most 5,121
+ * bytes, marks_load reads such a file, and marks_search_file searches with one. c/find.c is a program to start from.
+ *
+ * Any bytes and any lengths may be handed to every entry. It returns MARKS_OK and writes its answers through the last pointers; or it refuses: it returns
+ * the number of the first refusal in the order given below, and leaves those pointers alone. What is not named below keeps its value: the rest of every
+ * buffer, on success too, and the word, the text and the file always. docs/PROMISES.md says what is proved of this.
+ *
+ * There is no state and no heap. Calls on buffers of their own may run at the same time from many threads; what is only read may be shared. A call takes
+ * less than 128 KiB of stack. The archive needs memset of the C library and nothing else.
+ *
+ * Wrong use, which no entry can see and of which nothing is promised:
+ *   - a pointer and a length that do not describe memory of the caller's, so many elements long, which nobody else changes during the call
+ *   - buffers or answers that overlap where one of them is written
+ *   - a null pointer with a length other than 0 (with length 0 it is fine)
+ *   - a pointer that is not aligned for its type
+ *   - a null pointer for an answer
+ */
+#ifndef MARKS_H
+#define MARKS_H
+
+#include <stddef.h>
+#include <stdint.h>
+
+/* What an entry returns. m is the number of letters of the word, for a file the one that it declares. */
+enum {
+    MARKS_OK = 0,
+    MARKS_EMPTY_WORD = 1,    /* the word is empty */
+    MARKS_LONG_WORD = 2,     /* the word is longer than 1,024 */
+    MARKS_SHORT_ROOM = 3,    /* fewer than 6(m+1) table entries; with a file also word room below m */
+    MARKS_LONG_TEXT = 4,     /* the text is longer than 16,777,216 */
+    MARKS_CUT_FILE = 5,      /* the file ends before or inside a number, or before the last of the m letters */
+    MARKS_BAD_NUMBER = 6,    /* a number's last of several groups is zero, or its fifth byte is above 15 */
+    MARKS_OTHER_EDITION = 7, /* edition other than 1 */
+    MARKS_BAD_LENGTH = 8,    /* declared m is 0 or above 1,024 */
+    MARKS_BAD_COUNT = 9,     /* declared arrows exceed m-1 */
+    MARKS_WRONG_ARROW = 10,  /* an arrow differs from the word's extra arrow at that place or none is left there, or arrows are missing */
+    MARKS_LEFTOVERS = 11,    /* bytes remain after the last arrow */
+    MARKS_SHORT_OUTPUT = 12  /* output room is below the size of the file to be saved */
+};
+
+/* Room, in elements of the buffer that it is for. A text may be empty, and a list of finds may have any length, 0 too. */
+#define MARKS_LONGEST_WORD 1024                             /* also word room for every file */
+#define MARKS_LONGEST_TEXT 16777216
+#define MARKS_TABLES(m) (6 * ((m) + 1))                     /* table entries for a word of m letters */
+#define MARKS_MOST_TABLES MARKS_TABLES(MARKS_LONGEST_WORD)  /* table entries for every word */
+#define MARKS_MOST_FILE 5121                                /* output for the file of every word */
+
+#ifdef __cplusplus
+extern "C" {
+#endif
+
+/* The table of the word's index, in the first MARKS_TABLES(m) entries of tables; docs/TABLE.md has the use of each. The answer is m.
+ * Refusals: 1, 2, 3. They change nothing. */
+uint32_t marks_build(const uint8_t *word, size_t word_len, uint16_t *tables, size_t tables_len, uint64_t *m);
+
+/* The file of the word, at the start of out; tables are left as by marks_build. The answer is the file's length. docs/FILE.md has its layout.
+ * Refusals: 1, 2, 3, 12. 1, 2 and 3 change nothing; 12 leaves the first MARKS_TABLES(m) entries of tables zero, and out as it was. */
+uint32_t marks_save(const uint8_t *word, size_t word_len, uint16_t *tables, size_t tables_len, uint8_t *out, size_t out_len, uint64_t *length);
+
+/* The file's word in the first m bytes of room, and its table, as marks_build makes it, in the first MARKS_TABLES(m) entries of tables. The answer is m.
+ * Refusals, field by field: the edition (5 or 6, then 7), m (5 or 6, then 8), the letters (5), the rooms (3), the number of arrows (5 or 6, then 9), each
+ * arrow (5 or 6, then 10), missing arrows (10), bytes behind the last (11). Those up to 3 in this order change nothing; the others leave the first m bytes
+ * of room and the first MARKS_TABLES(m) entries of tables zero. */
+uint32_t marks_load(const uint8_t *file, size_t file_len, uint8_t *room, size_t room_len, uint16_t *tables, size_t tables_len, uint64_t *m);
+
+/* Every place where the word stands in the text, overlaps included. finds gets the first of them, rising, as many as fit; the first MARKS_TABLES(m)
+ * entries of tables get the table of the word's mirror. The answers are how many places there are, fitting or not, and how many letters were read.
+ * Refusals: 1, 2, 4, 3. They change nothing. */
+uint32_t marks_search(const uint8_t *word, size_t word_len, const uint8_t *text, size_t text_len, uint16_t *tables, size_t tables_len,
+                      uint32_t *finds, size_t finds_len, uint64_t *count, uint64_t *letters);
+
+/* The same for the mirror of the file's word: to look for a mark with a file, save the mark's letters from last to first. room and tables are left as by
+ * marks_load.
+ * Refusals: 4, which changes nothing, then as marks_load, with what they leave there; finds are as they were. */
+uint32_t marks_search_file(const uint8_t *file, size_t file_len, const uint8_t *text, size_t text_len, uint8_t *room, size_t room_len,
+                           uint16_t *tables, size_t tables_len, uint32_t *finds, size_t finds_len, uint64_t *count, uint64_t *letters);
+
+#ifdef __cplusplus
+}
+#endif
+
+#endif
