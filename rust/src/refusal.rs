@@ -35,7 +35,7 @@ pub enum Refusal {
     /// More arrows are declared than the word's length less 1.
     BadCount = 9,
     /// An arrow differs from the word's own at that place, or none is left there, or arrows are missing.
-    WrongArrows = 10,
+    WrongArrow = 10,
     /// Bytes remain after the last arrow.
     Leftovers = 11,
     /// The output room is below the size of the file to be saved.
@@ -53,7 +53,7 @@ impl Refusal {
         Refusal::OtherEdition,
         Refusal::BadLength,
         Refusal::BadCount,
-        Refusal::WrongArrows,
+        Refusal::WrongArrow,
         Refusal::Leftovers,
         Refusal::ShortOutput,
     ];
@@ -79,7 +79,7 @@ impl Refusal {
             Refusal::OtherEdition => "the file is of another edition than 1",
             Refusal::BadLength => "the file declares a word of no letters or of more than 1,024",
             Refusal::BadCount => "the file declares more arrows than its word can have",
-            Refusal::WrongArrows => "the file's arrows are not those of its word",
+            Refusal::WrongArrow => "the file's arrows are not those of its word",
             Refusal::Leftovers => "bytes follow the file's last arrow",
             Refusal::ShortOutput => "the room lent for the file is too short",
         }
