@@ -1,0 +1,205 @@
+//! speed: measures `build`, `load` and `search` on this machine, and prints the tables of docs/SPEED.md, each between two lines that name it. Run it by
+//! `tools/speed`.
+
+mod plain;
+mod rivals;
+
+use marks::entries::{build, load, save, search};
+use marks::{table_room, LONGEST_FILE};
+use plain::Plain;
+use rivals::{memchr_count, memmem_count};
+use std::time::Instant;
+
+/// A small generator of its own, so that every run measures the same inputs.
+struct Random(u64);
+
+impl Random {
+    fn next(&mut self) -> u64 {
+        self.0 ^= self.0 << 13;
+        self.0 ^= self.0 >> 7;
+        self.0 ^= self.0 << 17;
+        self.0
+    }
+
+    fn bytes(&mut self, n: usize, letters: u64) -> Vec<u8> {
+        (0..n).map(|_| (self.next() >> 20).wrapping_rem(letters) as u8).collect()
+    }
+}
+
+/// Seconds of the fastest of five runs, or of fewer where they take more than a second together.
+fn best(mut run: impl FnMut()) -> f64 {
+    let (mut fastest, mut all) = (f64::INFINITY, 0.0);
+    for _ in 0..5 {
+        let start = Instant::now();
+        run();
+        let took = start.elapsed().as_secs_f64();
+        (fastest, all) = (took.min(fastest), all + took);
+        if all > 1.0 {
+            break;
+        }
+    }
+    fastest
+}
+
+fn build_times() {
+    println!("<!-- begin build -->\n| Alphabet | m = 128 | 256 | 512 | 1,024 |\n|---|---|---|---|---|");
+    for letters in [2, 4, 256] {
+        let mut line = format!("| {letters} |");
+        let mut before = 0.0;
+        for m in [128usize, 256, 512, 1024] {
+            let words: Vec<Vec<u8>> = (0..64).map(|i| Random(88172645463325252 + i).bytes(m, letters)).collect();
+            let mut tables = vec![0u16; 6 * (m + 1)];
+            let took = best(|| {
+                for _ in 0..4 {
+                    for word in &words {
+                        build(word, &mut tables).expect("a word within the limit");
+                    }
+                }
+            }) / 256.0
+                * 1e6;
+            line += &if before > 0.0 { format!(" {took:.1} ({:.2}) |", took / before) } else { format!(" {took:.1} |") };
+            before = took;
+        }
+        println!("{line}");
+    }
+    println!("<!-- end build -->");
+}
+
+/// A file and what becomes of it when it is damaged.
+fn damaged(file: &[u8], how: &str) -> Vec<u8> {
+    let (&last, before) = file.split_last().expect("no file is empty");
+    match how {
+        "good" => file.to_vec(),
+        "last arrow differs (10)" => [before, &[last ^ 1]].concat(),
+        "one byte more (11)" => [file, &[0]].concat(),
+        _ => before.to_vec(),
+    }
+}
+
+fn load_times() {
+    println!("<!-- begin load -->\n| Alphabet | File | m = 128 | 256 | 512 | 1,024 |\n|---|---|---|---|---|---|");
+    for letters in [2, 4, 256] {
+        for how in ["good", "last arrow differs (10)", "one byte more (11)", "one byte less (5)"] {
+            let mut line = format!("| {letters} | {how} |");
+            let mut before = 0.0;
+            for m in [128usize, 256, 512, 1024] {
+                let (mut tables, mut room) = (vec![0u16; table_room(m)], vec![0u8; m]);
+                let files: Vec<Vec<u8>> = (0..64)
+                    .map(|i| {
+                        let mut out = vec![0; LONGEST_FILE];
+                        let word = Random(88172645463325252 + i).bytes(m, letters);
+                        let length = save(&word, &mut tables, &mut out).expect("a word within the limit");
+                        damaged(&out[..length as usize], how)
+                    })
+                    .collect();
+                assert!(files.iter().all(|file| load(file, &mut room, &mut tables).is_ok() == (how == "good")));
+                let took = best(|| {
+                    for _ in 0..4 {
+                        for file in &files {
+                            let _ = std::hint::black_box(load(file, &mut room, &mut tables));
+                        }
+                    }
+                }) / 256.0
+                    * 1e6;
+                let bytes = files.iter().map(Vec::len).sum::<usize>() as f64 / files.len() as f64;
+                let ratio = if before > 0.0 { format!("{:.2}, ", took / before) } else { String::new() };
+                line += &format!(" {took:.1} ({ratio}{:.0}) |", took * 1e3 / bytes);
+                before = took;
+            }
+            println!("{line}");
+        }
+    }
+    let (mut tables, mut room) = (vec![0u16; table_room(1_024)], vec![0u8; 1_024]);
+    let took = best(|| {
+        for _ in 0..1_000_000 {
+            let _ = std::hint::black_box(load(&[0x01, 0xFF, 0xFF, 0xFF, 0xFF, 0x0F], &mut room, &mut tables));
+        }
+    });
+    println!("\n01 FF FF FF FF 0F, which declares 4,294,967,295 letters, is refused in {:.0} nanoseconds.\n<!-- end load -->", took * 1e3);
+}
+
+fn ms(seconds: Option<f64>) -> String {
+    seconds.map_or("-".into(), |s| format!("{:.1}", s * 1e3))
+}
+
+/// Seconds of our search, of plain Rust, of memmem and of memchr, once all four have said the same.
+fn race(word: &[u8], text: &[u8]) -> ([Option<f64>; 4], u64) {
+    let (mut tables, mut finds) = (vec![0u16; table_room(word.len())], vec![0u32; 1024]);
+    let said = search(word, text, &mut tables, &mut finds).expect("within the limits");
+    assert_eq!(Plain::new(word).count(text), (said.count, said.letters));
+    assert_eq!(memmem_count(word, text), said.count);
+    let memchr = memchr_count(word, text);
+    assert!(memchr.is_none_or(|count| count == said.count));
+    let ours = best(|| {
+        search(word, text, &mut tables, &mut finds).expect("within the limits");
+    });
+    let plain = best(|| {
+        std::hint::black_box(Plain::new(word).count(text));
+    });
+    let library = best(|| {
+        std::hint::black_box(memmem_count(word, text));
+    });
+    let crates = memchr.map(|_| {
+        best(|| {
+            std::hint::black_box(memchr_count(word, text));
+        })
+    });
+    ([Some(ours), Some(plain), Some(library), crates], said.letters)
+}
+
+const RACE: &str = "search, ms | plain Rust | memmem | memchr | search / plain |";
+
+fn race_line(start: String, word: &[u8], text: &[u8]) {
+    let (times, letters) = race(word, text);
+    let ratio = times[0].zip(times[1]).map_or(0.0, |(ours, plain)| ours / plain);
+    let per_letter = letters as f64 / text.len() as f64;
+    println!("{start} {} | {} | {} | {} | {ratio:.2} | {per_letter:.4} |", ms(times[0]), ms(times[1]), ms(times[2]), ms(times[3]));
+}
+
+fn search_times() {
+    println!("<!-- begin search -->\n| Alphabet | Word | {RACE} letters read |\n|---|---|---|---|---|---|---|---|");
+    for letters in [2, 4, 256] {
+        let text = Random(362436069 + letters).bytes(16 << 20, letters);
+        for m in [4usize, 16, 64, 256, 1024] {
+            race_line(format!("| {letters} | {m} |"), &text[5_000_000..5_000_000 + m], &text);
+        }
+    }
+    println!("<!-- end search -->");
+}
+
+/// Letters read for each letter of text, beside what 001 conjectures up to a constant.
+fn letters_read() {
+    println!("<!-- begin letters -->\n| Alphabet | Word | letters read | log m / m | ratio |\n|---|---|---|---|---|");
+    for letters in [2u64, 4, 256] {
+        let text = Random(521288629 + letters).bytes(4 << 20, letters);
+        for m in [4usize, 8, 16, 32, 64, 128, 256, 512, 1024] {
+            let word = Random(2463534242 + m as u64).bytes(m, letters);
+            let said = search(&word, &text, &mut vec![0; table_room(m)], &mut []).expect("within the limits");
+            let measured = said.letters as f64 / text.len() as f64;
+            let conjectured = (m as f64).ln() / (letters as f64).ln() / m as f64;
+            println!("| {letters} | {m} | {measured:.4} | {conjectured:.4} | {:.2} |", measured / conjectured);
+        }
+    }
+    println!("<!-- end letters -->");
+}
+
+/// One repeated letter: the worst text there is for this search.
+fn hostile_times() {
+    println!("<!-- begin hostile -->\n| Word | m | {RACE} letters read |\n|---|---|---|---|---|---|---|---|");
+    let text = vec![b'a'; 1 << 20];
+    for m in [4usize, 16, 64, 256, 1024] {
+        let word = vec![b'a'; m];
+        race_line(format!("| a, m times | {m} |"), &word, &text);
+        race_line(format!("| b, then a | {m} |"), &[b"b", &word[1..]].concat(), &text);
+        race_line(format!("| a, then b | {m} |"), &[&word[1..], b"b"].concat(), &text);
+    }
+    println!("<!-- end hostile -->");
+}
+
+fn main() {
+    build_times();
+    load_times();
+    search_times();
+    letters_read();
+    hostile_times();
+}

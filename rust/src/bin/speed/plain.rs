@@ -1,0 +1,51 @@
+//! The backward search in plain safe Rust, over the oracle of the mirrored word with a full table of 256 columns: what a careful engineer would write.
+
+pub struct Plain {
+    table: Vec<[u16; 256]>,
+    m: usize,
+}
+
+impl Plain {
+    pub fn new(word: &[u8]) -> Self {
+        let m = word.len();
+        let mut table = vec![[0u16; 256]; m + 1];
+        let mut supply = vec![usize::MAX; m + 1];
+        for t in 0..m {
+            let c = word[m - 1 - t] as usize;
+            let mut k = supply[t];
+            table[t][c] = (t + 1) as u16;
+            while k != usize::MAX && table[k][c] == 0 {
+                table[k][c] = (t + 1) as u16;
+                k = supply[k];
+            }
+            supply[t + 1] = if k == usize::MAX { 0 } else { table[k][c] as usize };
+        }
+        Plain { table, m }
+    }
+
+    /// How often the word stands in the text, and the letters read.
+    pub fn count(&self, text: &[u8]) -> (u64, u64) {
+        let (m, n) = (self.m, text.len());
+        let (mut s, mut count, mut letters) = (0, 0, 0);
+        while s + m <= n {
+            let window = &text[s..s + m];
+            let mut state = 0usize;
+            let mut left = m;
+            let next = loop {
+                if left == 0 {
+                    count += 1;
+                    letters += m as u64;
+                    break s + 1;
+                }
+                left -= 1;
+                state = self.table[state][window[left] as usize] as usize;
+                if state == 0 {
+                    letters += (m - left) as u64;
+                    break s + left + 1;
+                }
+            };
+            s = next;
+        }
+        (count, letters)
+    }
+}
