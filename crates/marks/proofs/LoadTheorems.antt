@@ -1,7 +1,7 @@
 -- THE THEOREMS on `loadSays`: with room enough, exactly the words' files are accepted, and the word and its table are handed over; a file that is
 -- cut, or goes on, is refused; and what 8 and 9 leave is the same whichever bad number was declared.
-use mathlib.Core.Path.{_≡_, sym, ap, _∙_, fun-ext}
-use mathlib.Core.Logic.{_⊎_, inl, inr}
+use mathlib.Core.Path.{_≡_, refl, sym, ap, _∙_, fun-ext}
+use mathlib.Core.Logic.{_⊎_, inl, inr, _↔_}
 use mathlib.Core.List.{List, _∷_, _++_}
 use Prim.Native.Nat.{ℕ, _+_, _-_, _≤_, _<_}
 use native.Mathlib.Omega.{arith}
@@ -15,18 +15,24 @@ use Rattle.oracle.specs.SuffixRule.{oracle}
 use Rattle.table.specs.Table.{room, tableOf, readArrow}
 use Rattle.table.proofs.Theorems.{table-size, table-arrow}
 use Rattle.number.specs.Number.{Bytes}
-use Rattle.saved.specs.File.{edition, spell}
+use Rattle.saved.specs.File.{edition, spell, Saved}
 use Rattle.loaded.specs.Load.{letters, stop, front, Verdict, right, wrong, verdict}
 use Rattle.loaded.specs.Accepts.{Judged, FileOf}
 use Rattle.loaded.specs.Cases.{Reads, BadLength, FrontCase, length-bad, count-too-large}
 use Rattle.loaded.proofs.Fronts.{front-letters}
 use Rattle.loaded.proofs.Theorems.{file-accepted, only-files, beginning-refused, longer-refused, front-is, verdict-is}
 use Rattle.marks.specs.Answers.{done, refused}
-use Rattle.marks.specs.Load.{outcome, judged, loadSays}
+use Rattle.marks.specs.Load.{Outcome, outcome, judged, loadSays}
 use Rattle.marks.specs.Save.{saveSays}
 use Rattle.marks.specs.Cases.{LoadCase}
 use Rattle.marks.proofs.SaveSays.{done-leaves}
 use Rattle.marks.proofs.LoadSays.{put, says-stop, says-judged, load-is, load-answers}
+
+-- what an outcome with m letters hands over of the file s
+pub record Handed (s : List ℕ) (o : Outcome) (m : ℕ) : Type 0 where
+  pub size : length (take m (o .word)) ≡ m
+  pub file : s ≡ spell (take m (o .word))
+  pub arrows : readArrow m (take (room m) (o .tables)) ≡ oracle (take m (o .word))
 
 -- ── What a judged file comes to ────────────────────────────────────────────
 
@@ -85,6 +91,51 @@ module _ (R T : List ℕ) where
           let file : FileOf s w = only-files s bytes (record { place = i; shown = rw size shown; word = rw size; judged = rw size judged }) in
           (w, file, sym size, rw size h, rw size t)
 
+  -- both at once: it is accepted exactly if it is in the set of files, and there is room for its word
+  pub accepted-exactly : (s : List ℕ) → Bytes s
+      → ((m : ℕ) × (loadSays s R T .answer ≡ done m)) ↔ ((f : Saved s) × (length (f .word) ≤ length R) × (room (length (f .word)) ≤ length T))
+  accepted-exactly s bytes = (there, back)
+    where
+      there : (m : ℕ) × (loadSays s R T .answer ≡ done m) → (f : Saved s) × (length (f .word) ≤ length R) × (room (length (f .word)) ≤ length T)
+      there a =
+          let r = loaded-files s bytes (a .1) in
+          let f = r .1 in
+          (record { word = r .0; bytes = f .bytes; least = f .least; most = f .most; file = f .file }, r .3, r .4)
+
+      back : (f : Saved s) × (length (f .word) ≤ length R) × (room (length (f .word)) ≤ length T) → (m : ℕ) × (loadSays s R T .answer ≡ done m)
+      back a =
+          let f = a .0 in
+          let loads = file-loads (f .word) (f .least) (f .most) (a .1) (a .2) in
+          (length (f .word), ap (λ (file : List ℕ). loadSays file R T .answer) (f .file) ∙ ap (λ o. o .answer) loads)
+
+  -- and that word, with its oracle, is what is handed over: m letters at the start of the word room, and arrows that are read from the tables
+  pub loaded-hands : (s : List ℕ) → Bytes s → {m : ℕ} → loadSays s R T .answer ≡ done m → Handed s (loadSays s R T) m
+  loaded-hands s bytes e = by (loaded-files s bytes e)
+    where
+      by : {m : ℕ} → (w : Word) × FileOf s w × (m ≡ length w) × (length w ≤ length R) × (room (length w) ≤ length T)
+          → Handed s (loadSays s R T) m
+      by a =
+          let w = a .0 in
+          let f = a .1 in
+          let word : w ≡ take (length w) (w ++ drop (length w) R) = sym (take-at w (drop (length w) R) (length w) refl) in
+          let told = file-loads w (f .least) (f .most) (a .3) (a .4) in
+          let read = rw told at (loaded-arrows w (f .least) (f .most) (a .3) (a .4)) in
+          rw (a .2, f .file, told) (record { size = ap length (sym word); file = ap spell word; arrows = read ∙ ap oracle word })
+
+  -- files of different words are loaded differently
+  pub loads-apart : (w w′ : Word) → 1 ≤ length w → length w ≤ longestWord → length w ≤ length R → room (length w) ≤ length T
+      → 1 ≤ length w′ → length w′ ≤ longestWord → length w′ ≤ length R → room (length w′) ≤ length T
+      → loadSays (spell w) R T ≡ loadSays (spell w′) R T → w ≡ w′
+  loads-apart w w′ a b h t a′ b′ h′ t′ e = by (sym (file-loads w a b h t) ∙ e ∙ file-loads w′ a′ b′ h′ t′)
+    where
+      by : outcome (done (length w)) (w ++ drop (length w) R) (tableOf w ++ drop (room (length w)) T)
+          ≡ outcome (done (length w′)) (w′ ++ drop (length w′) R) (tableOf w′ ++ drop (room (length w′)) T) → w ≡ w′
+      by same =
+          let q : done (length w) ≡ done (length w′) = ap (λ o. o .answer) same in
+          let size : length w′ ≡ length w = cc in
+          sym (take-at w (drop (length w) R) (length w) refl) ∙ ap (λ o. take (length w) (o .word)) same
+          ∙ take-at w′ (drop (length w′) R) (length w) size
+
   -- ── Any bad number ───────────────────────────────────────────────────────
 
   -- 8: the outcome is one, whichever length that no word may have was declared, and whatever follows
@@ -97,7 +148,8 @@ module _ (R T : List ℕ) where
   any-two-bad-lengths s s′ a b c a′ b′ c′ = bad-length-one s a b c ∙ sym (bad-length-one s′ a′ b′ c′)
 
   -- 9: the same for a declared number of arrows above m - 1, where m letters were declared and are there
-  pub bad-count-one : (s : List ℕ) {m i n j : ℕ} → FrontCase s (letters m i) → m ≤ length R → room m ≤ length T → Reads s (i + m) n j → m - 1 < n
+  pub bad-count-one : (s : List ℕ) {m i n j : ℕ} → FrontCase s (letters m i) → m ≤ length R → room m ≤ length T
+      → Reads s (i + m) n j → m - 1 < n
       → loadSays s R T ≡ outcome (refused 9) (replicate m 0 ++ drop m R) (replicate (room m) 0 ++ drop (room m) T)
   bad-count-one s {m} {i} f h t a b =
       let size : length (part s i m) ≡ m = part-length s i m (front-letters s (front-is s _ .1 f) .inside) in

@@ -8,7 +8,7 @@ use Prim.Native.Nat.{ℕ, _+_, _*_, _-_, _≤_, _<_}
 use native.Mathlib.Decide.{decLt}
 use native.Mathlib.Omega.{arith}
 use lib.ListN.{length, take, drop, getD, length-take, length-reverse, List·getD-append}
-use lib.Seq.{take-at, drop-at, getD-take, getD-drop, getD-append-add}
+use lib.Seq.{take-all, take-at, drop-at, getD-take, getD-drop, getD-append-add}
 use borrow.Author.Tests.{lt-ltb, le-ltb}
 use Rattle.words.specs.Words.{Word, Place, mirror, stands, occurrences}
 use Rattle.words.proofs.Lists.{Rising}
@@ -48,6 +48,11 @@ filled-kept l F i h b =
     let k : length l + (i - length l) ≡ i = omega arith in
     ap (λ j. getD (take (length F) l ++ drop (length l) F) j 0) e ∙ getD-append-add (take (length F) l) (drop (length l) F) (i - length l) 0
     ∙ getD-drop (length l) F (i - length l) 0 ∙ ap (λ j. getD F j 0) k
+
+-- a list that is long enough begins with all of them
+pub filled-all : (l F : List ℕ) → length l ≤ length F → take (length l) (filled l F) ≡ l
+unfolding filled
+filled-all l F h = rw (take-all (length F) l h) (take-at l (drop (length l) F) (length l) refl)
 
 module _ (word text : Word) (T : List ℕ) (F : List Place) where
   abbrev m : ℕ
