@@ -1,6 +1,6 @@
 -- THE THEOREMS on `buildSays`: each refusal exactly where it is tabled, what a refusal and a success leave, and that the promise allows one outcome.
 use mathlib.Core.Path.{_≡_, refl, sym, ap, _∙_}
-use mathlib.Core.Logic.{_⊎_, inl, inr}
+use mathlib.Core.Logic.{_↔_}
 use mathlib.Core.List.{List, _++_}
 use Prim.Native.Nat.{ℕ, _≤_, _<_}
 use native.Mathlib.Decide.{decLt}
@@ -17,8 +17,9 @@ use Rattle.table.proofs.Theorems.{table-size, table-word, table-arrow, table-su
 use Rattle.marks.specs.declared.Built.{Built}
 use Rattle.marks.specs.declared.Built.the-variants.{Done, EmptyWord, LongWord, ShortRoom}
 use Rattle.words.specs.Limits.{longestWord}
-use Rattle.marks.specs.Answers.{Answer, done, refused, emptyWord, longWord, shortRoom}
+use Rattle.marks.specs.Answers.{done, refused, emptyWord, longWord, shortRoom}
 use Rattle.marks.specs.Build.{Outcome, outcome, answerOf, built, buildSays}
+use Rattle.marks.specs.Cases.{BuildCase}
 
 module _ (word : Word) (T : List ℕ) where
   abbrev m : ℕ
@@ -44,25 +45,26 @@ module _ (word : Word) (T : List ℕ) where
 
   -- ── When each is given ───────────────────────────────────────────────────
 
-  -- what 01's table says of each answer of build, in its order
-  pub data Case : Answer ℕ → Type 0 where
-    empty : m < 1 → Case (refused emptyWord)
-    long : 1 ≤ m → longestWord < m → Case (refused longWord)
-    short : 1 ≤ m → m ≤ longestWord → length T < room m → Case (refused shortRoom)
-    good : 1 ≤ m → m ≤ longestWord → room m ≤ length T → Case (done m)
-
-  -- every input is of one case, and its answer is that case's
-  pub build-answers : Case (buildSays word T .answer)
-  build-answers = by (decLt m 1) (decLt longestWord m) (decLt (length T) (room m))
+  -- every input is of one case
+  case : BuildCase word T (buildSays word T)
+  case = by (decLt m 1) (decLt longestWord m) (decLt (length T) (room m))
     where
-      told : {o : Outcome} → buildSays word T ≡ o → Case (o .answer) → Case (buildSays word T .answer)
-      told e c = rw e c
+      by : Dec (m < 1) → Dec (longestWord < m) → Dec (length T < room m) → BuildCase word T (buildSays word T)
+      by (yes h) d e = rw (says-empty h) (BuildCase.empty-word h)
+      by (no h) (yes l) e = rw (says-long (omega arith) l) (BuildCase.long-word (omega arith) l)
+      by (no h) (no l) (yes s) = rw (says-short (omega arith) (omega arith) s) (BuildCase.short-room (omega arith) (omega arith) s)
+      by (no h) (no l) (no s) =
+          rw (says-done (omega arith) (omega arith) (omega arith)) (BuildCase.accepted (omega arith) (omega arith) (omega arith))
 
-      by : Dec (m < 1) → Dec (longestWord < m) → Dec (length T < room m) → Case (buildSays word T .answer)
-      by (yes h) d e = told (says-empty h) (empty h)
-      by (no h) (yes l) e = told (says-long (omega arith) l) (long (omega arith) l)
-      by (no h) (no l) (yes s) = told (says-short (omega arith) (omega arith) s) (short (omega arith) (omega arith) s)
-      by (no h) (no l) (no s) = told (says-done (omega arith) (omega arith) (omega arith)) (good (omega arith) (omega arith) (omega arith))
+  -- and a case that applies has its outcome
+  given : {o : Outcome} → BuildCase word T o → buildSays word T ≡ o
+  given (BuildCase.empty-word h) = says-empty h
+  given (BuildCase.long-word h l) = says-long h l
+  given (BuildCase.short-room h l s) = says-short h l s
+  given (BuildCase.accepted h l s) = says-done h l s
+
+  pub build-is : (o : Outcome) → (buildSays word T ≡ o) ↔ BuildCase word T o
+  build-is o = (λ e. rw e at case, given)
 
   -- ── What it leaves ───────────────────────────────────────────────────────
 
@@ -87,16 +89,14 @@ module _ (word : Word) (T : List ℕ) where
       front = take-at (tableOf word) (drop (room m) T) (room m) (table-size word)
 
   -- a refusal changes nothing
-  pub refusal-leaves : length T < room m ⊎ (longestWord < m) ⊎ (m < 1) → buildSays word T .tables ≡ T
-  refusal-leaves r = by (decLt m 1) (decLt longestWord m) (decLt (length T) (room m)) r
+  pub refusal-leaves : {n : ℕ} → buildSays word T .answer ≡ refused n → buildSays word T .tables ≡ T
+  refusal-leaves {n} = by case
     where
-      by : Dec (m < 1) → Dec (longestWord < m) → Dec (length T < room m) → length T < room m ⊎ (longestWord < m) ⊎ (m < 1) → buildSays word T .tables ≡ T
-      by (yes h) d e c = ap (λ o. o .tables) (says-empty h)
-      by (no h) (yes l) e c = ap (λ o. o .tables) (says-long (omega arith) l)
-      by (no h) (no l) (yes s) c = ap (λ o. o .tables) (says-short (omega arith) (omega arith) s)
-      by (no h) (no l) (no s) (inl c) = absurd (s c)
-      by (no h) (no l) (no s) (inr (inl c)) = absurd (l c)
-      by (no h) (no l) (no s) (inr (inr c)) = absurd (h c)
+      by : {o : Outcome} → BuildCase word T o → o .answer ≡ refused n → o .tables ≡ T
+      by (BuildCase.empty-word h) e = refl
+      by (BuildCase.long-word h l) e = refl
+      by (BuildCase.short-room h l s) e = refl
+      by (BuildCase.accepted h l s) e = let z : _≡_ {A = ℕ} 0 1 = cc in absurd (omega arith)
 
 -- ── One outcome ────────────────────────────────────────────────────────────
 

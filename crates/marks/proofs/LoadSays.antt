@@ -1,6 +1,7 @@
 -- THE LAWS of `loadSays`: its cases in the order of the tests, what stands in the rooms after a success, and that the promise allows one outcome.
 use mathlib.Core.Path.{_≡_, refl, sym, ap, _∙_}
 use mathlib.Core.Bool.{false}
+use mathlib.Core.Logic.{inl, inr, _↔_}
 use mathlib.Core.List.{List, _++_}
 use Prim.Native.Nat.{ℕ, _+_, _*_, _-_, _≤_, _<_}
 use native.Mathlib.Decide.{decLt}
@@ -19,11 +20,14 @@ use Rattle.loaded.specs.Load.{Front, letters, stop, front, Verdict, right, wron
 use Rattle.loaded.specs.declared.Verdict.{Verdict as Compared}
 use Rattle.loaded.specs.declared.Verdict.the-variants.{Right, Wrong}
 use Rattle.loaded.specs.Answers.{verdictOf}
+use Rattle.loaded.specs.Cases.{FrontCase, VerdictCase}
 use Rattle.loaded.proofs.Fronts.{LettersIn, front-letters}
+use Rattle.loaded.proofs.Theorems.{front-is, verdict-is}
 use Rattle.marks.specs.declared.Loaded.{Loaded}
 use Rattle.marks.specs.declared.Loaded.the-variants.{Done, Refused}
-use Rattle.marks.specs.Answers.{done, refused, shortRoom}
+use Rattle.marks.specs.Answers.{Answer, done, refused, shortRoom}
 use Rattle.marks.specs.Load.{Outcome, outcome, answerOf, loadedAs, judged, loadSays}
+use Rattle.marks.specs.Cases.{LoadCase, AfterRefusal}
 
 module _ (file R T : List ℕ) where
   -- ── Its cases, in the order of the tests ─────────────────────────────────
@@ -57,6 +61,66 @@ module _ (file R T : List ℕ) where
     pub says-judged : m ≤ length R → room m ≤ length T → loadSays file R T ≡ put m (judged (verdict file (i + m) word) word)
     unfolding loadSays
     says-judged h s = rw (e, le-ltb (length R) m h, le-ltb (length T) (room m) s)
+
+  -- ── When each is given ───────────────────────────────────────────────────
+
+  -- with the letters there and room enough, what the file shows behind them decides
+  module _ {m i : ℕ} (f : FrontCase file (letters m i)) (h : m ≤ length R) (t : room m ≤ length T) where
+    shown : front file ≡ letters m i
+    shown = front-is file (letters m i) .1 f
+
+    letters-size : length (part file i m) ≡ m
+    letters-size = part-length file i m (front-letters file shown .inside)
+
+    says-wrong : {n p : ℕ} → VerdictCase file (i + m) (part file i m) (wrong n p)
+        → loadSays file R T ≡ outcome (refused n) (replicate m 0 ++ drop m R) (replicate (room m) 0 ++ drop (room m) T)
+    says-wrong {n} {p} v = says-judged m i shown h t ∙ rw (verdict-is file (i + m) (part file i m) (wrong n p) .1 v, letters-size)
+
+    says-right : VerdictCase file (i + m) (part file i m) right
+        → loadSays file R T ≡ outcome (done m) (part file i m ++ drop m R) (tableOf (part file i m) ++ drop (room m) T)
+    says-right v = says-judged m i shown h t ∙ rw (verdict-is file (i + m) (part file i m) right .1 v, letters-size)
+
+  -- every file is of one case
+  case : LoadCase file R T (loadSays file R T)
+  case = by-front (front file) (front-is file (front file) .0 refl)
+    where
+      by-verdict : {m i : ℕ} → FrontCase file (letters m i) → m ≤ length R → room m ≤ length T
+          → (v : Verdict) → VerdictCase file (i + m) (part file i m) v → LoadCase file R T (loadSays file R T)
+      by-verdict f h t right v = rw (says-right f h t v) (LoadCase.accepted f h t v)
+      by-verdict f h t (wrong n p) v = rw (says-wrong f h t v) (LoadCase.arrows-refused f h t v)
+
+      by-room : {m i : ℕ} → FrontCase file (letters m i) → Dec (length R < m) → Dec (length T < room m) → LoadCase file R T (loadSays file R T)
+      by-room {m} {i} f (yes h) t = rw (says-short-word m i (front-is file _ .1 f) h) (LoadCase.short-room f (inl h))
+      by-room {m} {i} f (no h) (yes t) = rw (says-short-tables m i (front-is file _ .1 f) t) (LoadCase.short-room f (inr t))
+      by-room {m} {i} f (no h) (no t) = by-verdict f (omega arith) (omega arith) _ (verdict-is file (i + m) (part file i m) _ .0 refl)
+
+      by-front : (f : Front) → FrontCase file f → LoadCase file R T (loadSays file R T)
+      by-front (stop n p) f = rw (says-stop n p (front-is file _ .1 f)) (LoadCase.head-refused f)
+      by-front (letters m i) f = by-room f (decLt (length R) m) (decLt (length T) (room m))
+
+  -- and a case that applies has its outcome
+  given : {o : Outcome} → LoadCase file R T o → loadSays file R T ≡ o
+  given (LoadCase.head-refused {n = n} {p = p} f) = says-stop n p (front-is file _ .1 f)
+  given (LoadCase.short-room {m = m} {i = i} f (inl h)) = says-short-word m i (front-is file _ .1 f) h
+  given (LoadCase.short-room {m = m} {i = i} f (inr t)) = says-short-tables m i (front-is file _ .1 f) t
+  given (LoadCase.arrows-refused f h t v) = says-wrong f h t v
+  given (LoadCase.accepted f h t v) = says-right f h t v
+
+  pub load-is : (o : Outcome) → (loadSays file R T ≡ o) ↔ LoadCase file R T o
+  load-is o = (λ e. rw e at case, given)
+
+  -- so each answer, and each number among them, is given exactly when a case that has it applies
+  pub load-answers : (a : Answer ℕ) → (loadSays file R T .answer ≡ a) ↔ ((R′ : List ℕ) × (T′ : List ℕ) × LoadCase file R T (outcome a R′ T′))
+  load-answers a = (λ e. (_, _, rw e at (load-is _ .0 refl)), λ c. ap (λ o. o .answer) (given (c .2)))
+
+  pub refusal-leaves : {n : ℕ} → loadSays file R T .answer ≡ refused n → AfterRefusal R T (loadSays file R T .word) (loadSays file R T .tables)
+  refusal-leaves {n} = by case
+    where
+      by : {o : Outcome} → LoadCase file R T o → o .answer ≡ refused n → AfterRefusal R T (o .word) (o .tables)
+      by (LoadCase.head-refused f) e = AfterRefusal.unchanged
+      by (LoadCase.short-room f r) e = AfterRefusal.unchanged
+      by (LoadCase.arrows-refused f h t v) e = AfterRefusal.zeroed h t
+      by (LoadCase.accepted f h t v) e = let z : _≡_ {A = ℕ} 0 1 = cc in absurd (omega arith)
 
 -- ── In the word's part of the rooms ────────────────────────────────────────
 
@@ -110,42 +174,23 @@ pub record Standing (m : ℕ) (R T : List ℕ) : Type 0 where
   pub enough : room m ≤ length T
   pub table : take (room m) T ≡ tableOf (take m R)
 
-pub done-stands : (file R T R′ T′ : List ℕ) (m : ℕ) → outcome (done m) R′ T′ ≡ loadSays file R T → Standing m R′ T′
-done-stands file R T R′ T′ m e = by-front (front file) refl
-  where
-    never : {n : ℕ} {A B : List ℕ} → outcome (done m) R′ T′ ≡ outcome (refused n) A B → Standing m R′ T′
-    never g = let q = ap (λ o. o .answer) g in let z : _≡_ {A = ℕ} 0 1 = cc in absurd (omega arith)
+loaded-stands : (file R T : List ℕ) {m : ℕ} {R′ T′ : List ℕ} → LoadCase file R T (outcome (done m) R′ T′) → Standing m R′ T′
+loaded-stands file R T (LoadCase.accepted {m = m} {i = i} f h t v) =
+    let I = front-letters file (shown file R T f h t) in
+    let w = part file i m in
+    let size : length w ≡ m = letters-size file R T f h t in
+    let table-sized : length (tableOf w) ≡ room m = table-size w ∙ ap room size in
+    record {
+      least = I .least;
+      most = I .most;
+      inside = simp (length-append, size) (omega arith);
+      enough = simp (length-append, table-sized) (omega arith);
+      table = take-at (tableOf w) (drop (room m) T) (room m) table-sized ∙ ap tableOf (sym (take-at w (drop m R) m size));
+    }
 
-    judged-stands : (n i : ℕ) → front file ≡ letters n i → n ≤ length R → room n ≤ length T → (v : Verdict) → outcome (done m) R′ T′ ≡ put file R T n (judged v (part file i n)) → Standing m R′ T′
-    judged-stands n i f r t (wrong k j) g = never g
-    judged-stands n i f r t right g =
-        let I = front-letters file f in
-        let w = part file i n in
-        let size : length w ≡ n = part-length file i n (I .inside) in
-        let q : done m ≡ done (length w) = ap (λ o. o .answer) g in
-        let m-is : m ≡ n = let k : m ≡ length w = cc in k ∙ size in
-        let front-word : take n R′ ≡ w = ap (λ o. take n (o .word)) g ∙ take-at w (drop n R) n size in
-        let front-table : take (room n) T′ ≡ tableOf w = ap (λ o. take (room n) (o .tables)) g ∙ take-at (tableOf w) (drop (room n) T) (room n) (table-size w ∙ ap room size) in
-        rw m-is (record {
-          least = I .least;
-          most = I .most;
-          inside = rw (ap (λ o. o .word) g, length-append, size) (omega arith);
-          enough = rw (ap (λ o. o .tables) g, length-append, table-size w, size) (omega arith);
-          table = front-table ∙ ap tableOf (sym front-word);
-        })
-
-    by-front : (f : Front) → front file ≡ f → Standing m R′ T′
-    by-front (stop n i) f = never (e ∙ says-stop file R T n i f)
-    by-front (letters n i) f = by-room (decLt (length R) n) (decLt (length T) (room n))
-      where
-        by-room : Dec (length R < n) → Dec (length T < room n) → Standing m R′ T′
-        by-room (yes h) d = never (e ∙ says-short-word file R T n i f h)
-        by-room (no h) (yes d) = never (e ∙ says-short-tables file R T n i f d)
-        by-room (no h) (no d) = judged-stands n i f (omega arith) (omega arith) (verdict file (i + n) (part file i n)) (e ∙ says-judged file R T n i f (omega arith) (omega arith))
-
--- the same, from what the code was told
 pub told-stands : (file R T : List ℕ) {said : Loaded} {R′ T′ : List ℕ} → loadedAs said R′ T′ ≡ loadSays file R T → {m : ℕ} → said ≡ Done m → Standing m R′ T′
-told-stands file R T {said} {R′} {T′} told {m} e = done-stands file R T R′ T′ m (ap (λ (s : Loaded). loadedAs s R′ T′) (sym e) ∙ told)
+told-stands file R T {said} {R′} {T′} told e =
+    loaded-stands file R T (load-is file R T _ .0 (sym told ∙ ap (λ (s : Loaded). loadedAs s R′ T′) e))
 
 -- ── One outcome ────────────────────────────────────────────────────────────
 

@@ -1,5 +1,6 @@
 -- THE THEOREMS on `saveSays`: each refusal exactly where it is tabled, what a refusal and a success leave, and that the promise allows one outcome.
 use mathlib.Core.Path.{_≡_, refl, sym, ap, _∙_}
+use mathlib.Core.Logic.{_⊎_, inl, inr, _↔_}
 use mathlib.Core.List.{List, _++_}
 use Prim.Native.Nat.{ℕ, _≤_, _<_}
 use native.Mathlib.Decide.{decLt}
@@ -18,6 +19,7 @@ use Rattle.marks.specs.declared.Saved.{Saved}
 use Rattle.marks.specs.declared.Saved.the-variants.{Done, EmptyWord, LongWord, ShortRoom, ShortOutput}
 use Rattle.marks.specs.Answers.{done, refused, emptyWord, longWord, shortRoom, shortOutput}
 use Rattle.marks.specs.Save.{Outcome, outcome, answerOf, savedAs, saveSays}
+use Rattle.marks.specs.Cases.{SaveCase}
 
 module _ (word : Word) (T O : List ℕ) where
   abbrev m : ℕ
@@ -57,24 +59,30 @@ module _ (word : Word) (T O : List ℕ) where
 
   -- ── When each is given ───────────────────────────────────────────────────
 
-  -- what 01's table says of each answer of save, in its order
-  pub data Case : Outcome → Type 0 where
-    empty : m < 1 → Case (outcome (refused emptyWord) T O)
-    long : 1 ≤ m → longestWord < m → Case (outcome (refused longWord) T O)
-    short : 1 ≤ m → m ≤ longestWord → length T < room m → Case (outcome (refused shortRoom) T O)
-    full : 1 ≤ m → m ≤ longestWord → room m ≤ length T → length O < size → Case cleared
-    good : 1 ≤ m → m ≤ longestWord → room m ≤ length T → size ≤ length O → Case written
-
-  -- every input is of one case, and its outcome is that case's
-  pub save-answers : Case (saveSays word T O)
-  save-answers = by (decLt m 1) (decLt longestWord m) (decLt (length T) (room m)) (decLt (length O) size)
+  -- every input is of one case
+  case : SaveCase word T O (saveSays word T O)
+  case = by (decLt m 1) (decLt longestWord m) (decLt (length T) (room m)) (decLt (length O) size)
     where
-      by : Dec (m < 1) → Dec (longestWord < m) → Dec (length T < room m) → Dec (length O < size) → Case (saveSays word T O)
-      by (yes h) d e f = rw (says-empty h) (empty h)
-      by (no h) (yes l) e f = rw (says-long (omega arith) l) (long (omega arith) l)
-      by (no h) (no l) (yes s) f = rw (says-short (omega arith) (omega arith) s) (short (omega arith) (omega arith) s)
-      by (no h) (no l) (no s) (yes o) = rw (says-full (omega arith) (omega arith) (omega arith) o) (full (omega arith) (omega arith) (omega arith) o)
-      by (no h) (no l) (no s) (no o) = rw (says-done (omega arith) (omega arith) (omega arith) (omega arith)) (good (omega arith) (omega arith) (omega arith) (omega arith))
+      by : Dec (m < 1) → Dec (longestWord < m) → Dec (length T < room m) → Dec (length O < size) → SaveCase word T O (saveSays word T O)
+      by (yes h) d e f = rw (says-empty h) (SaveCase.empty-word h)
+      by (no h) (yes l) e f = rw (says-long (omega arith) l) (SaveCase.long-word (omega arith) l)
+      by (no h) (no l) (yes s) f = rw (says-short (omega arith) (omega arith) s) (SaveCase.short-room (omega arith) (omega arith) s)
+      by (no h) (no l) (no s) (yes o) =
+          rw (says-full (omega arith) (omega arith) (omega arith) o) (SaveCase.short-output (omega arith) (omega arith) (omega arith) o)
+      by (no h) (no l) (no s) (no o) =
+          rw (says-done (omega arith) (omega arith) (omega arith) (omega arith))
+          (SaveCase.accepted (omega arith) (omega arith) (omega arith) (omega arith))
+
+  -- and a case that applies has its outcome
+  given : {o : Outcome} → SaveCase word T O o → saveSays word T O ≡ o
+  given (SaveCase.empty-word h) = says-empty h
+  given (SaveCase.long-word h l) = says-long h l
+  given (SaveCase.short-room h l s) = says-short h l s
+  given (SaveCase.short-output h l s o) = says-full h l s o
+  given (SaveCase.accepted h l s o) = says-done h l s o
+
+  pub save-is : (o : Outcome) → (saveSays word T O ≡ o) ↔ SaveCase word T O o
+  save-is o = (λ e. rw e at case, given)
 
   -- ── What it leaves ───────────────────────────────────────────────────────
 
@@ -92,6 +100,20 @@ module _ (word : Word) (T O : List ℕ) where
     entries = take-at (tableOf word) (drop (room m) T) (room m) (table-size word);
     others = drop-at (tableOf word) (drop (room m) T) (room m) (table-size word);
   })
+
+  -- a refusal touches no output, and of the room the word's part at most, by zeros
+  pub refusal-leaves : {n : ℕ} → saveSays word T O .answer ≡ refused n
+      → (saveSays word T O .output ≡ O)
+      × ((saveSays word T O .tables ≡ T) ⊎ (saveSays word T O .tables ≡ replicate (room m) 0 ++ drop (room m) T))
+  refusal-leaves {n} = by case
+    where
+      by : {o : Outcome} → SaveCase word T O o → o .answer ≡ refused n
+          → (o .output ≡ O) × ((o .tables ≡ T) ⊎ (o .tables ≡ replicate (room m) 0 ++ drop (room m) T))
+      by (SaveCase.empty-word h) e = (refl, inl refl)
+      by (SaveCase.long-word h l) e = (refl, inl refl)
+      by (SaveCase.short-room h l s) e = (refl, inl refl)
+      by (SaveCase.short-output h l s o) e = (refl, inr refl)
+      by (SaveCase.accepted h l s o) e = let z : _≡_ {A = ℕ} 0 1 = cc in absurd (omega arith)
 
   -- ── What the code's steps come to ────────────────────────────────────────
 

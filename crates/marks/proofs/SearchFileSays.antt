@@ -1,7 +1,9 @@
 -- THE THEOREMS on `searchFileSays`: 4 comes first, then loading decides, then the mirror of the file's word is searched for; and the promise allows one outcome.
 use mathlib.Core.Path.{_≡_, refl, sym, ap, _∙_}
+use mathlib.Core.Logic.{_↔_}
 use mathlib.Core.List.{List, _++_, reverse-reverse}
 use Prim.Native.Nat.{ℕ, _≤_, _<_}
+use native.Mathlib.Decide.{decLt}
 use native.Mathlib.Omega.{arith}
 use lib.ListN.{length, take, drop}
 use lib.Seq.{take-at, length-take-le}
@@ -23,13 +25,17 @@ use Rattle.marks.specs.declared.Loaded.{Loaded}
 use Rattle.marks.specs.declared.Loaded.the-variants.{Done as LoadDone, Refused as LoadRefused}
 use Rattle.marks.specs.declared.FileSearched.{FileSearched}
 use Rattle.marks.specs.declared.FileSearched.the-variants.{Done, Refused}
-use Rattle.marks.specs.Answers.{done, refused, longText}
+use Rattle.marks.specs.Answers.{Answer, done, refused, longText}
 use Rattle.marks.specs.Load.{answerOf as loadedAnswer, loadedAs, loadSays}
-use Rattle.marks.specs.SearchFile.{outcome, answerOf, fileSearched, afterLoad, searchFileSays}
+use Rattle.marks.specs.Load
+use Rattle.marks.specs.Search.{found}
+use Rattle.marks.specs.SearchFile.{Outcome, outcome, answerOf, fileSearched, afterLoad, searchFileSays}
+use Rattle.marks.specs.Cases.{LoadCase, SearchFileCase, AfterRefusal}
 use Rattle.saved.specs.File.{spell}
 use Rattle.marks.proofs.LoadTheorems.{file-loads}
 use Rattle.marks.proofs.SearchSays.{tally-one}
-use Rattle.marks.proofs.LoadSays.{Standing, told-stands}
+use Rattle.marks.proofs.LoadSays.{load-is, Standing, told-stands}
+use Rattle.marks.proofs.LoadSays
 
 -- ── The word's own table, searched with ────────────────────────────────────
 
@@ -47,11 +53,61 @@ module _ (file : List ℕ) (text : Word) (R T : List ℕ) (F : List Place) where
   unfolding searchFileSays
   says-long-text h = rw (lt-ltb longestText (length text) h)
 
+  pub says-after : length text ≤ longestText → {o : Load.Outcome} → loadSays file R T ≡ o
+      → searchFileSays file text R T F ≡ afterLoad (o .answer) text (o .word) (o .tables) F
+  unfolding searchFileSays
+  says-after h e = rw (le-ltb longestText (length text) h, e)
+
+  -- ── When each is given ───────────────────────────────────────────────────
+
+  -- every input is of one case
+  case : SearchFileCase file text R T F (searchFileSays file text R T F)
+  case = by (decLt longestText (length text))
+    where
+      by-load : (a : Answer ℕ) (R′ T′ : List ℕ) → length text ≤ longestText → LoadCase file R T (Load.outcome a R′ T′)
+          → SearchFileCase file text R T F (afterLoad a text R′ T′ F)
+      by-load (refused n) R′ T′ k c = SearchFileCase.load-refused k c
+      by-load (done m) R′ T′ k c = SearchFileCase.accepted k c
+
+      by : Dec (longestText < length text) → SearchFileCase file text R T F (searchFileSays file text R T F)
+      by (yes h) = rw (says-long-text h) (SearchFileCase.long-text h)
+      by (no h) = rw (says-after (omega arith) refl) (by-load _ _ _ (omega arith) (load-is file R T _ .0 refl))
+
+  -- and a case that applies has its outcome
+  given : {o : Outcome} → SearchFileCase file text R T F o → searchFileSays file text R T F ≡ o
+  given (SearchFileCase.long-text h) = says-long-text h
+  given (SearchFileCase.load-refused k c) = says-after k (load-is file R T _ .1 c)
+  given (SearchFileCase.accepted k c) = says-after k (load-is file R T _ .1 c)
+
+  pub search-file-is : (o : Outcome) → (searchFileSays file text R T F ≡ o) ↔ SearchFileCase file text R T F o
+  search-file-is o = (λ e. rw e at case, given)
+
+  -- a refusal leaves the list as it was, and the rooms as loading does
+  pub refusal-leaves : {n : ℕ} → searchFileSays file text R T F .answer ≡ refused n
+      → (searchFileSays file text R T F .finds ≡ F)
+      × AfterRefusal R T (searchFileSays file text R T F .word) (searchFileSays file text R T F .tables)
+  refusal-leaves {n} = by case
+    where
+      loaded : {k : ℕ} {R′ T′ : List ℕ} → LoadCase file R T (Load.outcome (refused k) R′ T′) → AfterRefusal R T R′ T′
+      loaded c = let e = load-is file R T _ .1 c in rw e at (LoadSays.refusal-leaves file R T (ap (λ o. o .answer) e))
+
+      by : {o : Outcome} → SearchFileCase file text R T F o → o .answer ≡ refused n → (o .finds ≡ F) × AfterRefusal R T (o .word) (o .tables)
+      by (SearchFileCase.long-text h) e = (refl, AfterRefusal.unchanged)
+      by (SearchFileCase.load-refused k c) e = (refl, loaded c)
+      by (SearchFileCase.accepted k c) e = let z : _≡_ {A = ℕ} 0 1 = cc in absurd (omega arith)
+
+  -- the file matters by what loading says of it alone
+  pub same-load-same-search : (file′ : List ℕ) → loadSays file R T ≡ loadSays file′ R T
+      → searchFileSays file text R T F ≡ searchFileSays file′ text R T F
+  unfolding searchFileSays
+  same-load-same-search file′ e = rw e
+
+  -- ── What the code's steps come to ────────────────────────────────────────
+
   -- once the code was told what loading says
   module _ (short : length text ≤ longestText) (said : Loaded) {R′ T′ : List ℕ} (told : loadedAs said R′ T′ ≡ loadSays file R T) where
-    pub says-loaded : searchFileSays file text R T F ≡ afterLoad (loadedAnswer said) text R′ T′ F
-    unfolding searchFileSays
-    says-loaded = rw (le-ltb longestText (length text) short, ← told)
+    says-loaded : searchFileSays file text R T F ≡ afterLoad (loadedAnswer said) text R′ T′ F
+    says-loaded = says-after short (sym told)
 
     pub says-refused : {n : ℕ} → said ≡ LoadRefused n → fileSearched (Refused n) R′ T′ F ≡ searchFileSays file text R T F
     says-refused e = sym (says-loaded ∙ ap (λ (s : Loaded). afterLoad (loadedAnswer s) text R′ T′ F) e)
@@ -80,8 +136,8 @@ module _ (file : List ℕ) (text : Word) (R T : List ℕ) (F : List Place) where
   -- every occurrence of the mirror of the file's word is counted, the first of them are listed, and the letters are the published steps' own
   pub file-searched : (w : Word) → 1 ≤ length w → length w ≤ longestWord → file ≡ spell w → length text ≤ longestText → length w ≤ length R → room (length w) ≤ length T
       → searchFileSays file text R T F
-      ≡ outcome (done (record { count = length (occurrences (mirror w) text); letters = backward (mirror w) text .letters })) (w ++ drop (length w) R)
-      (tableOf w ++ drop (room (length w)) T) (filled (occurrences (mirror w) text) F)
+      ≡ outcome (done (found (mirror w) text)) (w ++ drop (length w) R) (tableOf w ++ drop (room (length w)) T)
+      (filled (occurrences (mirror w) text) F)
   unfolding searchFileSays
   file-searched w least most f short h t = rw (f, le-ltb longestText (length text) short, file-loads R T w least most h t, take-at w (drop (length w) R) (length w) refl)
 

@@ -2,13 +2,13 @@
 -- outcome.
 use mathlib.Core.Path.{_≡_, refl, sym, ap, _∙_}
 use mathlib.Core.Bool.{true}
-use mathlib.Core.Logic.{_⊎_, inl, inr, _↔_}
+use mathlib.Core.Logic.{_↔_}
 use mathlib.Core.List.{List, _++_, List·Memᴰ}
 use Prim.Native.Nat.{ℕ, _+_, _*_, _-_, _≤_, _<_}
 use native.Mathlib.Decide.{decLt}
 use native.Mathlib.Omega.{arith}
 use lib.ListN.{length, take, drop, getD, length-take, length-reverse, List·getD-append}
-use lib.Seq.{take-at, drop-at, getD-take, getD-drop, getD-append-add}
+use lib.Seq.{take-all, take-at, drop-at, getD-take, getD-drop, getD-append-add}
 use borrow.Author.Tests.{lt-ltb, le-ltb}
 use Rattle.words.specs.Words.{Word, Place, mirror, stands, occurrences}
 use Rattle.words.proofs.Lists.{Rising}
@@ -27,7 +27,8 @@ use Rattle.marks.specs.declared.Searched.{Searched}
 use Rattle.marks.specs.declared.Searched.the-variants.{Done, EmptyWord, LongWord, LongText, ShortRoom}
 use Rattle.words.specs.Limits.{longestWord, longestText}
 use Rattle.marks.specs.Answers.{Answer, done, refused, emptyWord, longWord, longText, shortRoom}
-use Rattle.marks.specs.Search.{Found, Outcome, outcome, answerOf, searched, searchSays}
+use Rattle.marks.specs.Search.{Found, found, Outcome, outcome, answerOf, searched, searchSays}
+use Rattle.marks.specs.Cases.{SearchCase}
 
 -- ── The caller's list ──────────────────────────────────────────────────────
 
@@ -48,13 +49,18 @@ filled-kept l F i h b =
     ap (λ j. getD (take (length F) l ++ drop (length l) F) j 0) e ∙ getD-append-add (take (length F) l) (drop (length l) F) (i - length l) 0
     ∙ getD-drop (length l) F (i - length l) 0 ∙ ap (λ j. getD F j 0) k
 
+-- a list that is long enough begins with all of them
+pub filled-all : (l F : List ℕ) → length l ≤ length F → take (length l) (filled l F) ≡ l
+unfolding filled
+filled-all l F h = rw (take-all (length F) l h) (take-at l (drop (length l) F) (length l) refl)
+
 module _ (word text : Word) (T : List ℕ) (F : List Place) where
   abbrev m : ℕ
   m = length word
 
   -- what a search that is not refused says
   abbrev pub counted : Outcome
-  counted = outcome (done (record { count = length (occurrences word text); letters = backward word text .letters })) (tableOf (mirror word) ++ drop (room m) T) (filled (occurrences word text) F)
+  counted = outcome (done (found word text)) (tableOf (mirror word) ++ drop (room m) T) (filled (occurrences word text) F)
 
   mirror-size : length (tableOf (mirror word)) ≡ room m
   mirror-size = table-size (mirror word) ∙ ap room (length-reverse word)
@@ -83,27 +89,31 @@ module _ (word text : Word) (T : List ℕ) (F : List Place) where
 
   -- ── When each is given ───────────────────────────────────────────────────
 
-  -- what 01's table says of each answer of search, in its order
-  pub data Case : Answer Found → Type 0 where
-    empty : m < 1 → Case (refused emptyWord)
-    long : 1 ≤ m → longestWord < m → Case (refused longWord)
-    text-long : 1 ≤ m → m ≤ longestWord → longestText < length text → Case (refused longText)
-    short : 1 ≤ m → m ≤ longestWord → length text ≤ longestText → length T < room m → Case (refused shortRoom)
-    good : 1 ≤ m → m ≤ longestWord → length text ≤ longestText → room m ≤ length T → Case (counted .answer)
-
-  -- every input is of one case, and its answer is that case's
-  pub search-answers : Case (searchSays word text T F .answer)
-  search-answers = by (decLt m 1) (decLt longestWord m) (decLt longestText (length text)) (decLt (length T) (room m))
+  -- every input is of one case
+  case : SearchCase word text T F (searchSays word text T F)
+  case = by (decLt m 1) (decLt longestWord m) (decLt longestText (length text)) (decLt (length T) (room m))
     where
-      told : {o : Outcome} → searchSays word text T F ≡ o → Case (o .answer) → Case (searchSays word text T F .answer)
-      told e c = rw e c
+      by : Dec (m < 1) → Dec (longestWord < m) → Dec (longestText < length text) → Dec (length T < room m)
+          → SearchCase word text T F (searchSays word text T F)
+      by (yes h) d e f = rw (says-empty h) (SearchCase.empty-word h)
+      by (no h) (yes l) e f = rw (says-long (omega arith) l) (SearchCase.long-word (omega arith) l)
+      by (no h) (no l) (yes k) f = rw (says-long-text (omega arith) (omega arith) k) (SearchCase.long-text (omega arith) (omega arith) k)
+      by (no h) (no l) (no k) (yes s) =
+          rw (says-short (omega arith) (omega arith) (omega arith) s) (SearchCase.short-room (omega arith) (omega arith) (omega arith) s)
+      by (no h) (no l) (no k) (no s) =
+          rw (says-done (omega arith) (omega arith) (omega arith) (omega arith))
+          (SearchCase.accepted (omega arith) (omega arith) (omega arith) (omega arith))
 
-      by : Dec (m < 1) → Dec (longestWord < m) → Dec (longestText < length text) → Dec (length T < room m) → Case (searchSays word text T F .answer)
-      by (yes h) d e f = told (says-empty h) (empty h)
-      by (no h) (yes l) e f = told (says-long (omega arith) l) (long (omega arith) l)
-      by (no h) (no l) (yes k) f = told (says-long-text (omega arith) (omega arith) k) (text-long (omega arith) (omega arith) k)
-      by (no h) (no l) (no k) (yes s) = told (says-short (omega arith) (omega arith) (omega arith) s) (short (omega arith) (omega arith) (omega arith) s)
-      by (no h) (no l) (no k) (no s) = told (says-done (omega arith) (omega arith) (omega arith) (omega arith)) (good (omega arith) (omega arith) (omega arith) (omega arith))
+  -- and a case that applies has its outcome
+  given : {o : Outcome} → SearchCase word text T F o → searchSays word text T F ≡ o
+  given (SearchCase.empty-word h) = says-empty h
+  given (SearchCase.long-word h l) = says-long h l
+  given (SearchCase.long-text h l k) = says-long-text h l k
+  given (SearchCase.short-room h l k s) = says-short h l k s
+  given (SearchCase.accepted h l k s) = says-done h l k s
+
+  pub search-is : (o : Outcome) → (searchSays word text T F ≡ o) ↔ SearchCase word text T F o
+  search-is o = (λ e. rw e at case, given)
 
   -- ── What is found and left ───────────────────────────────────────────────
 
@@ -124,7 +134,7 @@ module _ (word text : Word) (T : List ℕ) (F : List Place) where
     finds-left = ap (λ o. o .finds) is-counted
 
     -- the letters are the published steps' own, and at most m(n-m+1) where m is at most n
-    pub letters-said : searchSays word text T F .answer ≡ done (record { count = length (occurrences word text); letters = backward word text .letters })
+    pub letters-said : searchSays word text T F .answer ≡ done (found word text)
     letters-said = ap (λ o. o .answer) is-counted
 
     pub letters-most : m ≤ length text → backward word text .letters ≤ m * (length text - m + 1)
@@ -138,22 +148,16 @@ module _ (word text : Word) (T : List ℕ) (F : List Place) where
     others-left = ap (λ o. drop (room m) (o .tables)) is-counted ∙ drop-at (tableOf (mirror word)) (drop (room m) T) (room m) mirror-size
 
   -- a refusal changes nothing
-  pub refusal-leaves : (m < 1) ⊎ (longestWord < m) ⊎ (longestText < length text) ⊎ (length T < room m) → (searchSays word text T F .tables ≡ T) × (searchSays word text T F .finds ≡ F)
-  refusal-leaves r = by (decLt m 1) (decLt longestWord m) (decLt longestText (length text)) (decLt (length T) (room m)) r
+  pub refusal-leaves : {n : ℕ} → searchSays word text T F .answer ≡ refused n
+      → (searchSays word text T F .tables ≡ T) × (searchSays word text T F .finds ≡ F)
+  refusal-leaves {n} = by case
     where
-      kept : {a : Answer Found} → searchSays word text T F ≡ outcome a T F → (searchSays word text T F .tables ≡ T) × (searchSays word text T F .finds ≡ F)
-      kept e = (ap (λ o. o .tables) e, ap (λ o. o .finds) e)
-
-      by : Dec (m < 1) → Dec (longestWord < m) → Dec (longestText < length text) → Dec (length T < room m)
-          → (m < 1) ⊎ (longestWord < m) ⊎ (longestText < length text) ⊎ (length T < room m) → (searchSays word text T F .tables ≡ T) × (searchSays word text T F .finds ≡ F)
-      by (yes h) d e f c = kept (says-empty h)
-      by (no h) (yes l) e f c = kept (says-long (omega arith) l)
-      by (no h) (no l) (yes k) f c = kept (says-long-text (omega arith) (omega arith) k)
-      by (no h) (no l) (no k) (yes s) c = kept (says-short (omega arith) (omega arith) (omega arith) s)
-      by (no h) (no l) (no k) (no s) (inl c) = absurd (h c)
-      by (no h) (no l) (no k) (no s) (inr (inl c)) = absurd (l c)
-      by (no h) (no l) (no k) (no s) (inr (inr (inl c))) = absurd (k c)
-      by (no h) (no l) (no k) (no s) (inr (inr (inr c))) = absurd (s c)
+      by : {o : Outcome} → SearchCase word text T F o → o .answer ≡ refused n → (o .tables ≡ T) × (o .finds ≡ F)
+      by (SearchCase.empty-word h) e = (refl, refl)
+      by (SearchCase.long-word h l) e = (refl, refl)
+      by (SearchCase.long-text h l k) e = (refl, refl)
+      by (SearchCase.short-room h l k s) e = (refl, refl)
+      by (SearchCase.accepted h l k s) e = let z : _≡_ {A = ℕ} 0 1 = cc in absurd (omega arith)
 
   -- ── What the code's scan comes to ────────────────────────────────────────
 

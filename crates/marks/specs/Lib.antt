@@ -4,3 +4,4 @@ pub mod Search
 pub mod Save
 pub mod Load
 pub mod SearchFile
+pub mod Cases

@@ -1,6 +1,7 @@
 -- WHAT SEARCH SAYS: the whole outcome as a function of what is lent.
 --
 --   Found                      how often the word was found, and how many letters were read
+--   found word text            every occurrence, and the letters of the published steps
 --   Outcome                    the answer, and the room and the list as they are left
 --   searched r T F             the outcome of code that answers r and leaves T and F
 --   searchSays word text T F   what it must be: 1, 2, 4, 3 in that order; else every occurrence is counted and the first of them are listed, as many as fit, the letters are
@@ -25,6 +26,9 @@ pub record Found : Type 0 where
   pub count : ℕ
   pub letters : ℕ
 
+abbrev pub found : Word → Word → Found
+found word text = record { count = length (occurrences word text); letters = backward word text .letters }
+
 pub record Outcome : Type 0 where
   pub answer : Answer Found
   pub tables : List ℕ
@@ -47,9 +51,8 @@ searched r T F = outcome (answerOf r) T F
 unfoldable pub searchSays : Word → Word → List ℕ → List Place → Outcome
 searchSays word text T F =
     let m = length word in
-    let places = occurrences word text in
     cond (ltb m 1) (outcome (refused emptyWord) T F)
     (cond (ltb longestWord m) (outcome (refused longWord) T F)
     (cond (ltb longestText (length text)) (outcome (refused longText) T F)
     (cond (ltb (length T) (room m)) (outcome (refused shortRoom) T F)
-    (outcome (done (record { count = length places; letters = backward word text .letters })) (tableOf (mirror word) ++ drop (room m) T) (filled places F)))))
+    (outcome (done (found word text)) (tableOf (mirror word) ++ drop (room m) T) (filled (occurrences word text) F)))))

@@ -13,12 +13,11 @@ use lib.ListN.{length, take}
 use lib.Dec.{ltb}
 use Rattle.words.specs.Words.{Word, Place, mirror, occurrences}
 use Rattle.words.specs.Limits.{longestText}
-use Rattle.backward.specs.Steps.{backward}
 use Rattle.search.specs.Finds.{filled}
 use Rattle.marks.specs.declared.FileSearched.{FileSearched}
 use Rattle.marks.specs.declared.FileSearched.the-variants.{Done, Refused}
 use Rattle.marks.specs.Answers.{Answer, done, refused, longText}
-use Rattle.marks.specs.Search.{Found}
+use Rattle.marks.specs.Search.{Found, found}
 use Rattle.marks.specs.Load.{loadSays}
 
 pub record Outcome : Type 0 where
@@ -43,8 +42,7 @@ abbrev pub afterLoad : Answer ℕ → Word → List ℕ → List ℕ → List Pl
 afterLoad (refused n) text R T F = outcome (refused n) R T F
 afterLoad (done m) text R T F =
     let word = mirror (take m R) in
-    let places = occurrences word text in
-    outcome (done (record { count = length places; letters = backward word text .letters })) R T (filled places F)
+    outcome (done (found word text)) R T (filled (occurrences word text) F)
 
 unfoldable pub searchFileSays : List ℕ → Word → List ℕ → List ℕ → List Place → Outcome
 searchFileSays file text R T F =

@@ -1,0 +1,185 @@
+-- DEMAND 1, clause by clause: each is quoted word for word, and under it stands what says just that of the entries' outcomes, by citing the file
+-- where it is proved. Wrong programs that 01 wants shut out by this demand are named in plain words, each with what shuts it out.
+use mathlib.Core.Path.{_≡_, refl, ap}
+use mathlib.Core.Logic.{_⊎_, _↔_}
+use mathlib.Core.List.{List, [], _∷_, _++_, map, List·Memᴰ}
+use Prim.Native.Nat.{ℕ, _+_, _-_, _≤_, _<_}
+use lib.ListN.{length, drop, replicate}
+use Rattle.words.specs.Words.{Word, Place, mirror}
+use Rattle.words.specs.Limits.{longestWord, longestText}
+use Rattle.table.specs.Table.{room}
+use Rattle.saved.specs.File.{edition, spell}
+use Rattle.loaded.specs.Load.{letters}
+use Rattle.loaded.specs.Cases.{Reads, BadLength, FrontCase}
+use Rattle.marks.specs.declared.Built.{Built}
+use Rattle.marks.specs.declared.Saved.{Saved}
+use Rattle.marks.specs.declared.Searched.{Searched}
+use Rattle.marks.specs.declared.Loaded.{Loaded}
+use Rattle.marks.specs.declared.FileSearched.{FileSearched}
+use Rattle.marks.specs.Answers.{done, refused, refusals}
+use Rattle.marks.specs.Build.{built, buildSays}
+use Rattle.marks.specs.Save.{savedAs, saveSays}
+use Rattle.marks.specs.Search.{found, searched, searchSays}
+use Rattle.marks.specs.Load.{loadedAs, loadSays}
+use Rattle.marks.specs.SearchFile.{fileSearched, searchFileSays}
+use Rattle.marks.specs.Build
+use Rattle.marks.specs.Save
+use Rattle.marks.specs.Search
+use Rattle.marks.specs.Load
+use Rattle.marks.specs.SearchFile
+use Rattle.marks.specs.Cases.{BuildCase, SaveCase, SearchCase, LoadCase, SearchFileCase, AfterRefusal}
+use Rattle.marks.proofs.Numbers
+use Rattle.marks.proofs.BuildSays
+use Rattle.marks.proofs.SaveSays
+use Rattle.marks.proofs.SearchSays
+use Rattle.marks.proofs.LoadSays
+use Rattle.marks.proofs.LoadTheorems
+use Rattle.marks.proofs.SearchFileSays
+
+-- ── 'Any word, text, file and room may be handed to any public entry.' ─────
+
+-- Of the code, crates/marks/src/lib.rt: an entry has no `requires`, and its one `ensures` says that its answer and every lent buffer as it is left
+-- are `buildSays`, `saveSays`, `searchSays`, `loadSays` or `searchFileSays` of what is handed over. These are functions on all lists of numbers.
+
+-- ── 'Each entry comes to an end with an answer, or refuses with a number from the written table,' ──
+
+-- Of the code: every function is proved to end. What it ends with is `marks/Answers/Answer`: done with an answer, or refused with a number.
+
+-- the numbers of the written table
+pub table-numbers : map (λ r. r .number) refusals ≡ 1 ∷ 2 ∷ 3 ∷ 4 ∷ 5 ∷ 6 ∷ 7 ∷ 8 ∷ 9 ∷ 10 ∷ 11 ∷ 12 ∷ []
+unfolding refusals
+table-numbers = refl
+
+-- for every word, text and file, and every word room R, tables T, output O and list F
+module _ (word text : Word) (file R T O : List ℕ) (F : List Place) where
+  module _ {n : ℕ} where
+    pub build-numbers : buildSays word T .answer ≡ refused n → List·Memᴰ n (1 ∷ 2 ∷ 3 ∷ [])
+    build-numbers = Numbers.build-numbers word T
+
+    pub save-numbers : saveSays word T O .answer ≡ refused n → List·Memᴰ n (1 ∷ 2 ∷ 3 ∷ 12 ∷ [])
+    save-numbers = Numbers.save-numbers word T O
+
+    pub search-numbers : searchSays word text T F .answer ≡ refused n → List·Memᴰ n (1 ∷ 2 ∷ 4 ∷ 3 ∷ [])
+    search-numbers = Numbers.search-numbers word text T F
+
+    pub load-numbers : loadSays file R T .answer ≡ refused n → List·Memᴰ n (3 ∷ 5 ∷ 6 ∷ 7 ∷ 8 ∷ 9 ∷ 10 ∷ 11 ∷ [])
+    load-numbers = Numbers.load-numbers file R T
+
+    pub search-file-numbers : searchFileSays file text R T F .answer ≡ refused n → List·Memᴰ n (4 ∷ 3 ∷ 5 ∷ 6 ∷ 7 ∷ 8 ∷ 9 ∷ 10 ∷ 11 ∷ [])
+    search-file-numbers = Numbers.search-file-numbers file text R T F
+
+  -- ── 'exactly when the table says and at no other time.' ──────────────────
+
+  -- The table with its order is `marks/Cases`: a line is a constructor, with what word, bytes and rooms have to be for it, and its outcome.
+
+  pub build-exactly : (o : Build.Outcome) → (buildSays word T ≡ o) ↔ BuildCase word T o
+  build-exactly = BuildSays.build-is word T
+
+  pub save-exactly : (o : Save.Outcome) → (saveSays word T O ≡ o) ↔ SaveCase word T O o
+  save-exactly = SaveSays.save-is word T O
+
+  pub search-exactly : (o : Search.Outcome) → (searchSays word text T F ≡ o) ↔ SearchCase word text T F o
+  search-exactly = SearchSays.search-is word text T F
+
+  pub load-exactly : (o : Load.Outcome) → (loadSays file R T ≡ o) ↔ LoadCase file R T o
+  load-exactly = LoadSays.load-is file R T
+
+  pub search-file-exactly : (o : SearchFile.Outcome) → (searchFileSays file text R T F ≡ o) ↔ SearchFileCase file text R T F o
+  search-file-exactly = SearchFileSays.search-file-is file text R T F
+
+  -- each number of loading by itself: the cases that have it, and only they, give it
+  pub load-number-exactly : (n : ℕ) → (loadSays file R T .answer ≡ refused n)
+      ↔ ((R′ : List ℕ) × (T′ : List ℕ) × LoadCase file R T (Load.outcome (refused n) R′ T′))
+  load-number-exactly n = LoadSays.load-answers file R T (refused n)
+
+  -- ── 'What a refusal leaves in every lent buffer is fixed,' ───────────────
+
+  -- before the rooms were found large enough nothing is changed, after it the word's part of them is zero; outputs and lists are never touched
+  module _ {n : ℕ} where
+    pub build-refusal : buildSays word T .answer ≡ refused n → buildSays word T .tables ≡ T
+    build-refusal = BuildSays.refusal-leaves word T
+
+    pub save-refusal : saveSays word T O .answer ≡ refused n
+        → (saveSays word T O .output ≡ O)
+        × ((saveSays word T O .tables ≡ T) ⊎ (saveSays word T O .tables ≡ replicate (room (length word)) 0 ++ drop (room (length word)) T))
+    save-refusal = SaveSays.refusal-leaves word T O
+
+    pub search-refusal : searchSays word text T F .answer ≡ refused n
+        → (searchSays word text T F .tables ≡ T) × (searchSays word text T F .finds ≡ F)
+    search-refusal = SearchSays.refusal-leaves word text T F
+
+    pub load-refusal : loadSays file R T .answer ≡ refused n → AfterRefusal R T (loadSays file R T .word) (loadSays file R T .tables)
+    load-refusal = LoadSays.refusal-leaves file R T
+
+    pub search-file-refusal : searchFileSays file text R T F .answer ≡ refused n
+        → (searchFileSays file text R T F .finds ≡ F)
+        × AfterRefusal R T (searchFileSays file text R T F .word) (searchFileSays file text R T F .tables)
+    search-file-refusal = SearchFileSays.refusal-leaves file text R T F
+
+  -- and any two outcomes that an entry's promise allows are equal: the code's answers r and r′, and all that is left
+  pub build-fixed : (r r′ : Built) (T₁ T₂ : List ℕ) → built r T₁ ≡ buildSays word T → built r′ T₂ ≡ buildSays word T → (r ≡ r′) × (T₁ ≡ T₂)
+  build-fixed = BuildSays.build-one word T
+
+  pub save-fixed : (r r′ : Saved) (T₁ T₂ O₁ O₂ : List ℕ) → savedAs r T₁ O₁ ≡ saveSays word T O → savedAs r′ T₂ O₂ ≡ saveSays word T O
+      → (r ≡ r′) × (T₁ ≡ T₂) × (O₁ ≡ O₂)
+  save-fixed = SaveSays.save-one word T O
+
+  pub search-fixed : (r r′ : Searched) (T₁ T₂ : List ℕ) (F₁ F₂ : List Place) → searched r T₁ F₁ ≡ searchSays word text T F
+      → searched r′ T₂ F₂ ≡ searchSays word text T F → (r ≡ r′) × (T₁ ≡ T₂) × (F₁ ≡ F₂)
+  search-fixed = SearchSays.search-one word text T F
+
+  pub load-fixed : (r r′ : Loaded) (R₁ R₂ T₁ T₂ : List ℕ) → loadedAs r R₁ T₁ ≡ loadSays file R T → loadedAs r′ R₂ T₂ ≡ loadSays file R T
+      → (r ≡ r′) × (R₁ ≡ R₂) × (T₁ ≡ T₂)
+  load-fixed = LoadSays.load-one file R T
+
+  pub search-file-fixed : (r r′ : FileSearched) (R₁ R₂ T₁ T₂ : List ℕ) (F₁ F₂ : List Place)
+      → fileSearched r R₁ T₁ F₁ ≡ searchFileSays file text R T F → fileSearched r′ R₂ T₂ F₂ ≡ searchFileSays file text R T F
+      → (r ≡ r′) × (R₁ ≡ R₂) × (T₁ ≡ T₂) × (F₁ ≡ F₂)
+  search-file-fixed = SearchFileSays.search-file-one file text R T F
+
+  -- ── 'and no declared count is acted on before it has been checked.' ──────
+
+  -- Put as values, as 01 has it: what 8 or 9 returns and leaves is the same whichever bad number was declared. Of the code: a check that is left
+  -- out or moved is refused by the prover, as the must-fail edits no_limit_check and count_unchecked of crates/loaded and load_room_unchecked of
+  -- crates/marks show.
+
+  -- two files that declare a length that no word may have
+  module _ (file′ : List ℕ) {i m j i′ m′ j′ : ℕ}
+      (edition-read : Reads file 0 edition i) (length-read : Reads file i m j) (bad : BadLength m)
+      (edition-read′ : Reads file′ 0 edition i′) (length-read′ : Reads file′ i′ m′ j′) (bad′ : BadLength m′) where
+    pub bad-length-loads : loadSays file R T ≡ loadSays file′ R T
+    bad-length-loads = LoadTheorems.any-two-bad-lengths R T file file′ edition-read length-read bad edition-read′ length-read′ bad′
+
+    pub bad-length-searches : searchFileSays file text R T F ≡ searchFileSays file′ text R T F
+    bad-length-searches = SearchFileSays.same-load-same-search file text R T F file′ bad-length-loads
+
+  -- two files that have m letters, and declare more than m - 1 arrows
+  module _ (file′ : List ℕ) {m i n j i′ n′ j′ : ℕ}
+      (there : FrontCase file (letters m i)) (count-read : Reads file (i + m) n j) (bad : m - 1 < n)
+      (there′ : FrontCase file′ (letters m i′)) (count-read′ : Reads file′ (i′ + m) n′ j′) (bad′ : m - 1 < n′) where
+    pub bad-count-loads : loadSays file R T ≡ loadSays file′ R T
+    bad-count-loads = LoadTheorems.any-two-bad-counts R T file file′ there count-read bad there′ count-read′ bad′
+
+    pub bad-count-searches : searchFileSays file text R T F ≡ searchFileSays file′ text R T F
+    bad-count-searches = SearchFileSays.same-load-same-search file text R T F file′ bad-count-loads
+
+  -- ── Shut out: an entry that refuses everything ───────────────────────────
+
+  -- with a word within the limits and rooms large enough, none of the five refuses
+  module _ (least : 1 ≤ length word) (most : length word ≤ longestWord) (enough : room (length word) ≤ length T) where
+    pub build-answers : buildSays word T .answer ≡ done (length word)
+    build-answers = ap (λ o. o .answer) (BuildSays.says-done word T least most enough)
+
+    pub save-answers : length (spell word) ≤ length O → saveSays word T O .answer ≡ done (length (spell word))
+    save-answers out = ap (λ o. o .answer) (SaveSays.says-done word T O least most enough out)
+
+    pub search-answers : length text ≤ longestText → searchSays word text T F .answer ≡ done (found word text)
+    search-answers short = ap (λ o. o .answer) (SearchSays.says-done word text T F least most short enough)
+
+    pub load-answers : length word ≤ length R → loadSays (spell word) R T .answer ≡ done (length word)
+    load-answers fits = ap (λ o. o .answer) (LoadTheorems.file-loads R T word least most fits enough)
+
+    pub search-file-answers : length text ≤ longestText → length word ≤ length R
+        → searchFileSays (spell word) text R T F .answer ≡ done (found (mirror word) text)
+    search-file-answers short fits =
+        ap (λ o. o .answer) (SearchFileSays.file-searched (spell word) text R T F word least most refl short fits enough)

@@ -1,0 +1,1 @@
+// The three demands, clause by clause, as theorems about the outcomes of the entries. No code: what is proved elsewhere is cited here.
