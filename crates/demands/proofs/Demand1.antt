@@ -143,7 +143,12 @@ module _ (word text : Word) (file R T O : List ℕ) (F : List Place) where
   -- out or moved is refused by the prover, as the must-fail edits no_limit_check and count_unchecked of crates/loaded and load_room_unchecked of
   -- crates/marks show.
 
-  -- two files that declare a length that no word may have
+  -- Shut out: a loader that clears before 8. A declared length that no word may have is refused with every lent buffer as it was
+  pub bad-length-touches-nothing : {i m j : ℕ} → Reads file 0 edition i → Reads file i m j → BadLength m
+      → loadSays file R T ≡ Load.outcome (refused 8) R T
+  bad-length-touches-nothing = LoadTheorems.bad-length-one R T file
+
+  -- two files that declare such a length
   module _ (file′ : List ℕ) {i m j i′ m′ j′ : ℕ}
       (edition-read : Reads file 0 edition i) (length-read : Reads file i m j) (bad : BadLength m)
       (edition-read′ : Reads file′ 0 edition i′) (length-read′ : Reads file′ i′ m′ j′) (bad′ : BadLength m′) where
@@ -162,6 +167,13 @@ module _ (word text : Word) (file R T O : List ℕ) (F : List Place) where
 
     pub bad-count-searches : searchFileSays file text R T F ≡ searchFileSays file′ text R T F
     bad-count-searches = SearchFileSays.same-load-same-search file text R T F file′ bad-count-loads
+
+  -- ── Shut out: refusals in another order ──────────────────────────────────
+
+  -- letters that are missing are refused with 5, however short the rooms are: 3 comes behind them
+  pub letters-before-rooms : {i m j : ℕ} → Reads file 0 edition i → Reads file i m j → 1 ≤ m → m ≤ longestWord → length file < j + m
+      → loadSays file R T ≡ Load.outcome (refused 5) R T
+  letters-before-rooms e r least most cut = load-exactly _ .1 (LoadCase.head-refused (FrontCase.letters-missing e r least most cut))
 
   -- ── Shut out: an entry that refuses everything ───────────────────────────
 

@@ -1,5 +1,5 @@
 -- THE THEOREMS on files and their loading, each a sentence about the definitions alone: the files that are accepted are exactly the words' files; no two
--- words have the same file; what is cut off or goes on is refused; a bad number tells nothing of itself; and each way is gone exactly when it applies.
+-- words have the same file; what is cut off or goes on is refused; and each way is gone exactly when it applies.
 use mathlib.Core.Path.{_≡_, refl, sym, _∙_}
 use mathlib.Core.Logic.{_⊎_, _↔_}
 use mathlib.Core.List.{List, _∷_, _++_}
@@ -11,10 +11,10 @@ use Rattle.words.specs.Lists.{at}
 use Rattle.words.specs.Words.{Word, Place}
 use Rattle.words.specs.Limits.{longestWord}
 use Rattle.number.specs.Number.{Bytes}
-use Rattle.saved.specs.File.{edition, spell, Saved}
+use Rattle.saved.specs.File.{spell, Saved}
 use Rattle.loaded.specs.Load.{Front, letters, stop, front, Verdict, wrong, verdict}
 use Rattle.loaded.specs.Accepts.{Judged, Accepts, FileOf}
-use Rattle.loaded.specs.Cases.{Reads, BadLength, FrontCase, length-bad, VerdictCase, count-too-large}
+use Rattle.loaded.specs.Cases.{FrontCase, VerdictCase}
 use Rattle.loaded.proofs.Cases.{front-case, case-front, verdict-case, case-verdict}
 use Rattle.loaded.proofs.Accepted.{spelled-accepted}
 use Rattle.loaded.proofs.OnlyFiles.{accepted-stood}
@@ -70,19 +70,7 @@ module _ (w : Word) (least : 1 ≤ length w) (most : length w ≤ longestWord) w
   pub longer-refused : (b : ℕ) (l : List ℕ) → Judged (spell w ++ b ∷ l) w (wrong 11 (length (spell w)))
   longer-refused b l = longer-left (spell w) b l (file-accepted w least most)
 
--- ── 4. A bad number tells nothing of itself ────────────────────────────────
-
--- whichever bad length is declared behind the edition, 8 is shown, and where it stands
-pub any-bad-length : (s s′ : List ℕ) {i m j m′ j′ : ℕ} → Reads s 0 edition i → Reads s i m j → BadLength m
-    → Reads s′ 0 edition i → Reads s′ i m′ j′ → BadLength m′ → (front s ≡ stop 8 i) × (front s′ ≡ stop 8 i)
-any-bad-length s s′ h g d h′ g′ d′ = (case-front s (length-bad h g d), case-front s′ (length-bad h′ g′ d′))
-
--- whichever number of arrows above m - 1 is declared, 9 is shown, and where it stands
-pub any-bad-count : (s s′ : List ℕ) (i : Place) (w : Word) {n j n′ j′ : ℕ} → Reads s i n j → length w - 1 < n → Reads s′ i n′ j′ → length w - 1 < n′
-    → (verdict s i w ≡ wrong 9 i) × (verdict s′ i w ≡ wrong 9 i)
-any-bad-count s s′ i w h g h′ g′ = (case-verdict s (count-too-large h g), case-verdict s′ (count-too-large h′ g′))
-
--- ── 5. Exactly when ────────────────────────────────────────────────────────
+-- ── 4. Exactly when ────────────────────────────────────────────────────────
 
 -- what a file shows up to its letters, by cases on its bytes
 pub front-is : (s : List ℕ) (f : Front) → (front s ≡ f) ↔ FrontCase s f

@@ -1,6 +1,5 @@
 use Rattle.marks.proofs.LoadSays.{taken-right, taken-wrong}
 use lib.ListN.{length}
-use native.Mathlib.Omega.{arith}
 use borrow.Author.Needs.{needs}
 use Rattle.marks.proofs.take_word.Statement.{statement}
 use Rattle.marks.proofs.take_word.Tie as tie
