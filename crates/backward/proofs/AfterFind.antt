@@ -1,5 +1,5 @@
--- The move after an occurrence, in four laws: it moves, at most the word's length, never past the next occurrence, and by the same for a word and its mirror.
--- No other proof looks into `afterFind`: a longer move needs these laws proved for it, and nothing else.
+-- The move after an occurrence, in four laws: it moves, at most the word's length, never past the next occurrence, and by the same for a
+-- word and its mirror. No other proof looks into `afterFind`: a longer move needs these laws proved for it, and nothing else.
 use mathlib.Core.Path.{_≡_, refl}
 use mathlib.Core.Bool.{true}
 use Prim.Native.Nat.{_+_, _≤_, _<_}

@@ -1,5 +1,5 @@
--- What the reading of one window says. Where it fails, the letters read are those from the failing place on, and their mirror is not walked;
--- where it does not fail, all the window's letters are read, and their mirror is walked.
+-- What the reading of one window says. Where it fails, the letters read are those from the failing place on, and their mirror is not
+-- walked; where it does not fail, all the window's letters are read, and their mirror is walked.
 use mathlib.Core.Path.{_≡_, refl, ap, _∙_}
 use mathlib.Core.Option.{Option, none, some}
 use mathlib.Core.List.{[], _∷_, reverse-append}

@@ -1,5 +1,6 @@
--- The whole search, window after window. With an automaton that walks every part of the mirrored word and nothing else of the word's length,
--- it lists exactly the occurrences; with any arrows whatever, it reads at most the word's length of letters for each place of a window.
+-- The whole search, window after window. With an automaton that walks every part of the mirrored word and nothing else of the word's
+-- length, it lists exactly the occurrences; with any arrows whatever, it reads at most the word's length of letters for each place of a
+-- window.
 use mathlib.Core.Path.{_≡_, refl, sym, ap, _∙_, fun-ext}
 use mathlib.Core.Bool.{Bool, true, false, not-eq-not}
 use mathlib.Core.Option.{Option, none, some}

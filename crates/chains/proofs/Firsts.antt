@@ -1,5 +1,5 @@
--- THE FIRST STATE OF EACH LETTER, kept while letters are added: it is where state 0's arrow on that letter leads, so that no lookup runs along state 0's chain,
--- the only one that grows with the letters in use.
+-- THE FIRST STATE OF EACH LETTER, kept while letters are added: it is where state 0's arrow on that letter leads, so that no lookup runs
+-- along state 0's chain, the only one that grows with the letters in use.
 use mathlib.Core.Path.{_≡_, refl, sym, ap, _∙_}
 use mathlib.Core.Logic.{_≢_}
 use mathlib.Core.List.{List}

@@ -1,5 +1,5 @@
--- THE TABLE AFTER t LETTERS: the loop's invariant, that it holds of the blank table, that a letter keeps it, and that after all letters the chains and supplies are those of
--- the word's oracle.
+-- THE TABLE AFTER t LETTERS: the loop's invariant, that it holds of the blank table, that a letter keeps it, and that after all letters the
+-- chains and supplies are those of the word's oracle.
 use mathlib.Core.Path.{_≡_, refl, sym, ap, _∙_}
 use mathlib.Core.Logic.{inl, inr, _≢_}
 use mathlib.Core.Option.{some}

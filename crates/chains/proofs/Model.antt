@@ -1,5 +1,6 @@
--- LETTERS ADDED TO LISTS OF TARGETS, with no table in sight: T x is the list of the targets of x's extra arrows, newest first. One letter more puts its state before the
--- targets of each source; the arrows then have the record again, and each list stays the state's extra arrows from the last to the first.
+-- LETTERS ADDED TO LISTS OF TARGETS, with no table in sight: T x is the list of the targets of x's extra arrows, newest first. One letter
+-- more puts its state before the targets of each source; the arrows then have the record again, and each list stays the state's extra
+-- arrows from the last to the first.
 use mathlib.Core.Path.{_≡_, refl, sym, ap, _∙_}
 use mathlib.Core.Bool.{Bool, true, false}
 use mathlib.Core.Logic.{_⊎_, inl, inr, _≢_}

@@ -1,4 +1,5 @@
--- PUSHING AN ARROW: which entries it changes, and that it puts the new target before the others of its state and leaves every other chain alone.
+-- PUSHING AN ARROW: which entries it changes, and that it puts the new target before the others of its state and leaves every other chain
+-- alone.
 use mathlib.Core.Path.{_≡_, sym, _∙_}
 use mathlib.Core.Logic.{_≢_}
 use mathlib.Core.List.{List, _∷_}

@@ -1,5 +1,5 @@
--- WHAT A CLIMB OF THE CODE COMES TO: the climb of figure 4 over the targets that the table holds, with the new state put before the targets of each source, and all other
--- entries as they were.
+-- WHAT A CLIMB OF THE CODE COMES TO: the climb of figure 4 over the targets that the table holds, with the new state put before the targets
+-- of each source, and all other entries as they were.
 use mathlib.Core.Path.{_≡_, refl, sym, ap, _∙_}
 use mathlib.Core.Bool.{cond}
 use mathlib.Core.Logic.{inl, inr, _≢_}

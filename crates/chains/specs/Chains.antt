@@ -1,4 +1,5 @@
--- CHAINS OF ARROWS in a table of six rows of n entries: what a lookup and a push mean there. Nothing here is of interest once the table is laid out.
+-- CHAINS OF ARROWS in a table of six rows of n entries: what a lookup and a push mean there. Nothing here is of interest once the table is
+-- laid out.
 --
 --   supplyIn L n x     the supply of x, read from row 1; state 0 has none
 --   Chain L n j l      the slots from j on hold the targets l
@@ -25,7 +26,8 @@ supplyIn L n x = cond (eqb x 0) none (some (at L (n + x)))
 -- a slot's target is a state, and the next slot is an older one
 pub data Chain (L : List ℕ) (n : ℕ) : ℕ → List State → Type 0 where
   ends : {j : ℕ} → j ≡ 0 → Chain L n j []
-  links : {j : ℕ} {y : State} {l : List State} → 0 < j → j < n → y ≡ at L (5 * n + j) → y < n → at L (4 * n + j) < j → Chain L n (at L (4 * n + j)) l → Chain L n j (y ∷ l)
+  links : {j : ℕ} {y : State} {l : List State} → 0 < j → j < n → y ≡ at L (5 * n + j) → y < n → at L (4 * n + j) < j
+      → Chain L n (at L (4 * n + j)) l → Chain L n j (y ∷ l)
 
 pub record Chained (L : List ℕ) (n : ℕ) : Type 0 where
   pub size : length L ≡ 6 * n

@@ -1,5 +1,5 @@
--- ADDING LETTERS to a table of chains: what one climb and one letter do to it, and what all letters make of it. Nothing here is of interest once the table
--- is laid out.
+-- ADDING LETTERS to a table of chains: what one climb and one letter do to it, and what all letters make of it. Nothing here is of interest
+-- once the table is laid out.
 --
 --   Ready L n t u k     a climb from k can go all its way: its states have chains, and slots enough are free
 --   Climbs ..           what a climb does, a case for each way in which it goes on or ends
@@ -43,8 +43,10 @@ pub record Ready (L : List ℕ) (n t u : ℕ) (k : State) : Type 0 where
 -- from L with u slots used, at k, to L′ with u′ slots used, the new state's supply being y
 pub data Climbs (n t : ℕ) (c : Letter) : List ℕ → ℕ → State → List ℕ → ℕ → State → Type 0 where
   finds : {L L′ : List ℕ} {u u′ : ℕ} {k y : State} → Looks L n t k c (To (record { 0 = y })) → L′ ≡ L → u′ ≡ u → Climbs n t c L u k L′ u′ y
-  runs-out : {L L′ : List ℕ} {u u′ : ℕ} {k y : State} → k ≡ 0 → y ≡ 0 → Looks L n t k c Missing → L′ ≡ pushed L n u k (suc t) → u′ ≡ suc u → Climbs n t c L u k L′ u′ y
-  goes-on : {L L′ : List ℕ} {u u′ : ℕ} {k y : State} → 0 < k → Looks L n t k c Missing → Climbs n t c (pushed L n u k (suc t)) (suc u) (at L (n + k)) L′ u′ y → Climbs n t c L u k L′ u′ y
+  runs-out : {L L′ : List ℕ} {u u′ : ℕ} {k y : State} → k ≡ 0 → y ≡ 0 → Looks L n t k c Missing → L′ ≡ pushed L n u k (suc t) → u′ ≡ suc u
+      → Climbs n t c L u k L′ u′ y
+  goes-on : {L L′ : List ℕ} {u u′ : ℕ} {k y : State} → 0 < k → Looks L n t k c Missing
+      → Climbs n t c (pushed L n u k (suc t)) (suc u) (at L (n + k)) L′ u′ y → Climbs n t c L u k L′ u′ y
 
 pub record Begun (L : List ℕ) (n t u : ℕ) : Type 0 where
   pub chained : Chained L n
@@ -58,7 +60,8 @@ pub record Begun (L : List ℕ) (n t u : ℕ) : Type 0 where
 
 pub data Added (n t : ℕ) (L : List ℕ) (u : ℕ) (L′ : List ℕ) (u′ : ℕ) : Type 0 where
   first-letter : t ≡ 0 → L′ ≡ L → u′ ≡ u → Added n t L u L′ u′
-  later-letter : (L₁ : List ℕ) (y : State) → 0 < t → Climbs n t (at L (suc t)) L u (at L (n + t)) L₁ u′ y → L′ ≡ set L₁ (n + suc t) y → Added n t L u L′ u′
+  later-letter : (L₁ : List ℕ) (y : State) → 0 < t → Climbs n t (at L (suc t)) L u (at L (n + t)) L₁ u′ y → L′ ≡ set L₁ (n + suc t) y
+      → Added n t L u L′ u′
 
 unfoldable pub zeroArrow : ℕ → Arrow
 zeroArrow y = arrowTo (cond (eqb y 0) none (some y))

@@ -1,5 +1,5 @@
--- TWO TABLES OVER ONE WORD, ab: one has the extra arrow 0 to 2 and the supply 0 of state 2, the other has no extra arrow and the supply 1. So no
--- rule that works arrows or supplies out of the word reads both.
+-- TWO TABLES OVER ONE WORD, ab: one has the extra arrow 0 to 2 and the supply 0 of state 2, the other has no extra arrow and the supply 1.
+-- So no rule that works arrows or supplies out of the word reads both.
 use mathlib.Core.Path.{_≡_, refl}
 use mathlib.Core.Option.{none, some}
 use mathlib.Core.List.{List, [], _∷_, List·Memᴰ·not-nil, List·Memᴰ·eq-of-singleton}

@@ -1,5 +1,5 @@
--- COMPARING ARROW BY ARROW: what holds before each arrow that code reads. What the file shows there against the word's steps still ahead is what it shows at
--- first against all of them.
+-- COMPARING ARROW BY ARROW: what holds before each arrow that code reads. What the file shows there against the word's steps still ahead is
+-- what it shows at first against all of them.
 use mathlib.Core.Path.{_≡_, refl, sym, _∙_}
 use mathlib.Core.Bool.{true, false, _&&_, cond}
 use mathlib.Core.List.{List, []}

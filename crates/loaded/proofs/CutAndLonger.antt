@@ -1,5 +1,5 @@
--- A file and the same file with more bytes behind go the same way, unless the shorter ends too soon or is accepted. So what an accepted file goes on
--- from shows 5, and what goes on from an accepted file shows 11.
+-- A file and the same file with more bytes behind go the same way, unless the shorter ends too soon or is accepted. So what an accepted
+-- file goes on from shows 5, and what goes on from an accepted file shows 11.
 use mathlib.Core.Path.{_≡_, refl, sym, _∙_}
 use mathlib.Core.Logic.{_⊎_, inl, inr, ⊎-elim}
 use mathlib.Core.List.{List, _∷_, _++_}

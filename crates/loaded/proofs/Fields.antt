@@ -1,5 +1,5 @@
--- A number of the file by its place: one that stands there is read, and what is read stays so when more bytes follow. That what is read stood there
--- is a law of the numbers, `number-at-stood`.
+-- A number of the file by its place: one that stands there is read, and what is read stays so when more bytes follow. That what is read
+-- stood there is a law of the numbers, `number-at-stood`.
 use mathlib.Core.Path.{_≡_, refl, sym, ap, _∙_}
 use mathlib.Core.Logic.{_⊎_, inl, inr}
 use mathlib.Core.List.{List, _++_}

@@ -1,4 +1,5 @@
--- THE FILE UP TO ITS LETTERS: what it shows, from the numbers that were read; and what a caller may take from the answer that the letters are there.
+-- THE FILE UP TO ITS LETTERS: what it shows, from the numbers that were read; and what a caller may take from the answer that the letters
+-- are there.
 use mathlib.Core.Path.{_≡_, refl}
 use mathlib.Core.Bool.{true, false, _&&_}
 use mathlib.Core.List.{List}

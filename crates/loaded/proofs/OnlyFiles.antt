@@ -1,4 +1,5 @@
--- A file that is accepted is the file of the word that it shows: each number that was read stood there in its one spelling, and nothing follows.
+-- A file that is accepted is the file of the word that it shows: each number that was read stood there in its one spelling, and nothing
+-- follows.
 use mathlib.Core.Path.{_≡_, refl, sym, ap, _∙_}
 use mathlib.Core.List.{List, _++_}
 use Prim.Native.Nat.{ℕ, suc, _+_, _≤_, _<_}

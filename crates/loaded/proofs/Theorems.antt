@@ -1,5 +1,5 @@
--- THE THEOREMS on files and their loading, each a sentence about the definitions alone: the files that are accepted are exactly the words' files; no two
--- words have the same file; what is cut off or goes on is refused; and each way is gone exactly when it applies.
+-- THE THEOREMS on files and their loading, each a sentence about the definitions alone: the files that are accepted are exactly the words'
+-- files; no two words have the same file; what is cut off or goes on is refused; and each way is gone exactly when it applies.
 use mathlib.Core.Path.{_≡_, refl, sym, _∙_}
 use mathlib.Core.Logic.{_⊎_, _↔_}
 use mathlib.Core.List.{List, _∷_, _++_}

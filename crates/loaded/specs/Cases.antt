@@ -1,8 +1,9 @@
--- THE WAYS OF LOADING, one constructor each, with what the bytes have to be for it: so each refusal reads as 01's 'given exactly when'. The theorems show
--- that `front` and `verdict` go such a way exactly when it applies.
+-- THE WAYS OF LOADING, one constructor each, with what the bytes have to be for it: so each refusal reads as 01's 'given exactly when'. The
+-- theorems show that `front` and `verdict` go such a way exactly when it applies.
 --
 --   Reads s i v j           the number v is read at place i of the file s, and j is the place behind it
---   Unread s i r p          none is read there: 5 where the file ends before or inside it, 6 where a byte is refused, and the place p where that shows
+--   Unread s i r p          none is read there: 5 where the file ends before or inside it, 6 where a byte is refused, and the place p where
+--                           that shows
 --   BadLength m             no word may have m letters
 --   FrontCase s f           what s shows up to its letters
 --   ArrowsCase s i n l v    what n declared arrows from place i on show, where l are the word's own that are left

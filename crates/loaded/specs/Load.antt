@@ -1,5 +1,6 @@
--- LOADING, field by field as 01 orders it: within any number 5 or 6, whichever its bytes show first; then that field's own check (7, 8, 9); after m the letters (5); each arrow
--- is compared once both its numbers are read (10); after the last, missing arrows (10), then leftovers (11). Every refusal keeps the place where it shows.
+-- LOADING, field by field as 01 orders it: within any number 5 or 6, whichever its bytes show first; then that field's own check (7, 8, 9);
+-- after m the letters (5); each arrow is compared once both its numbers are read (10); after the last, missing arrows (10), then leftovers
+-- (11). Every refusal keeps the place where it shows.
 --
 --   field s i off on     the number at place i of the file s: `on` its value and the next place, or `off` a refusal
 --   Front                the number of letters and where they stand, or a refusal
@@ -40,7 +41,8 @@ pub data Front : Type 0 where
   stop : ℕ → ℕ → Front
 
 abbrev pub lettersAt : List ℕ → ℕ → Front
-lettersAt s i = field s i stop (λ m j. cond (leb 1 m && leb m longestWord) (cond (leb (j + m) (length s)) (letters m j) (stop 5 (length s))) (stop 8 i))
+lettersAt s i =
+    field s i stop (λ m j. cond (leb 1 m && leb m longestWord) (cond (leb (j + m) (length s)) (letters m j) (stop 5 (length s))) (stop 8 i))
 
 unfoldable pub front : List ℕ → Front
 front s = field s 0 stop (λ e i. cond (eqb e edition) (lettersAt s i) (stop 7 0))

@@ -1,4 +1,5 @@
--- THE THEOREMS on `buildSays`: each refusal exactly where it is tabled, what a refusal and a success leave, and that the promise allows one outcome.
+-- THE THEOREMS on `buildSays`: each refusal exactly where it is tabled, what a refusal and a success leave, and that the promise allows one
+-- outcome.
 use mathlib.Core.Path.{_≡_, refl, sym, ap, _∙_}
 use mathlib.Core.Logic.{_↔_}
 use mathlib.Core.List.{List, _++_}

@@ -1,4 +1,5 @@
--- THE LAWS of `loadSays`: its cases in the order of the tests, what stands in the rooms after a success, and that the promise allows one outcome.
+-- THE LAWS of `loadSays`: its cases in the order of the tests, what stands in the rooms after a success, and that the promise allows one
+-- outcome.
 use mathlib.Core.Path.{_≡_, refl, sym, ap, _∙_}
 use mathlib.Core.Bool.{false}
 use mathlib.Core.Logic.{inl, inr, _↔_}

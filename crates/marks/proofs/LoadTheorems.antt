@@ -1,5 +1,5 @@
--- THE THEOREMS on `loadSays`: with room enough, exactly the words' files are accepted, and the word and its table are handed over; a file that is
--- cut, or goes on, is refused; and what 8 and 9 leave is the same whichever bad number was declared.
+-- THE THEOREMS on `loadSays`: with room enough, exactly the words' files are accepted, and the word and its table are handed over; a file
+-- that is cut, or goes on, is refused; and what 8 and 9 leave is the same whichever bad number was declared.
 use mathlib.Core.Path.{_≡_, refl, sym, ap, _∙_, fun-ext}
 use mathlib.Core.Logic.{_⊎_, inl, inr, _↔_}
 use mathlib.Core.List.{List, _∷_, _++_}

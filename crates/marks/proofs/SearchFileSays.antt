@@ -1,4 +1,5 @@
--- THE THEOREMS on `searchFileSays`: 4 comes first, then loading decides, then the mirror of the file's word is searched for; and the promise allows one outcome.
+-- THE THEOREMS on `searchFileSays`: 4 comes first, then loading decides, then the mirror of the file's word is searched for; and the
+-- promise allows one outcome.
 use mathlib.Core.Path.{_≡_, refl, sym, ap, _∙_}
 use mathlib.Core.Logic.{_↔_}
 use mathlib.Core.List.{List, _++_, reverse-reverse}

@@ -1,5 +1,5 @@
--- THE THEOREMS on `searchSays`: each refusal exactly where it is tabled, what is listed and counted, what a refusal and a success leave, and that the promise allows one
--- outcome.
+-- THE THEOREMS on `searchSays`: each refusal exactly where it is tabled, what is listed and counted, what a refusal and a success leave,
+-- and that the promise allows one outcome.
 use mathlib.Core.Path.{_≡_, refl, sym, ap, _∙_}
 use mathlib.Core.Bool.{true}
 use mathlib.Core.Logic.{_↔_}

@@ -1,6 +1,6 @@
--- THE CASES OF EVERY ENTRY: 01's table in its order, one constructor for each line, with what the word, the bytes and the rooms have to be for it
--- and the whole outcome that it has: the answer and every lent buffer. The theorems show that an entry's outcome is o exactly when a case with the
--- outcome o applies.
+-- THE CASES OF EVERY ENTRY: 01's table in its order, one constructor for each line, with what the word, the bytes and the rooms have to be
+-- for it and the whole outcome that it has: the answer and every lent buffer. The theorems show that an entry's outcome is o exactly when a
+-- case with the outcome o applies.
 --
 --   BuildCase word T o                 build of a word into the tables T: 1, 2, 3
 --   SaveCase word T O o                save with the output O: 1, 2, 3, 12

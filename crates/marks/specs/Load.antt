@@ -2,8 +2,9 @@
 --
 --   Outcome            the answer, and the word room and the tables as they are left
 --   loadedAs r R T     the outcome of code that answers r and leaves R and T
---   loadSays file R T  what it must be: the first refusal that the file shows up to its letters; then 3; then the first refusal that it shows behind them; else m, the file's word
---                      and its table. A refusal before 3 is passed changes nothing, one after it leaves zeros in the word's part of both rooms
+--   loadSays file R T  what it must be: the first refusal that the file shows up to its letters; then 3; then the first refusal that it
+--                      shows behind them; else m, the file's word and its table. A refusal before 3 is passed changes nothing, one after it
+--                      leaves zeros in the word's part of both rooms
 --
 -- 01, 'The file on disk' and 'When the library says no'; demands 1 and 3.
 use mathlib.Core.Bool.{_||_, cond}

@@ -2,8 +2,8 @@
 --
 --   Outcome              the answer, and the room and the output as they are left
 --   savedAs r T O        the outcome of code that answers r and leaves T and O
---   saveSays word T O    what it must be: 1, 2, 3, 12 in that order, else the file at the start of the output and its length, and the word's table in the room. 12 leaves zeros in
---                        the word's part of the room; the output is not touched by a refusal
+--   saveSays word T O    what it must be: 1, 2, 3, 12 in that order, else the file at the start of the output and its length, and the
+--                        word's table in the room. 12 leaves zeros in the word's part of the room; the output is not touched by a refusal
 --
 -- 01, 'The file on disk' and 'When the library says no'; demands 1 and 3.
 use mathlib.Core.Bool.{cond}

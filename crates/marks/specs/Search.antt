@@ -4,8 +4,9 @@
 --   found word text            every occurrence, and the letters of the published steps
 --   Outcome                    the answer, and the room and the list as they are left
 --   searched r T F             the outcome of code that answers r and leaves T and F
---   searchSays word text T F   what it must be: 1, 2, 4, 3 in that order; else every occurrence is counted and the first of them are listed, as many as fit, the letters are
---                              those of the published steps, the mirrored word's table stands in the room, and the rest of the room and of the list is as it was
+--   searchSays word text T F   what it must be: 1, 2, 4, 3 in that order; else every occurrence is counted and the first of them are
+--                              listed, as many as fit, the letters are those of the published steps, the mirrored word's table stands in
+--                              the room, and the rest of the room and of the list is as it was
 --
 -- 01, 'The backward search' and 'When the library says no'; demands 1 and 2.
 use mathlib.Core.Bool.{cond}

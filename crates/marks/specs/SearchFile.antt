@@ -2,8 +2,8 @@
 --
 --   Outcome                          the answer, and the word room, the tables and the list as they are left
 --   fileSearched r R T F             the outcome of code that answers r and leaves R, T and F
---   searchFileSays file text R T F   what it must be: 4, then as loading; then every occurrence of the mirror of the file's word is counted and the first of them are listed, as
---                                    many as fit, and the letters are those of the published steps
+--   searchFileSays file text R T F   what it must be: 4, then as loading; then every occurrence of the mirror of the file's word is counted
+--                                    and the first of them are listed, as many as fit, and the letters are those of the published steps
 --
 -- 01, 'The file on disk' and 'When the library says no'; demands 1 to 3.
 use mathlib.Core.Bool.{cond}

@@ -1,4 +1,5 @@
--- WHAT A CALL FROM C SAYS: the number that it returns, and every lent buffer and answer as it is left, from the outcome of the entry behind it.
+-- WHAT A CALL FROM C SAYS: the number that it returns, and every lent buffer and answer as it is left, from the outcome of the entry behind
+-- it.
 --
 --   resultOf a          0 for an answer, the number of 01's table for a refusal
 --   answered v a f      an answer that C is given: f of it, or v as it was where the call was refused
@@ -103,4 +104,5 @@ searchFileCall r R T F c l = record { result = r; word = R; tables = T; finds = 
 unfoldable pub searchFileCallSays : List ℕ → Word → List ℕ → List ℕ → List Place → ℕ → ℕ → SearchFileCall
 searchFileCallSays file text R T F c l =
     let o = searchFileSays file text R T F in
-    searchFileCall (resultOf (o .answer)) (o .word) (o .tables) (o .finds) (answered c (o .answer) (λ f. f .count)) (answered l (o .answer) (λ f. f .letters))
+    searchFileCall (resultOf (o .answer)) (o .word) (o .tables) (o .finds) (answered c (o .answer) (λ f. f .count))
+    (answered l (o .answer) (λ f. f .letters))

@@ -1,5 +1,5 @@
--- READING GROUP BY GROUP: what holds before each byte that code reads. What the file shows is what the bytes ahead show behind those read so far, whose
--- groups make `value`; the next group counts `unit`.
+-- READING GROUP BY GROUP: what holds before each byte that code reads. What the file shows is what the bytes ahead show behind those read
+-- so far, whose groups make `value`; the next group counts `unit`.
 use mathlib.Core.Path.{_≡_, refl, sym, ap, _∙_}
 use mathlib.Core.Bool.{true, false}
 use mathlib.Core.List.{List, _∷_}

@@ -1,5 +1,5 @@
--- WHAT BYTES SHOW AND WHAT SPELLS A NUMBER: a number is seen exactly where a spelling of it stands, and a beginning of a spelling ends too soon. The bytes
--- stand behind n others of their number, and k more may follow the first of them, n + k being 4.
+-- WHAT BYTES SHOW AND WHAT SPELLS A NUMBER: a number is seen exactly where a spelling of it stands, and a beginning of a spelling ends too
+-- soon. The bytes stand behind n others of their number, and k more may follow the first of them, n + k being 4.
 use mathlib.Core.Path.{_≡_, refl, sym, ap, _∙_}
 use mathlib.Core.Logic.{_⊎_, inl, inr}
 use mathlib.Core.Bool.{Bool, true, false, _&&_, _||_, or-true, true≢false}

@@ -1,5 +1,5 @@
--- THE SPELLING of a number, as a relation with a case for a last group and one for a group that another follows. The spelling has it and nothing else does,
--- so that a proof about spellings goes group by group and meets no test.
+-- THE SPELLING of a number, as a relation with a case for a last group and one for a group that another follows. The spelling has it and
+-- nothing else does, so that a proof about spellings goes group by group and meets no test.
 use mathlib.Core.Path.{_≡_, refl}
 use mathlib.Core.List.{List, [], _∷_}
 use Prim.Native.Nat.{ℕ, zero, suc, _+_, _*_, _/_, _%_, _≤_, _<_}

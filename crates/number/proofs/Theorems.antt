@@ -1,5 +1,6 @@
--- THE THEOREMS on numbers of the file, each a sentence about the definitions alone: what was spelled is read whatever follows, what is read stood there in
--- its one spelling, and bytes end too soon exactly where they are a proper beginning of a spelling. Then the same at a place of a file.
+-- THE THEOREMS on numbers of the file, each a sentence about the definitions alone: what was spelled is read whatever follows, what is read
+-- stood there in its one spelling, and bytes end too soon exactly where they are a proper beginning of a spelling. Then the same at a place
+-- of a file.
 use mathlib.Core.Path.{_≡_, sym, ap, _∙_}
 use mathlib.Core.Logic.{_⊎_, inl, inr}
 use mathlib.Core.List.{List, [], _∷_, _++_, append-assoc}

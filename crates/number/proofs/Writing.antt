@@ -1,5 +1,5 @@
--- SPELLING INTO BYTES: what holds before each group that code counts or writes. The bytes still to come spell what is left of the number, so that nothing
--- has to be said of those that stand already.
+-- SPELLING INTO BYTES: what holds before each group that code counts or writes. The bytes still to come spell what is left of the number,
+-- so that nothing has to be said of those that stand already.
 use mathlib.Core.Path.{_≡_, refl, _∙_}
 use mathlib.Core.List.{List}
 use Prim.Native.Nat.{ℕ, suc, _+_, _/_, _%_, _≤_, _<_}

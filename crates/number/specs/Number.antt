@@ -1,5 +1,5 @@
--- A NUMBER OF THE FILE: groups of seven bits, low group first; a byte of 128 or more says that another group follows. At most five groups, the fifth
--- at most 15, and the last group of several is not zero: so each number up to 4,294,967,295 has one spelling.
+-- A NUMBER OF THE FILE: groups of seven bits, low group first; a byte of 128 or more says that another group follows. At most five groups,
+-- the fifth at most 15, and the last group of several is not zero: so each number up to 4,294,967,295 has one spelling.
 --
 --   Bytes l           the numbers of l are bytes
 --   greatest          the greatest number
@@ -7,11 +7,13 @@
 --   spellNumber v     the one spelling of v
 --   written s at v    s with the spelling of v from place `at` on
 --   refuses n b       whether the byte b is refused behind n others of its number
---   Seen              what bytes show: a number and how many bytes it takes; or that they end too soon; or a refused byte and how many stand before it
+--   Seen              what bytes show: a number and how many bytes it takes; or that they end too soon; or a refused byte and how many
+--                     stand before it
 --   behind x seen     the same where a group x stands before
 --   see n l           what the bytes l show, behind n others of their number
 --   seeNumber l       what the bytes l show at their front
---   placed s at seen  the answer at place `at` of the file s: the value and the next place; or 5 and the file's length; or 6 and the refused byte's place
+--   placed s at seen  the answer at place `at` of the file s: the value and the next place; or 5 and the file's length; or 6 and the
+--                     refused byte's place
 --   numberAt s at     what the file s shows at place `at`
 --
 -- 01, 'The file on disk' and 'When the library says no' (5 and 6).

@@ -1,6 +1,6 @@
--- WHAT HOLDS OF AN ORACLE, as one record over its arrows δ and its supplies S, and the chain of supplies that everything else runs along. The record
--- says nothing of how arrows are stored or added: the letter-by-letter rule has it, and whatever has it has the suffix rule's arrows.
--- Here S is a function with S 0 = 0; that state 0 has no supply is said where supplies are answers.
+-- WHAT HOLDS OF AN ORACLE, as one record over its arrows δ and its supplies S, and the chain of supplies that everything else runs along.
+-- The record says nothing of how arrows are stored or added: the letter-by-letter rule has it, and whatever has it has the suffix rule's
+-- arrows. Here S is a function with S 0 = 0; that state 0 has no supply is said where supplies are answers.
 use mathlib.Core.Path.{_≡_, refl, sym, ap, _∙_}
 use mathlib.Core.Logic.{_⊎_, inl, inr, _≢_}
 use mathlib.Core.Option.{Option, none, some}

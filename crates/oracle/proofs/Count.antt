@@ -1,5 +1,6 @@
--- HOW MANY ARROWS. The suffix rule adds one at most for each suffix. The letter-by-letter rule keeps, at every moment, its arrows and the length of its last state's
--- suffix path within twice its letters: a step along the path pays for the arrow that it adds. This is what leaves a slot free while a table is built.
+-- HOW MANY ARROWS. The suffix rule adds one at most for each suffix. The letter-by-letter rule keeps, at every moment, its arrows and the
+-- length of its last state's suffix path within twice its letters: a step along the path pays for the arrow that it adds. This is what
+-- leaves a slot free while a table is built.
 use mathlib.Core.Path.{_≡_, refl, sym, ap, _∙_}
 use mathlib.Core.Bool.{Bool, true, false, cond}
 use mathlib.Core.Logic.{_⊎_, inl, inr}

@@ -1,4 +1,5 @@
--- The extra arrows of a word, as its file has them: each leaves a state below the last, climbs by at least 2, and ends within the word's states.
+-- The extra arrows of a word, as its file has them: each leaves a state below the last, climbs by at least 2, and ends within the word's
+-- states.
 use mathlib.Core.List.{List·Memᴰ}
 use Prim.Native.Nat.{_+_, _≤_, _<_}
 use lib.ListN.{length}

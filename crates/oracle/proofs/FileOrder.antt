@@ -1,5 +1,5 @@
--- Laws of the file's order: what is among a state's extra targets, where they stand in the list of all, and that the list is no longer than any list that
--- has every extra arrow. The last is what lets the targets of a word's oracle fit into a row of its table.
+-- Laws of the file's order: what is among a state's extra targets, where they stand in the list of all, and that the list is no longer than
+-- any list that has every extra arrow. The last is what lets the targets of a word's oracle fit into a row of its table.
 use mathlib.Core.Path.{_≡_, refl, sym, ap, _∙_}
 use mathlib.Core.Bool.{true}
 use mathlib.Core.Logic.{_⊎_, inl, inr, _≢_}

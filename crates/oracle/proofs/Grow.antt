@@ -1,5 +1,5 @@
--- ONE LETTER MORE. What 001's figure 4 does along the suffix path, as a relation, and that arrows and supplies changed so have the record again.
--- Nothing is said here of how arrows are stored, so that the rule's lists and a table's entries are both served.
+-- ONE LETTER MORE. What 001's figure 4 does along the suffix path, as a relation, and that arrows and supplies changed so have the record
+-- again. Nothing is said here of how arrows are stored, so that the rule's lists and a table's entries are both served.
 use mathlib.Core.Path.{_≡_, refl, sym, ap, _∙_}
 use mathlib.Core.Logic.{_⊎_, inl, inr, ⊎-elim}
 use mathlib.Core.Option.{Option, none, some}

@@ -1,5 +1,5 @@
--- THE LETTER-BY-LETTER RULE, as defined, has the record after every letter; one arrow at most leaves a state on a letter; and what it made of the
--- first t letters stays as it is while more are added.
+-- THE LETTER-BY-LETTER RULE, as defined, has the record after every letter; one arrow at most leaves a state on a letter; and what it made
+-- of the first t letters stays as it is while more are added.
 use mathlib.Core.Path.{_≡_, refl, sym, ap, _∙_}
 use mathlib.Core.Logic.{_⊎_, inl, inr, _↔_}
 use mathlib.Core.Option.{Option, none, some, Option·getD}

@@ -1,5 +1,5 @@
--- WHERE FACTORS LEAD. `reach i n` is the state that the n letters behind the first i are walked to. Every factor is walked, to a state on the chain
--- of its last letter's state; and those states, over all factors that end there, are that chain, none left out.
+-- WHERE FACTORS LEAD. `reach i n` is the state that the n letters behind the first i are walked to. Every factor is walked, to a state on
+-- the chain of its last letter's state; and those states, over all factors that end there, are that chain, none left out.
 use mathlib.Core.Path.{_≡_, refl, sym, ap, _∙_}
 use mathlib.Core.Logic.{inl, inr}
 use mathlib.Core.Option.{Option, none, some, Option·getD}

@@ -1,5 +1,5 @@
--- THE SHORTEST WORD OF A STATE. For each state there is one factor that is walked to it and that every word walked to it ends in; it ends, in the word, at that
--- state's place for the first time. The meaning of supplies rests on it.
+-- THE SHORTEST WORD OF A STATE. For each state there is one factor that is walked to it and that every word walked to it ends in; it ends,
+-- in the word, at that state's place for the first time. The meaning of supplies rests on it.
 use mathlib.Core.Path.{_≡_, refl, sym, ap, _∙_}
 use mathlib.Core.Option.{Option, some}
 use mathlib.Core.List.{[], _∷_, _++_, append-nil, append-assoc}

@@ -1,5 +1,5 @@
--- THE SUPPLY IS WHERE THE LONGEST REPEATED END LEADS, for every state of any automaton that has the record: first as numbers, then for the definition
--- that looks for that end.
+-- THE SUPPLY IS WHERE THE LONGEST REPEATED END LEADS, for every state of any automaton that has the record: first as numbers, then for the
+-- definition that looks for that end.
 use mathlib.Core.Path.{_≡_, refl, sym, ap, _∙_, fun-ext}
 use mathlib.Core.Bool.{Bool, true, false}
 use mathlib.Core.Logic.{inl, inr}

@@ -1,5 +1,5 @@
--- THE THEOREMS on oracles, for every word of whatever length, each a sentence about the definitions alone. The proofs are in the other files; what
--- ties them together is that both rules' arrows, with the rule's supplies, have the record of `Chain`.
+-- THE THEOREMS on oracles, for every word of whatever length, each a sentence about the definitions alone. The proofs are in the other
+-- files; what ties them together is that both rules' arrows, with the rule's supplies, have the record of `Chain`.
 use mathlib.Core.Path.{_≡_, refl, sym, _∙_, fun-ext}
 use mathlib.Core.Logic.{_↔_}
 use mathlib.Core.Option.{none, some}

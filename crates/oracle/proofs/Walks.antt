@@ -1,5 +1,5 @@
--- WALKS OF WORDS, as lists: every factor is walked, each letter climbs, and a walk as long as the word is the word's own. All that the search needs of an oracle
--- is here.
+-- WALKS OF WORDS, as lists: every factor is walked, each letter climbs, and a walk as long as the word is the word's own. All that the
+-- search needs of an oracle is here.
 use mathlib.Core.Path.{_≡_, refl, sym, ap, _∙_}
 use mathlib.Core.Option.{Option, none, some}
 use mathlib.Core.List.{[], _∷_, _++_}

@@ -1,5 +1,5 @@
--- THE FILE'S ORDER of extra arrows: by rising source, then rising target. An arrow into a state carries that state's letter, so source and target
--- say all of it.
+-- THE FILE'S ORDER of extra arrows: by rising source, then rising target. An arrow into a state carries that state's letter, so source and
+-- target say all of it.
 --
 --   leadsTo o y           whether o is the state y
 --   extraTargets δ p x    the targets of the extra arrows that leave x, rising

@@ -1,4 +1,5 @@
--- THE SUFFIX PATH of a state: its supply, that one's supply, and so on, down to state 0, which has none. Every step falls to a smaller state.
+-- THE SUFFIX PATH of a state: its supply, that one's supply, and so on, down to state 0, which has none. Every step falls to a smaller
+-- state.
 --
 --   SuffixPath S x l    l is the suffix path of x, S giving the supply of each state above 0
 --

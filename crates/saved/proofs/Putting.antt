@@ -1,5 +1,5 @@
--- WRITING A FILE, piece by piece: the output became t, and what is still ahead, put from place `at` on, makes of t what is to be left in the end. So
--- nothing has to be said of the bytes that stand already. First for any pieces, then step by step, then for a whole file.
+-- WRITING A FILE, piece by piece: the output became t, and what is still ahead, put from place `at` on, makes of t what is to be left in
+-- the end. So nothing has to be said of the bytes that stand already. First for any pieces, then step by step, then for a whole file.
 use mathlib.Core.Path.{_≡_, refl, sym, ap, _∙_}
 use mathlib.Core.List.{List, [], _∷_, _++_, append-assoc}
 use Prim.Native.Nat.{ℕ, suc, _+_, _-_, _≤_}

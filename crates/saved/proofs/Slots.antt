@@ -1,5 +1,5 @@
--- THE STEPS OF A WORD AND ITS TABLE, slot by slot: how many steps there are, where the table has the source and the target of each, and the step that these
--- make. A slot belongs to the last state whose arrows start at or before it.
+-- THE STEPS OF A WORD AND ITS TABLE, slot by slot: how many steps there are, where the table has the source and the target of each, and the
+-- step that these make. A slot belongs to the last state whose arrows start at or before it.
 use mathlib.Core.Path.{_≡_, refl, sym, ap, _∙_}
 use mathlib.Core.List.{List, [], _∷_}
 use Prim.Native.Nat.{ℕ, suc, _+_, _*_, _-_, _≤_, _<_}

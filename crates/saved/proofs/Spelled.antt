@@ -1,5 +1,5 @@
--- THE FILE AND ITS STEPS, spelled: what is still ahead at a slot and behind the last one, and how many bytes a file has at most where the spelling of a
--- number up to m has at most w.
+-- THE FILE AND ITS STEPS, spelled: what is still ahead at a slot and behind the last one, and how many bytes a file has at most where the
+-- spelling of a number up to m has at most w.
 use mathlib.Core.Path.{_≡_, refl, ap}
 use mathlib.Core.List.{List, [], _∷_, _++_, List·Memᴰ, List·Memᴰ·head, List·Memᴰ·tail}
 use Prim.Native.Nat.{ℕ, _+_, _*_, _-_, _≤_, _<_}

@@ -1,4 +1,5 @@
--- GOING THROUGH A WORD'S ARROWS in the file's order, slot by slot, in the word's table: what holds before each slot, and what one step of the way answers.
+-- GOING THROUGH A WORD'S ARROWS in the file's order, slot by slot, in the word's table: what holds before each slot, and what one step of
+-- the way answers.
 --
 --   Tabled p L          L is the table of p, which has letters, and few enough for entries of 16 bits
 --   stepsAhead p x s    the steps from slot s on, x being the source before

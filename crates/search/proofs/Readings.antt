@@ -1,5 +1,5 @@
--- READING A WINDOW as code does it, letter by letter from the window's end: what is still to be read fails where the whole window does, so the loop breaks
--- with the window's answer. Before that, what such an answer says of the window.
+-- READING A WINDOW as code does it, letter by letter from the window's end: what is still to be read fails where the whole window does, so
+-- the loop breaks with the window's answer. Before that, what such an answer says of the window.
 use mathlib.Core.Path.{_≡_, refl}
 use mathlib.Core.Logic.{_≢_}
 use mathlib.Core.Option.{Option, none, some}

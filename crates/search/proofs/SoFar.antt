@@ -1,5 +1,5 @@
--- SO FAR, AND STILL AHEAD: before each window, the finds so far and the starts of the windows still ahead are all starts, and so with the letters read. This
--- says what the search's loop ends with, and that no sum in it is too large: all letters are at most m (n + 1).
+-- SO FAR, AND STILL AHEAD: before each window, the finds so far and the starts of the windows still ahead are all starts, and so with the
+-- letters read. This says what the search's loop ends with, and that no sum in it is too large: all letters are at most m (n + 1).
 use mathlib.Core.Path.{_≡_, refl, sym, ap, _∙_}
 use mathlib.Core.Option.{none, some}
 use mathlib.Core.List.{List, [], _∷_, _++_, append-assoc, append-nil}

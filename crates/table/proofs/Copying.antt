@@ -1,5 +1,5 @@
--- COPYING, entry by entry, from a list s over the entries of D: clearing copies zeros, writing a word copies the word, and writing its mirror copies the
--- mirror, whose letters are the word's counted from its end. `Copied` is what holds before entry i is written.
+-- COPYING, entry by entry, from a list s over the entries of D: clearing copies zeros, writing a word copies the word, and writing its
+-- mirror copies the mirror, whose letters are the word's counted from its end. `Copied` is what holds before entry i is written.
 use mathlib.Core.Path.{_≡_, refl, sym, ap, _∙_}
 use mathlib.Core.List.{List}
 use Prim.Native.Nat.{ℕ, _+_, _-_, _≤_, _<_}

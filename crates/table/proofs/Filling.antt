@@ -1,5 +1,5 @@
--- A WORD WRITTEN INTO A CLEARED TABLE, behind its first entry: the letters can be added, and the word is the one that stands there. The laws are said of
--- what comes back from a call that was lent that part.
+-- A WORD WRITTEN INTO A CLEARED TABLE, behind its first entry: the letters can be added, and the word is the one that stands there. The
+-- laws are said of what comes back from a call that was lent that part.
 use mathlib.Core.Path.{_≡_, refl, _∙_}
 use mathlib.Core.List.{List, _∷_, _++_}
 use Prim.Native.Nat.{ℕ, zero, suc, _+_, _*_, _-_, _≤_, _<_}

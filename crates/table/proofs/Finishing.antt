@@ -1,5 +1,5 @@
--- FINISHING: the letters are added, the chains laid out, and the two rows that served are cleared. What stands then is the table of the word that stood in
--- row 0 at the start, row by row.
+-- FINISHING: the letters are added, the chains laid out, and the two rows that served are cleared. What stands then is the table of the
+-- word that stood in row 0 at the start, row by row.
 use mathlib.Core.Path.{_≡_, refl, sym, _∙_}
 use mathlib.Core.Option.{Option·getD}
 use mathlib.Core.List.{List, _∷_, _++_, append-nil}

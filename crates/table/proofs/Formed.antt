@@ -1,5 +1,5 @@
--- A LOOKUP STAYS INSIDE a formed table, and the table of a word is formed. The lookup's cases are said here in the terms that code has, `x + 1` and slot
--- numbers, and what stands behind the table is not read.
+-- A LOOKUP STAYS INSIDE a formed table, and the table of a word is formed. The lookup's cases are said here in the terms that code has, `x
+-- + 1` and slot numbers, and what stands behind the table is not read.
 use mathlib.Core.Path.{_≡_, refl, sym, _∙_}
 use mathlib.Core.Logic.{_≢_}
 use mathlib.Core.Option.{Option, none, some}

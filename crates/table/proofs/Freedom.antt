@@ -1,5 +1,5 @@
--- THE RULE'S FREEDOM: a table is read as any set of extra arrows over the word that 01 asks for, with any supplies that fall. It is the one that `tableFrom`
--- lays out; what has to be shown is that the spine with such a set is an automaton over the word.
+-- THE RULE'S FREEDOM: a table is read as any set of extra arrows over the word that 01 asks for, with any supplies that fall. It is the one
+-- that `tableFrom` lays out; what has to be shown is that the spine with such a set is an automaton over the word.
 use mathlib.Core.Path.{_≡_}
 use mathlib.Core.Logic.{_⊎_, inl, inr}
 use mathlib.Core.Option.{some}

@@ -1,5 +1,5 @@
--- LAYING ALL CHAINS OUT, from the last state to the first: `Laying` is what holds before each state. The chains of the states still to come are as they were
--- at entry, and their heads too, since what is written lies in row 3 and in row 2 behind them.
+-- LAYING ALL CHAINS OUT, from the last state to the first: `Laying` is what holds before each state. The chains of the states still to come
+-- are as they were at entry, and their heads too, since what is written lies in row 3 and in row 2 behind them.
 use mathlib.Core.Path.{_≡_, refl, sym, _∙_}
 use mathlib.Core.Logic.{inl, inr}
 use mathlib.Core.List.{List, reverse, reverse-reverse}

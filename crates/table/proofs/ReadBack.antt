@@ -1,5 +1,5 @@
--- READING A TABLE BACK: the rule reads from `tableFrom p δ S` the word, the arrows and the supplies that the table was made of, for every automaton over the
--- word whose extra targets fit into their row.
+-- READING A TABLE BACK: the rule reads from `tableFrom p δ S` the word, the arrows and the supplies that the table was made of, for every
+-- automaton over the word whose extra targets fit into their row.
 use mathlib.Core.Path.{_≡_, refl, sym, ap, _∙_}
 use mathlib.Core.Logic.{_≢_}
 use mathlib.Core.Option.{Option, none, some}

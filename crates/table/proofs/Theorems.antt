@@ -1,5 +1,5 @@
--- THE THEOREMS on the table of a word, for every word of whatever length, each a sentence about the definitions alone: the table has 6(m+1) entries, and the
--- rule reads from it the word, the suffix rule's arrows and 001's supplies.
+-- THE THEOREMS on the table of a word, for every word of whatever length, each a sentence about the definitions alone: the table has 6(m+1)
+-- entries, and the rule reads from it the word, the suffix rule's arrows and 001's supplies.
 use mathlib.Core.Path.{_≡_, sym, _∙_}
 use mathlib.Core.Option.{some, Option·getD}
 use Prim.Native.Nat.{ℕ, zero, suc, _≤_, _<_}

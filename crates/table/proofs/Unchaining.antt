@@ -1,5 +1,6 @@
--- UNCHAINING the targets of one state: slot by slot they go from rows 4 and 5 into row 3, each before those that went already, so that the newest stands
--- last. `Unchaining` is what holds before each slot: the table's slots are as they were, and so is all that lies outside the targets moved.
+-- UNCHAINING the targets of one state: slot by slot they go from rows 4 and 5 into row 3, each before those that went already, so that the
+-- newest stands last. `Unchaining` is what holds before each slot: the table's slots are as they were, and so is all that lies outside the
+-- targets moved.
 use mathlib.Core.Path.{_≡_, refl, sym, ap, _∙_}
 use mathlib.Core.Logic.{_⊎_, inl, inr, _≢_}
 use mathlib.Core.List.{List, [], _∷_, reverse, reverseAux}

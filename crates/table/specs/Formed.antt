@@ -1,5 +1,5 @@
--- What a lookup asks of a table so that it needs no test of its own: m is small, the entries are enough, the starts of row 2 stay within row 3, and the
--- targets of row 3 are states.
+-- What a lookup asks of a table so that it needs no test of its own: m is small, the entries are enough, the starts of row 2 stay within
+-- row 3, and the targets of row 3 are states.
 --
 --   Formed L m    L has room for the table of m letters, and the numbers that a lookup follows stay inside
 use mathlib.Core.List.{List}

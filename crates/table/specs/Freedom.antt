@@ -1,8 +1,10 @@
 -- What 01 asks of the reading rule's freedom: which sets of extra arrows, with which supplies, some table must be read as.
 --
---   ExtraSet p E    E is a set of at most m - 1 extra arrows over p that climb by at least 2 and give no state two arrows on a letter, the spine counted
+--   ExtraSet p E    E is a set of at most m - 1 extra arrows over p that climb by at least 2 and give no state two arrows on a letter, the
+--                   spine counted
 --   Lower p S       S gives each state above 0 a smaller state
---   ReadAs p E S L  the table L has 6(m+1) entries of 16 bits, and by the rule the word p, the spine with E and nothing else, and the supplies S are read from it
+--   ReadAs p E S L  the table L has 6(m+1) entries of 16 bits, and by the rule the word p, the spine with E and nothing else, and the
+--                   supplies S are read from it
 --
 -- 01, 'When the library says no', its last sentence.
 use mathlib.Core.Path.{_≡_}

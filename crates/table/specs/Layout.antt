@@ -1,4 +1,5 @@
--- LAYING CHAINS OUT: what becomes of the chains that the letters left, one state at a time and all together. Nothing here is of interest once the table is filled.
+-- LAYING CHAINS OUT: what becomes of the chains that the letters left, one state at a time and all together. Nothing here is of interest
+-- once the table is filled.
 --
 --   Fits L n x e            the slots of x hold targets, and these fit before slot e of row 3
 --   Moved L L′ n x e r l    the targets l of x, newest first, stand in row 3 from r to e, oldest first, and r is where x's start

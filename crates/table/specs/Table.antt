@@ -1,5 +1,5 @@
--- THE TABLE of an oracle over a word of m letters: six rows of n = m + 1 entries, and the rule by which it is read. The rule looks entries up and runs neither
--- construction.
+-- THE TABLE of an oracle over a word of m letters: six rows of n = m + 1 entries, and the rule by which it is read. The rule looks entries
+-- up and runs neither construction.
 --
 --   row 0, entry i    the letter of state i, for i from 1 to m
 --   row 1, entry i    the supply of state i, for i from 1 to m

@@ -1,4 +1,5 @@
--- Laws of `stands`, `occurrences` and `Factor`: the list of occurrences rises, and holds a place exactly where the word stands within the text.
+-- Laws of `stands`, `occurrences` and `Factor`: the list of occurrences rises, and holds a place exactly where the word stands within the
+-- text.
 use mathlib.Core.Path.{_≡_, ap}
 use mathlib.Core.Bool.{true}
 use mathlib.Core.List.{List·Memᴰ}
