@@ -41,3 +41,8 @@ pub const LONGEST_FILE: usize = 5_121;
 pub const fn table_room(m: usize) -> usize {
     6 * (m + 1)
 }
+
+/// The README's program in Rust, compiled and run with the examples here.
+#[cfg(doctest)]
+#[doc = include_str!("../../README.md")]
+struct Readme;
