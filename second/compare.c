@@ -1,0 +1,1036 @@
+/* Asks the proved library and the second implementation the same things and compares whole outcomes: the number, the answers, every
+   byte of every lent buffer, and the guard zones before and behind each. The first difference is printed with its input and ends the
+   run with status 1, and so does a refusal that an entry can give and that no case brought about.
+
+   compare [--seed N] [--seconds N] [--long]: the cases are the same for the same seed. --seconds goes on with mixed cases until so
+   many seconds have passed; --long adds the costly ones.
+
+   Mistakes on purpose that stand here (see second.c):
+     slip 31: only the worked examples are run
+     slip 32: a byte behind the library's tables is changed after the call */
+#define _DEFAULT_SOURCE
+#include "entries.h"
+
+#include <inttypes.h>
+#include <stdbool.h>
+#include <stdio.h>
+#include <stdlib.h>
+#include <string.h>
+#include <sys/mman.h>
+#include <time.h>
+
+#ifndef SLIP
+#define SLIP 0
+#endif
+
+enum { MOST_LETTERS = 1024, MOST_TEXT = 16777216, MOST_FILE = 8192, NUMBERS = 13, GUARD = 256, NOISE = 1 << 16 };
+
+/* ---- numbers by chance, the same for the same seed ---- */
+
+static uint64_t chance_state = 1;
+
+static uint64_t chance(void)
+{
+    uint64_t z = chance_state += UINT64_C(0x9E3779B97F4A7C15);
+    z = (z ^ (z >> 30)) * UINT64_C(0xBF58476D1CE4E5B9);
+    z = (z ^ (z >> 27)) * UINT64_C(0x94D049BB133111EB);
+    return z ^ (z >> 31);
+}
+
+static size_t below(size_t n)
+{
+    return n == 0 ? 0 : (size_t)(chance() % n);
+}
+
+/* short ones often, long ones sometimes: each number of binary digits is as likely as another */
+static size_t some_length(size_t most)
+{
+    size_t digits = 0;
+    while ((most >> digits) > 0)
+        digits++;
+    size_t l = below((size_t)1 << below(digits + 1));
+    return l > most ? most : l;
+}
+
+/* ---- one case ---- */
+
+enum fill { STRANGERS, ZEROS, ONES, FILLS }; /* what stands in a lent buffer before */
+
+struct asked {
+    enum entry entry;
+    const uint8_t *input, *text;
+    size_t len[SLICES];
+    enum fill fill;
+    bool nulls;  /* a slice of length 0 is handed over as a null pointer */
+    bool inside; /* the word is lent from the text's own bytes, at its start */
+};
+
+/* A lent slice three times, each between two guard zones: as it was, and what either side was lent. */
+struct zone {
+    uint8_t *was, *marks, *second;
+    size_t room;  /* bytes that each has */
+    size_t at;    /* where the lent part begins */
+    size_t bytes; /* of the lent part */
+};
+
+static struct zone zones[SLICES];
+static uint8_t noise[NOISE];
+static uint64_t seen[ENTRIES][NUMBERS];
+static uint64_t cases;
+
+static uint8_t *reserve(uint8_t *old, size_t bytes)
+{
+    free(old);
+    uint8_t *p = aligned_alloc(64, (bytes + 63) / 64 * 64);
+    if (p == NULL) {
+        fprintf(stderr, "compare: no memory for %zu bytes\n", bytes);
+        exit(2);
+    }
+    return p;
+}
+
+static void make_noise(uint8_t *to, size_t bytes)
+{
+    while (bytes > 0) {
+        size_t from = below(NOISE / 2), piece = bytes < NOISE / 2 ? bytes : NOISE / 2;
+        memcpy(to, noise + from, piece);
+        to += piece;
+        bytes -= piece;
+    }
+}
+
+static void lay(struct zone *z, size_t width, const uint8_t *content, size_t len, enum fill fill)
+{
+    z->at = GUARD + below(16) * width;
+    z->bytes = len * width;
+    size_t all = z->at + z->bytes + GUARD;
+    if (all > z->room) {
+        z->room = 2 * all;
+        z->was = reserve(z->was, z->room);
+        z->marks = reserve(z->marks, z->room);
+        z->second = reserve(z->second, z->room);
+    }
+    make_noise(z->was, content != NULL ? z->at : all);
+    if (content != NULL)
+        make_noise(z->was + z->at + z->bytes, GUARD);
+    if (content != NULL && len > 0)
+        memcpy(z->was + z->at, content, z->bytes);
+    else if (content == NULL && fill != STRANGERS)
+        memset(z->was + z->at, fill == ZEROS ? 0 : 0xFF, z->bytes);
+    memcpy(z->marks, z->was, all);
+    memcpy(z->second, z->was, all);
+}
+
+static void print_bytes(const char *name, const uint8_t *bytes, size_t len)
+{
+    size_t shown = len < 16384 ? len : 64;
+    printf("  %s, %zu bytes:", name, len);
+    for (size_t i = 0; i < shown; i++)
+        printf(" %02X", bytes[i]);
+    printf(shown < len ? " .. (cut)\n" : "\n");
+}
+
+static void print_asked(const struct asked *a)
+{
+    printf("  asked: %s, case %" PRIu64 "%s%s\n", entry_name[a->entry], cases, a->nulls ? ", null pointers for length 0" : "",
+           a->inside ? ", the word lent from the text" : "");
+    print_bytes(slice_name[INPUT], a->input, a->len[INPUT]);
+    if (lent_slices[a->entry] & 1 << TEXT)
+        print_bytes(slice_name[TEXT], a->text, a->len[TEXT]);
+    for (int s = ROOM; s < SLICES; s++)
+        if (lent_slices[a->entry] & 1u << s)
+            printf("  %s: %zu elements\n", slice_name[s], a->len[s]);
+}
+
+static void fail(const struct asked *a, const char *what, const struct outcome *m, const struct outcome *s)
+{
+    printf("DIFFERENT: %s\n", what);
+    printf("  library: %" PRIu32 ", answers %" PRIu64 " %" PRIu64 "; second opinion: %" PRIu32 ", answers %" PRIu64 " %" PRIu64 "\n",
+           m->number, m->answer[0], m->answer[1], s->number, s->answer[0], s->answer[1]);
+    print_asked(a);
+    exit(1);
+}
+
+/* the first place where two differ, or bytes where they do not */
+static size_t first_other(const uint8_t *a, const uint8_t *b, size_t bytes)
+{
+    if (memcmp(a, b, bytes) == 0)
+        return bytes;
+    size_t i = 0;
+    while (a[i] == b[i])
+        i++;
+    return i;
+}
+
+/* says what is wrong with a slice afterwards, or nothing */
+static bool slice_differs(int s, char *what, size_t room)
+{
+    const struct zone *z = &zones[s];
+    size_t all = z->at + z->bytes + GUARD, end = z->at + z->bytes;
+    size_t i = first_other(z->marks, z->second, all);
+    if (i < all) {
+        snprintf(what, room, "%s, byte %ld of %zu: library %02X, second opinion %02X, before %02X", slice_name[s], (long)i - (long)z->at,
+                 z->bytes, z->marks[i], z->second[i], z->was[i]);
+        return true;
+    }
+    bool input = read_slices & 1u << s;
+    size_t kept = input ? all : z->at;
+    i = first_other(z->marks, z->was, kept);
+    if (i == kept) {
+        i = end + first_other(z->marks + end, z->was + end, GUARD);
+        kept = all;
+    }
+    if (i < kept)
+        snprintf(what, room, "%s, byte %ld of %zu: both sides changed what they may not", slice_name[s], (long)i - (long)z->at, z->bytes);
+    return i < kept;
+}
+
+static void lend(const struct asked *a, struct lent *m, struct lent *s)
+{
+    static uint8_t nothing[1];
+    for (int i = 0; i < SLICES; i++) {
+        bool lent = lent_slices[a->entry] & 1u << i, null = a->nulls && a->len[i] == 0;
+        m->at[i] = s->at[i] = NULL;
+        m->len[i] = s->len[i] = lent ? a->len[i] : 0;
+        if (!lent || (a->inside && i == INPUT))
+            continue;
+        const uint8_t *content = i == INPUT ? a->input : i == TEXT ? a->text : NULL;
+        lay(&zones[i], slice_width[i], content == NULL && (read_slices & 1u << i) ? nothing : content, a->len[i], a->fill);
+        m->at[i] = null ? NULL : zones[i].marks + zones[i].at;
+        s->at[i] = null ? NULL : zones[i].second + zones[i].at;
+    }
+    if (a->inside) {
+        m->at[INPUT] = m->at[TEXT];
+        s->at[INPUT] = s->at[TEXT];
+    }
+}
+
+/* runs a case on both sides; ends the program at a difference. What the library left stays in zones[..].marks. */
+static struct outcome compare(const struct asked *a)
+{
+    struct lent for_marks, for_second;
+    char what[200];
+    cases++;
+    lend(a, &for_marks, &for_second);
+    struct outcome m = ask_marks(a->entry, &for_marks);
+    struct outcome s = ask_second(a->entry, &for_second);
+    if (SLIP == 32)
+        zones[TABLES].marks[zones[TABLES].at + zones[TABLES].bytes] ^= 1;
+    if (m.number != s.number || m.answer[0] != s.answer[0] || m.answer[1] != s.answer[1])
+        fail(a, "the number or the answers", &m, &s);
+    for (int i = 0; i < SLICES; i++)
+        if ((lent_slices[a->entry] & 1u << i) && !(a->inside && i == INPUT) && slice_differs(i, what, sizeof what))
+            fail(a, what, &m, &s);
+    if (m.number >= NUMBERS || !(can_give[a->entry] & 1u << m.number))
+        fail(a, "both sides give a number that the entry cannot give", &m, &s);
+    if (m.number != 0 && (m.answer[0] != UNTOUCHED || m.answer[1] != UNTOUCHED))
+        fail(a, "both sides answer beside a refusal", &m, &s);
+    seen[a->entry][m.number]++;
+    return m;
+}
+
+/* ---- words, texts, files ---- */
+
+static size_t entries(size_t m)
+{
+    return 6 * (m + 1);
+}
+
+/* the file of a word, by the second implementation; its length */
+static size_t file_of(const uint8_t *word, size_t m, uint8_t *file)
+{
+    static uint16_t tables[6 * (MOST_LETTERS + 1)];
+    uint64_t length;
+    if (second_save(word, m, tables, sizeof tables / sizeof *tables, file, MOST_FILE, &length) != 0) {
+        fprintf(stderr, "compare: no file of a word of %zu letters\n", m);
+        exit(2);
+    }
+    return length;
+}
+
+static void mirror(const uint8_t *word, size_t m, uint8_t *out)
+{
+    for (size_t i = 0; i < m; i++)
+        out[i] = word[m - 1 - i];
+}
+
+/* the letters in use: a few bytes by chance, or all */
+static uint8_t palette[256];
+
+static void choose_palette(unsigned letters)
+{
+    uint8_t first = (uint8_t)chance(), step = (uint8_t)(2 * chance() + 1);
+    for (unsigned i = 0; i < 256; i++)
+        palette[i] = letters == 256 ? (uint8_t)i : (uint8_t)(first + (i % letters) * step);
+}
+
+enum kind { RANDOM, PERIODIC, FIBONACCI, ONE_LETTER, BROKEN, DOUBLED, KINDS };
+
+/* each Fibonacci word is the one before and then the one before that */
+static void fibonacci(uint8_t *out, size_t len)
+{
+    size_t shorter = 1, longer = 2;
+    for (size_t i = 0; i < 2 && i < len; i++)
+        out[i] = palette[i];
+    while (longer < len) {
+        size_t both = longer + shorter;
+        memmove(out + longer, out, (both < len ? both : len) - longer);
+        shorter = longer;
+        longer = both;
+    }
+}
+
+static void make_word(uint8_t *out, size_t len, enum kind kind)
+{
+    size_t period = kind == RANDOM || kind == DOUBLED ? len : kind == ONE_LETTER ? 1 : 1 + some_length(len < 40 ? len : 40);
+    if (kind == DOUBLED)
+        period = (len + 1) / 2;
+    for (size_t i = 0; i < len; i++)
+        out[i] = i < period ? palette[below(256)] : out[i - period];
+    if (kind == FIBONACCI)
+        fibonacci(out, len);
+    if (kind == BROKEN && len > 0)
+        out[below(len)] = palette[below(256)];
+}
+
+/* a text for a word: by itself, or with the word in it, whole, overlapping, or all but a letter */
+static void make_text(uint8_t *out, size_t len, const uint8_t *word, size_t m, unsigned kind)
+{
+    make_word(out, len, (enum kind)(kind % KINDS));
+    if (kind % 7 == 3 && m > 0)
+        memset(out, word[m - 1], len);
+    if (kind / KINDS % 3 == 0 || m == 0 || m > len)
+        return;
+    for (size_t turns = 1 + below(2 + len / m), at = below(len - m + 1); turns > 0; turns--) {
+        memcpy(out + at, word, m);
+        if (kind / KINDS % 3 == 2 && below(3) == 0)
+            out[at + below(m)] = palette[below(256)];
+        size_t step = 1 + below(below(2) ? m : 2 * m);
+        at = below(8) == 0 ? len - m : at + step <= len - m ? at + step : below(len - m + 1);
+    }
+}
+
+/* ---- cases ---- */
+
+/* what a case is unless it says otherwise: rooms that are exactly enough for a word of m letters, strangers' numbers in them */
+static struct asked ask(enum entry entry, const uint8_t *input, size_t input_len, size_t m)
+{
+    struct asked a = {.entry = entry, .input = input, .fill = STRANGERS};
+    a.len[INPUT] = input_len;
+    a.len[ROOM] = m;
+    a.len[TABLES] = entries(m);
+    return a;
+}
+
+static struct outcome run_search(enum entry entry, const uint8_t *input, size_t input_len, size_t m, const uint8_t *text, size_t text_len,
+                                 size_t list)
+{
+    struct asked a = ask(entry, input, input_len, m);
+    a.text = text;
+    a.len[TEXT] = text_len;
+    a.len[FINDS] = list;
+    return compare(&a);
+}
+
+static struct outcome run_save(const uint8_t *word, size_t m, size_t out_len)
+{
+    struct asked a = ask(SAVE, word, m, m);
+    a.len[OUT] = out_len;
+    return compare(&a);
+}
+
+static struct outcome run_plain(enum entry entry, const uint8_t *input, size_t input_len, size_t m)
+{
+    struct asked a = ask(entry, input, input_len, m);
+    return compare(&a);
+}
+
+/* build, save, load back */
+static size_t there_and_back(const uint8_t *word, size_t m, uint8_t *file)
+{
+    size_t size = file_of(word, m, file);
+    run_plain(BUILD, word, m, m);
+    run_save(word, m, size);
+    run_plain(LOAD, file, size, m);
+    return size;
+}
+
+/* both searches for a word in a text, with a list of 0, fewer, exactly enough, or more entries */
+static void both_searches(const uint8_t *word, size_t m, const uint8_t *text, size_t n)
+{
+    uint8_t mirrored[MOST_LETTERS], file[MOST_FILE];
+    mirror(word, m, mirrored);
+    size_t size = file_of(mirrored, m, file);
+    size_t count = run_search(SEARCH, word, m, m, text, n, 0).answer[0];
+    size_t lists[3] = {count > 0 ? below(count) : 0, count, count + 1 + below(4)};
+    run_search(SEARCH, word, m, m, text, n, lists[below(3)]);
+    run_search(SEARCH_FILE, file, size, m, text, n, lists[below(3)]);
+}
+
+/* ---- the scope document's worked examples, whose values are written out ---- */
+
+static void expect(bool right, const char *what)
+{
+    if (!right) {
+        printf("DIFFERENT: the worked example '%s' comes out otherwise\n", what);
+        exit(1);
+    }
+}
+
+static size_t from_hex(const char *hex, uint8_t *out)
+{
+    size_t len = 0;
+    for (unsigned byte; sscanf(hex, "%2x", &byte) == 1; hex += hex[2] == ' ' ? 3 : 2)
+        out[len++] = (uint8_t)byte;
+    return len;
+}
+
+static void example_file(const char *word, const char *hex)
+{
+    uint8_t file[64];
+    size_t size = from_hex(hex, file), m = strlen(word);
+    struct outcome o = run_save((const uint8_t *)word, m, size);
+    expect(o.number == 0 && o.answer[0] == size && memcmp(zones[OUT].marks + zones[OUT].at, file, size) == 0, hex);
+    o = run_plain(LOAD, file, size, m);
+    expect(o.number == 0 && o.answer[0] == m && memcmp(zones[ROOM].marks + zones[ROOM].at, word, m) == 0, hex);
+}
+
+static void example_refused(const char *hex, uint32_t number)
+{
+    uint8_t file[64];
+    expect(run_plain(LOAD, file, from_hex(hex, file), MOST_LETTERS).number == number, hex);
+}
+
+static void example_search(const char *word, const char *text, uint64_t count, const uint32_t *places, uint64_t letters)
+{
+    size_t m = strlen(word), n = strlen(text);
+    struct outcome o = run_search(SEARCH, (const uint8_t *)word, m, m, (const uint8_t *)text, n, count);
+    expect(o.number == 0 && o.answer[0] == count && o.answer[1] == letters, word);
+    expect(memcmp(zones[FINDS].marks + zones[FINDS].at, places, count * sizeof *places) == 0, word);
+}
+
+/* pairs: source and target of each extra arrow in the file's order */
+static void example_arrows(const char *word, const uint16_t *pairs, size_t arrows, const uint16_t *supplies)
+{
+    size_t m = strlen(word), n = m + 1;
+    run_plain(BUILD, (const uint8_t *)word, m, m);
+    const uint16_t *t = (const uint16_t *)(const void *)(zones[TABLES].marks + zones[TABLES].at);
+    expect(t[2 * n + m] == arrows, word);
+    for (size_t e = 0; e < arrows; e++)
+        expect(t[2 * n + pairs[2 * e]] <= e && e < t[2 * n + pairs[2 * e] + 1] && t[3 * n + e] == pairs[2 * e + 1], word);
+    for (size_t i = 1; supplies != NULL && i <= m; i++)
+        expect(t[n + i] == supplies[i - 1], word);
+}
+
+static void examples_of_loading(void)
+{
+    uint8_t file[2000] = {1, 0x80, 8};
+    example_refused("", 5);
+    example_refused("01 00", 8);
+    example_refused("01 81 08", 8);
+    example_refused("01 FF FF FF FF 0F", 8);
+    example_refused("01 83 00 61 61 61 00", 6);
+    example_refused("01 03 61 61 61 03", 9);
+    example_refused("01 03 61 61 61", 5);
+    example_refused("01 03 61 61 61 01 00 00", 10);
+    example_refused("01 03 61 61 61 00 00", 11);
+    example_refused("01 02 61 62 00", 10);
+    memset(file + 3, 'a', 1024);
+    expect(run_plain(LOAD, file, 1027, 1024).number == 5, "01 80 08 and 1,024 letters, with room");
+    expect(run_plain(LOAD, file, 1027, 1023).number == 3, "01 80 08 and 1,024 letters, without room");
+    expect(run_plain(LOAD, file, 1028, 1024).number == 0, "01 80 08, 1,024 times the same letter, 00");
+}
+
+static void examples(void)
+{
+    static const uint16_t first[] = {0, 2, 1, 6, 2, 5, 3, 5}, supplies[] = {0, 0, 2, 3, 1, 1, 2};
+    static const uint16_t other[] = {0, 2, 0, 3, 0, 6, 0, 9, 1, 5, 3, 6, 3, 9, 5, 9};
+    example_file("a", "01 01 61 00");
+    example_file("aaa", "01 03 61 61 61 00");
+    example_file("ab", "01 02 61 62 01 00 00");
+    example_file("abbbaab", "01 07 61 62 62 62 61 61 62 04 00 00 01 03 01 01 01 00");
+    example_arrows("a", NULL, 0, NULL);
+    example_arrows("aaa", NULL, 0, NULL);
+    example_arrows("abbbaab", first, 4, supplies);
+    example_arrows("abcacdace", other, 8, NULL);
+    example_search("aa", "aaaa", 3, (const uint32_t[]){0, 1, 2}, 6);
+    example_search("ab", "aab", 1, (const uint32_t[]){1}, 4);
+    example_search("aba", "ababa", 2, (const uint32_t[]){0, 2}, 9);
+    example_search("abc", "xxxxxx", 0, (const uint32_t[]){0}, 2);
+    example_search("abc", "ab", 0, (const uint32_t[]){0}, 0);
+    examples_of_loading();
+}
+
+/* ---- every word up to 8 letters over 3 ---- */
+
+static void short_word(const uint8_t *word, size_t m)
+{
+    uint8_t file[MOST_FILE], text[48];
+    there_and_back(word, m, file);
+    both_searches(word, m, word, m - below(2));
+    for (size_t i = 0; i < 40; i++)
+        text[i] = word[i % m];
+    both_searches(word, m, text, 40);
+    for (size_t i = 0; i < 40; i++)
+        text[i] = (uint8_t)('a' + below(3));
+    memcpy(text + below(40 - m + 1), word, m);
+    both_searches(word, m, text, 40);
+    memset(text, 'a', 20);
+    both_searches(word, m, text, 20);
+}
+
+static void short_words(void)
+{
+    uint8_t word[8];
+    for (size_t m = 1, many = 3; m <= 8; m++, many *= 3)
+        for (size_t number = 0; number < many; number++) {
+            for (size_t i = 0, rest = number; i < m; i++, rest /= 3)
+                word[i] = (uint8_t)('a' + rest % 3);
+            short_word(word, m);
+        }
+}
+
+/* ---- longer words, of each kind over 2, 4 and 256 letters ---- */
+
+static void longer_words(void)
+{
+    static const size_t lengths[] = {9, 16, 31, 32, 33, 100, 127, 128, 129, 254, 255, 256, 257, 511, 512, 513, 1000, 1023, 1024};
+    static const unsigned alphabets[] = {2, 4, 256};
+    static uint8_t word[MOST_LETTERS], text[4096], file[MOST_FILE];
+    for (size_t l = 0; l < sizeof lengths / sizeof *lengths; l++)
+        for (unsigned a = 0; a < 3; a++)
+            for (int kind = 0; kind < KINDS; kind++) {
+                size_t m = lengths[l], n = below(2) ? some_length(4096) : m + below(4096 - m);
+                choose_palette(alphabets[a]);
+                make_word(word, m, (enum kind)kind);
+                there_and_back(word, m, file);
+                make_text(text, n, word, m, (unsigned)chance());
+                both_searches(word, m, text, n);
+            }
+}
+
+/* ---- rooms: one short, exact, one long, for every buffer; every refusal with what stands in them before ---- */
+
+static const size_t room_choices = 4;
+
+static size_t room_choice(size_t need, size_t choice)
+{
+    return choice == 0 ? 0 : choice == 1 ? (need > 0 ? need - 1 : 0) : choice == 2 ? need : need + 1 + below(40);
+}
+
+static void rooms_for(enum entry entry, const uint8_t *input, size_t input_len, size_t m, size_t file_size, size_t n)
+{
+    static uint8_t text[4096];
+    size_t all = room_choices * room_choices * room_choices * FILLS;
+    choose_palette(2);
+    make_text(text, n, input, entry == SEARCH ? m : 0, RANDOM + KINDS);
+    for (size_t c = 0; c < all; c++) {
+        struct asked a = ask(entry, input, input_len, m);
+        a.len[TABLES] = room_choice(entries(m), c % room_choices);
+        a.len[ROOM] = room_choice(m, c / room_choices % room_choices);
+        a.len[OUT] = room_choice(file_size, c / room_choices % room_choices);
+        a.len[FINDS] = room_choice(3, c / room_choices / room_choices % room_choices);
+        a.fill = (enum fill)(c / room_choices / room_choices / room_choices);
+        a.text = text;
+        a.len[TEXT] = n;
+        compare(&a);
+    }
+}
+
+/* a word at the limit or past it, or an empty one, over all rooms */
+static void rooms_of_word(const uint8_t *word, size_t m)
+{
+    static uint8_t file[MOST_FILE];
+    size_t size = m >= 1 && m <= MOST_LETTERS ? file_of(word, m, file) : 40;
+    rooms_for(BUILD, word, m, m, 0, 0);
+    rooms_for(SAVE, word, m, m, size, 0);
+    rooms_for(SEARCH, word, m, m, 0, below(300));
+    if (m >= 1 && m <= MOST_LETTERS) {
+        rooms_for(LOAD, file, size, m, 0, 0);
+        rooms_for(SEARCH_FILE, file, size, m, 0, below(300));
+        rooms_for(LOAD, file, size - 1, m, 0, 0);
+        file[size] = 0;
+        rooms_for(LOAD, file, size + 1, m, 0, 0);
+        rooms_for(SEARCH_FILE, file, size + 1, m, 0, below(300));
+    }
+}
+
+static void rooms(void)
+{
+    static const size_t lengths[] = {0, 1, 2, 3, 5, 9, 30, 128, 1023, 1024, 1025, 1026, 1500, 65536, 65537, 65600};
+    static uint8_t word[65600];
+    for (size_t l = 0; l < sizeof lengths / sizeof *lengths; l++)
+        for (int turn = 0; turn < (lengths[l] < 100 ? 4 : 1); turn++) {
+            choose_palette(turn % 2 ? 4 : 2);
+            make_word(word, lengths[l], turn < 2 ? RANDOM : BROKEN);
+            rooms_of_word(word, lengths[l]);
+        }
+}
+
+/* ---- files: cut, changed, bytes put in and taken out, numbers replaced ---- */
+
+static void try_file(const uint8_t *file, size_t len, size_t m)
+{
+    static const uint8_t text[] = "abbaabbbaaabbaabbacdeacaacdacbaca";
+    struct asked a = ask(LOAD, file, len, m);
+    a.fill = (enum fill)below(FILLS);
+    compare(&a);
+    if (below(4) == 0) {
+        a.len[below(2) ? TABLES : ROOM] -= 1;
+        compare(&a);
+    }
+    if (below(2) == 0)
+        run_search(SEARCH_FILE, file, len, m, text, sizeof text - 1, below(6));
+}
+
+static size_t spliced(const uint8_t *file, size_t len, size_t from, size_t to, const uint8_t *put, size_t put_len, uint8_t *out)
+{
+    memcpy(out, file, from);
+    memcpy(out + from, put, put_len);
+    memcpy(out + from + put_len, file + to, len - to);
+    return from + put_len + (len - to);
+}
+
+static void cut_file(const uint8_t *file, size_t len, size_t m)
+{
+    for (size_t cut = 0; cut <= len; cut++)
+        try_file(file, cut, m);
+}
+
+static void change_bytes(const uint8_t *file, size_t len, size_t m, bool every)
+{
+    static uint8_t other[MOST_FILE];
+    static const uint8_t puts[] = {0, 1, 0x0F, 0x10, 0x7F, 0x80, 0x81, 0xFF};
+    memcpy(other, file, len);
+    for (size_t at = 0; at < len; at++) {
+        for (unsigned value = 0; every && value < 256; value++) {
+            other[at] = (uint8_t)value;
+            try_file(other, len, m);
+        }
+        for (unsigned turn = 0; !every && turn < 6; turn++) {
+            other[at] = turn == 0   ? (uint8_t)(file[at] + 1)
+                        : turn == 1 ? (uint8_t)(file[at] - 1)
+                        : turn == 2 ? file[at] ^ 0x80
+                        : turn == 3 ? (uint8_t)chance()
+                                    : puts[below(sizeof puts)];
+            try_file(other, len, m);
+        }
+        other[at] = file[at];
+    }
+}
+
+static void move_bytes(const uint8_t *file, size_t len, size_t m)
+{
+    static uint8_t other[2 * MOST_FILE];
+    static const uint8_t puts[] = {0, 1, 0x80, 0xFF, 0x61};
+    for (size_t at = 0; at <= len; at++) {
+        uint8_t put = below(2) ? puts[below(sizeof puts)] : (uint8_t)chance();
+        try_file(other, spliced(file, len, at, at, &put, 1, other), m);
+        size_t from = below(at + 1);
+        try_file(other, spliced(file, len, at, at, file + from, at - from < 4 ? at - from : 4, other), m);
+        if (at < len)
+            try_file(other, spliced(file, len, at, at + 1, file, 0, other), m);
+        if (at + 2 <= len) {
+            uint8_t swapped[2] = {file[at + 1], file[at]};
+            try_file(other, spliced(file, len, at, at + 2, swapped, 2, other), m);
+            try_file(other, spliced(file, len, at, at + 2, file, 0, other), m);
+        }
+    }
+}
+
+/* a number in so many groups, zeros at the end where it needs fewer */
+static size_t spell_in(uint32_t number, size_t groups, uint8_t *out)
+{
+    for (size_t g = 0; g < groups; g++) {
+        out[g] = (uint8_t)(number % 128 + (g + 1 < groups ? 128 : 0));
+        number /= 128;
+    }
+    return groups;
+}
+
+static size_t groups_of(uint32_t number)
+{
+    size_t groups = 1;
+    while (number >>= 7)
+        groups++;
+    return groups;
+}
+
+/* the number that stands in file[from..to) replaced: by extreme ones, near ones, and by longer spellings of itself and of others */
+static void replace_number(const uint8_t *file, size_t len, size_t m, size_t from, size_t to)
+{
+    static const uint32_t extremes[] = {0,       1,         2,         126,        127,      128,         129,         255,        256,
+                                        1023,    1024,      1025,      16383,      16384,    65535,       65536,       65537,      2097151,
+                                        2097152, 268435455, 268435456, 2147483647, 1u << 31, 4294967040u, 4294967294u, 4294967295u};
+    static const char *const raw[] = {"80",           "8080",         "808080",     "80808080",     "8000",
+                                      "808000",       "80808000",     "8080808000", "8080808080",   "8080808010",
+                                      "FFFFFFFF10",   "FFFFFFFF1F",   "FFFFFFFF7F", "FFFFFFFF8F",   "FFFFFFFFFF",
+                                      "808080808000", "FFFFFFFF8000", "8180808000", "818080808001", "FFFFFFFFFF01"};
+    static uint8_t other[2 * MOST_FILE];
+    uint8_t put[8];
+    uint32_t own = 0;
+    for (size_t i = to; i-- > from;)
+        own = own * 128 + file[i] % 128;
+    for (size_t e = 0; e < sizeof extremes / sizeof *extremes; e++)
+        try_file(other, spliced(file, len, from, to, put, spell_in(extremes[e], groups_of(extremes[e]), put), other), m);
+    for (uint32_t near = own > 3 ? own - 3 : 0; near < own + 4; near++)
+        try_file(other, spliced(file, len, from, to, put, spell_in(near, groups_of(near), put), other), m);
+    for (size_t groups = 1; groups <= 6; groups++) {
+        try_file(other, spliced(file, len, from, to, put, spell_in(own, groups, put), other), m);
+        try_file(other, spliced(file, len, from, to, put, spell_in((uint32_t)chance(), groups, put), other), m);
+    }
+    for (size_t r = 0; r < sizeof raw / sizeof *raw; r++)
+        try_file(other, spliced(file, len, from, to, put, from_hex(raw[r], put), other), m);
+    for (size_t r = 0; r < sizeof raw / sizeof *raw; r++) /* and the file ends there */
+        try_file(other, spliced(file, to, from, to, put, from_hex(raw[r], put), other), m);
+}
+
+/* each number of a good file in turn; of many arrows only some */
+static void replace_numbers(const uint8_t *file, size_t len, size_t m)
+{
+    size_t at = 0, field = 0;
+    while (at < len) {
+        size_t to = at;
+        while (file[to] >= 128)
+            to++;
+        to++;
+        if (field < 8 || len - to < 6 || below(len / 16 + 1) == 0)
+            replace_number(file, len, m, at, to);
+        at = field == 1 ? to + m : to;
+        field++;
+    }
+}
+
+static void damage(const uint8_t *word, size_t m, bool every_value)
+{
+    static uint8_t file[MOST_FILE];
+    size_t len = file_of(word, m, file);
+    cut_file(file, len, m);
+    change_bytes(file, len, m, every_value);
+    move_bytes(file, len, m);
+    replace_numbers(file, len, m);
+}
+
+static void damaged_files(void)
+{
+    static const char *const short_ones[] = {"a", "ab", "aaa", "abbbaab", "abcacdace"};
+    static const size_t lengths[] = {12, 20, 60, 127, 128, 130, 200};
+    static uint8_t word[MOST_LETTERS];
+    for (size_t i = 0; i < sizeof short_ones / sizeof *short_ones; i++)
+        damage((const uint8_t *)short_ones[i], strlen(short_ones[i]), true);
+    for (size_t i = 0; i < sizeof lengths / sizeof *lengths; i++) {
+        choose_palette(i % 2 ? 4 : 2);
+        make_word(word, lengths[i], i == 4 ? PERIODIC : RANDOM);
+        damage(word, lengths[i], false);
+    }
+}
+
+static void random_file(void)
+{
+    static uint8_t file[200];
+    size_t len = some_length(199), kept = 0, m = 1 + some_length(20);
+    for (size_t i = 0; i < len; i++)
+        file[i] = below(2) ? (uint8_t)chance() : (uint8_t)below(4);
+    if (below(8) != 0)
+        kept += spell_in(1, 1, file);
+    if (kept > 0 && below(8) != 0)
+        kept += spell_in((uint32_t)m, 1, file + kept);
+    if (kept > 1 && below(8) != 0) {
+        choose_palette(2);
+        make_word(file + kept, m, RANDOM);
+        kept += m;
+        kept += spell_in((uint32_t)below(m), 1, file + kept);
+    }
+    try_file(file, len > kept ? len : kept, m);
+}
+
+static void random_files(void)
+{
+    for (int i = 0; i < 100000; i++)
+        random_file();
+}
+
+/* ---- texts at the limit and one past it ---- */
+
+static void texts_at_the_limit(void)
+{
+    static const uint8_t word[] = {7, 1, 1, 7, 1, 7, 7, 1, 7, 1, 1, 1};
+    uint8_t mirrored[sizeof word], file[MOST_FILE], *text = reserve(NULL, MOST_TEXT + 1);
+    size_t m = sizeof word;
+    mirror(word, m, mirrored);
+    size_t size = file_of(mirrored, m, file);
+    for (size_t i = 0; i < MOST_TEXT + 1; i++)
+        text[i] = noise[(i * 31 + i / NOISE) % NOISE] % 2 ? 7 : 1;
+    memcpy(text, word, m);
+    memcpy(text + MOST_TEXT - m, word, m);
+    for (size_t past = 0; past <= 1; past++) {
+        run_search(SEARCH, word, m, m, text, MOST_TEXT + past, 10000);
+        run_search(SEARCH_FILE, file, size, m, text, MOST_TEXT + past, 10000);
+        run_search(SEARCH, word, m, m - 1, text, MOST_TEXT + past, 10);
+        run_search(SEARCH_FILE, file, size - 1, m, text, MOST_TEXT + past, 10);
+        run_search(SEARCH_FILE, file, size, m - 1, text, MOST_TEXT + past, 10);
+        run_search(SEARCH, word, 0, m, text, MOST_TEXT + past, 10);
+        run_search(SEARCH, text, MOST_LETTERS + 1, m, text, MOST_TEXT + past, 10);
+    }
+    memset(text, 'a', MOST_TEXT);
+    run_search(SEARCH, text, 4, 4, text, MOST_TEXT, 1000);
+    free(text);
+}
+
+/* 300 a's in 16,777,216 a's: the letters read pass 32 bits; every find has its entry */
+static void hostile_at_the_limit(void)
+{
+    uint8_t *text = reserve(NULL, MOST_TEXT);
+    memset(text, 'a', MOST_TEXT);
+    run_search(SEARCH, text, 300, 300, text, MOST_TEXT, MOST_TEXT);
+    free(text);
+}
+
+/* ---- lengths past 32 bits, over memory that is asked for and hardly touched ---- */
+
+static void *vast(size_t bytes)
+{
+    void *p = mmap(NULL, bytes, PROT_READ | PROT_WRITE, MAP_PRIVATE | MAP_ANONYMOUS | MAP_NORESERVE, -1, 0);
+    if (p == MAP_FAILED) {
+        fprintf(stderr, "compare: %zu bytes of address space are not to be had\n", bytes);
+        exit(2);
+    }
+    return p;
+}
+
+/* one slice of the entry is past 2^32 elements long; the first 65,536 bytes of it are compared */
+static void vast_slice(enum entry entry, int slice, const uint8_t *input, size_t input_len, size_t m)
+{
+    enum { LOOKED_AT = 65536 };
+    static uint8_t room[2][LOOKED_AT * SLICES];
+    struct asked a = ask(entry, input, input_len, m);
+    size_t len = (UINT64_C(1) << 32) + 8, bytes = len * slice_width[slice];
+    struct lent l[2];
+    struct outcome o[2];
+    a.len[TEXT] = a.len[FINDS] = 8;
+    a.len[OUT] = 4096;
+    a.len[slice] = len;
+    cases++;
+    for (int side = 0; side < 2; side++) {
+        for (int s = 0; s < SLICES; s++) {
+            l[side].at[s] = s == slice ? vast(bytes) : memset(room[side] + s * LOOKED_AT, 0, LOOKED_AT);
+            l[side].len[s] = a.len[s];
+        }
+        memcpy(l[side].at[INPUT], input, input_len);
+        memcpy(l[side].at[TEXT], "abcabbba", 8);
+        o[side] = side == 0 ? ask_marks(entry, &l[side]) : ask_second(entry, &l[side]);
+    }
+    if (o[0].number != o[1].number || o[0].answer[0] != o[1].answer[0] || o[0].answer[1] != o[1].answer[1])
+        fail(&a, "the number or the answers, with a slice past 32 bits", &o[0], &o[1]);
+    for (int s = 0; s < SLICES; s++)
+        if (memcmp(l[0].at[s], l[1].at[s], LOOKED_AT) != 0)
+            fail(&a, "a buffer, with a slice past 32 bits", &o[0], &o[1]);
+    for (int side = 0; side < 2; side++)
+        munmap(l[side].at[slice], bytes);
+    seen[entry][o[0].number]++;
+}
+
+static void vast_slices(void)
+{
+    uint8_t file[MOST_FILE];
+    const uint8_t *word = (const uint8_t *)"abbbaab";
+    size_t m = 7, size = file_of(word, m, file);
+    for (int entry = 0; entry < ENTRIES; entry++)
+        for (int s = 0; s < SLICES; s++)
+            if (lent_slices[entry] & 1u << s) {
+                bool from_file = entry == LOAD || entry == SEARCH_FILE;
+                vast_slice((enum entry)entry, s, from_file ? file : word, from_file ? size : m, m);
+            }
+}
+
+/* ---- null pointers with length 0 ---- */
+
+static void null_pointers(void)
+{
+    uint8_t file[MOST_FILE];
+    const uint8_t *word = (const uint8_t *)"abbbaab", *text = (const uint8_t *)"babbbaabbbaab";
+    size_t m = 7, size = file_of(word, m, file);
+    for (int entry = 0; entry < ENTRIES; entry++)
+        for (unsigned empty = 0; empty < 1u << SLICES; empty++) {
+            bool from_file = entry == LOAD || entry == SEARCH_FILE;
+            struct asked a = ask((enum entry)entry, from_file ? file : word, from_file ? size : m, m);
+            a.text = text;
+            a.len[TEXT] = 13;
+            a.len[OUT] = size;
+            a.len[FINDS] = 2;
+            a.nulls = true;
+            for (int s = 0; s < SLICES; s++)
+                if (empty & 1u << s)
+                    a.len[s] = 0;
+            compare(&a);
+        }
+}
+
+/* ---- everything mixed ---- */
+
+static size_t some_room(size_t need)
+{
+    return below(6) != 0 ? need + (below(3) == 0 ? below(50) : 0) : room_choice(need, below(room_choices));
+}
+
+/* some damage, or none, to a file of len bytes; its length afterwards */
+static size_t damage_some(uint8_t *file, size_t len)
+{
+    static uint8_t other[2 * MOST_FILE];
+    uint8_t put[8];
+    for (size_t turns = below(3); turns > 0; turns--) {
+        size_t at = below(2) ? below(len) : len > 8 ? len - 1 - below(8) : below(len), to = at + below(below(2) ? 2 : 6);
+        size_t groups = 1 + below(below(4) ? 2 : 6);
+        spell_in((uint32_t)(chance() >> below(64)), groups, put);
+        len = spliced(file, len, at, to < len ? to : len, put, below(3) ? groups : 0, other);
+        len = len < MOST_FILE ? len : MOST_FILE;
+        memcpy(file, other, len);
+    }
+    return below(10) == 0 ? below(len + 1) : len;
+}
+
+static void mixed_case(void)
+{
+    static uint8_t word[MOST_LETTERS + 8], mirrored[MOST_LETTERS], file[MOST_FILE], text[8192];
+    static const unsigned alphabets[] = {2, 2, 3, 4, 256};
+    size_t m = 1 + some_length(below(40) ? 200 : MOST_LETTERS - 1), n = some_length(below(8) ? 600 : sizeof text);
+    enum entry entry = (enum entry)below(ENTRIES);
+    choose_palette(alphabets[below(5)]);
+    make_word(word, m, (enum kind)below(KINDS));
+    mirror(word, m, mirrored);
+    make_text(text, n, entry == SEARCH_FILE ? mirrored : word, m, (unsigned)below(1000));
+    struct asked a = ask(entry, word, m, m);
+    size_t size = entry == SAVE || entry == LOAD || entry == SEARCH_FILE ? file_of(word, m, file) : 0;
+    a.text = text;
+    a.len[TEXT] = n;
+    a.len[TABLES] = some_room(entries(m));
+    a.len[ROOM] = some_room(m);
+    a.len[OUT] = some_room(size);
+    a.len[FINDS] = some_length(n);
+    a.fill = (enum fill)below(FILLS);
+    a.inside = entry == SEARCH && m <= n && below(20) == 0;
+    if (a.inside)
+        a.input = text;
+    if (entry == LOAD || entry == SEARCH_FILE) {
+        a.input = file;
+        a.len[INPUT] = damage_some(file, size);
+    }
+    compare(&a);
+}
+
+/* ---- the run ---- */
+
+static double seconds(void)
+{
+    struct timespec t;
+    clock_gettime(CLOCK_MONOTONIC, &t);
+    return (double)t.tv_sec + (double)t.tv_nsec / 1e9;
+}
+
+static double begun;
+
+static void part(const char *name, void (*run)(void))
+{
+    uint64_t before = cases;
+    double from = seconds();
+    run();
+    printf("%9" PRIu64 " cases, %5.1f s: %s\n", cases - before, seconds() - from, name);
+    fflush(stdout);
+}
+
+static void mixed_cases(void)
+{
+    for (int i = 0; i < 500000; i++)
+        mixed_case();
+}
+
+static double until;
+
+static void more_mixed_cases(void)
+{
+    while (seconds() - begun < until)
+        for (int i = 0; i < 100; i++)
+            mixed_case();
+}
+
+static void long_damaged_files(void)
+{
+    static uint8_t word[MOST_LETTERS];
+    for (int turn = 0; turn < 2; turn++) {
+        choose_palette(turn ? 4 : 2);
+        make_word(word, MOST_LETTERS - (size_t)turn * 500, RANDOM);
+        damage(word, MOST_LETTERS - (size_t)turn * 500, false);
+    }
+}
+
+/* how often each entry gave each number; whether one that it can give is missing */
+static bool print_seen(void)
+{
+    bool missing = false;
+    printf("%-10s", "number");
+    for (int e = 0; e < ENTRIES; e++)
+        printf(" %12s", entry_name[e]);
+    for (unsigned number = 0; number < NUMBERS; number++) {
+        printf("\n%-10u", number);
+        for (int e = 0; e < ENTRIES; e++)
+            if (!(can_give[e] & 1u << number))
+                printf(" %12s", "-");
+            else if (seen[e][number] == 0) {
+                printf(" %12s", "NEVER SEEN");
+                missing = true;
+            } else
+                printf(" %12" PRIu64, seen[e][number]);
+    }
+    printf("\n");
+    return missing;
+}
+
+static void all_parts(bool costly)
+{
+    part("the worked examples", examples);
+    if (SLIP == 31)
+        return;
+    part("every word of 1 to 8 letters over 3: build, save, load back, search", short_words);
+    part("null pointers with length 0", null_pointers);
+    part("rooms too short, exact and too long; words empty and too long", rooms);
+    part("damaged files", damaged_files);
+    part("files of random bytes", random_files);
+    part("words of 9 to 1,024 letters, of each kind over 2, 4 and 256 letters", longer_words);
+    part("texts of 16,777,216 and 16,777,217 bytes", texts_at_the_limit);
+    part("slices of more than 4,294,967,296 elements", vast_slices);
+    part("all of it mixed", mixed_cases);
+    if (costly) {
+        part("damaged files of 1,024 and 524 letters", long_damaged_files);
+        part("300 a's in 16,777,216 a's", hostile_at_the_limit);
+    }
+    if (until > 0)
+        part("more of it mixed", more_mixed_cases);
+}
+
+int main(int argc, char **argv)
+{
+    uint64_t seed = 1;
+    bool costly = false;
+    for (int i = 1; i < argc; i++)
+        if (strcmp(argv[i], "--long") == 0)
+            costly = true;
+        else if (strcmp(argv[i], "--seed") == 0 && i + 1 < argc)
+            seed = strtoull(argv[++i], NULL, 10);
+        else if (strcmp(argv[i], "--seconds") == 0 && i + 1 < argc)
+            until = strtod(argv[++i], NULL);
+        else {
+            fprintf(stderr, "compare [--seed N] [--seconds N] [--long]\n");
+            return 2;
+        }
+    begun = seconds();
+    chance_state = seed;
+    for (size_t i = 0; i < NOISE; i++)
+        noise[i] = (uint8_t)chance();
+    all_parts(costly);
+    bool missing = print_seen();
+    if (missing)
+        printf("DIFFERENT: a refusal that can be given was never seen\n");
+    else
+        printf("second opinion: seed %" PRIu64 ", %" PRIu64 " cases, no difference, %.1f s\n", seed, cases, seconds() - begun);
+    return missing ? 1 : 0;
+}

@@ -1,0 +1,77 @@
+/* The five entries of both sides by number, so that the comparison and the attack can ask either side the same thing in one line.
+   This is all that the two share with each other; neither implementation sees it. */
+#ifndef ENTRIES_H
+#define ENTRIES_H
+
+#include "marks.h"
+#include "second.h"
+
+enum entry { BUILD, SAVE, LOAD, SEARCH, SEARCH_FILE, ENTRIES };
+
+static const char *const entry_name[ENTRIES] = {"build", "save", "load", "search", "search_file"};
+
+/* the slices that an entry may be lent; input is the word, or the file of load and search_file */
+enum slice { INPUT, TEXT, ROOM, OUT, TABLES, FINDS, SLICES };
+
+static const char *const slice_name[SLICES] = {"word or file", "text", "word room", "output", "tables", "list"};
+
+static const size_t slice_width[SLICES] = {1, 1, 1, 1, sizeof(uint16_t), sizeof(uint32_t)};
+
+static const unsigned lent_slices[ENTRIES] = {
+    1 << INPUT | 1 << TABLES,
+    1 << INPUT | 1 << OUT | 1 << TABLES,
+    1 << INPUT | 1 << ROOM | 1 << TABLES,
+    1 << INPUT | 1 << TEXT | 1 << TABLES | 1 << FINDS,
+    1 << INPUT | 1 << TEXT | 1 << ROOM | 1 << TABLES | 1 << FINDS,
+};
+
+static const unsigned read_slices = 1 << INPUT | 1 << TEXT;
+
+/* the refusals that an entry can give, 0 (success) among them: bit n for the number n */
+static const unsigned can_give[ENTRIES] = {
+    1 << 0 | 1 << 1 | 1 << 2 | 1 << 3, 1 << 0 | 1 << 1 | 1 << 2 | 1 << 3 | 1 << 12,
+    1 << 0 | 1 << 3 | 0xFE0,           1 << 0 | 1 << 1 | 1 << 2 | 1 << 3 | 1 << 4,
+    1 << 0 | 1 << 3 | 1 << 4 | 0xFE0,
+};
+
+/* an answer that no entry gives: what is handed over under the last pointers */
+#define UNTOUCHED UINT64_C(0xA5C3A5C35A3C5A3C)
+
+/* what an entry is lent: a pointer and a number of elements for each slice */
+struct lent {
+    void *at[SLICES];
+    size_t len[SLICES];
+};
+
+struct outcome {
+    uint32_t number;
+    uint64_t answer[2];
+};
+
+#define ASK(SIDE)                                                                                                                          \
+    static struct outcome ask_##SIDE(enum entry entry, const struct lent *l) {                                                             \
+        struct outcome o = {99, {UNTOUCHED, UNTOUCHED}};                                                                                   \
+        const uint8_t *input = l->at[INPUT], *text = l->at[TEXT];                                                                          \
+        size_t input_len = l->len[INPUT], text_len = l->len[TEXT], room_len = l->len[ROOM], tables_len = l->len[TABLES];                   \
+        uint16_t *tables = l->at[TABLES];                                                                                                  \
+        uint64_t *a = &o.answer[0], *b = &o.answer[1];                                                                                     \
+        switch (entry) {                                                                                                                   \
+        case BUILD: o.number = SIDE##_build(input, input_len, tables, tables_len, a); break;                                               \
+        case SAVE: o.number = SIDE##_save(input, input_len, tables, tables_len, l->at[OUT], l->len[OUT], a); break;                        \
+        case LOAD: o.number = SIDE##_load(input, input_len, l->at[ROOM], room_len, tables, tables_len, a); break;                          \
+        case SEARCH:                                                                                                                       \
+            o.number = SIDE##_search(input, input_len, text, text_len, tables, tables_len, l->at[FINDS], l->len[FINDS], a, b);             \
+            break;                                                                                                                         \
+        case SEARCH_FILE:                                                                                                                  \
+            o.number = SIDE##_search_file(input, input_len, text, text_len, l->at[ROOM], room_len, tables, tables_len, l->at[FINDS],       \
+                                          l->len[FINDS], a, b);                                                                            \
+            break;                                                                                                                         \
+        case ENTRIES: break;                                                                                                               \
+        }                                                                                                                                  \
+        return o;                                                                                                                          \
+    }
+
+ASK(marks)
+ASK(second)
+
+#endif

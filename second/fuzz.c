@@ -1,0 +1,433 @@
+/* A target for a coverage-guided fuzzer (libFuzzer): its bytes become one call of one of the five entries, which the proved library and
+   the second implementation both answer; whole outcomes must agree.
+
+   What sees a stray access: the second implementation and this file are compiled with AddressSanitizer and UndefinedBehaviorSanitizer,
+   and the second side is lent heap buffers of exactly the length that it is told. The proved code is compiled from the kit's bitcode with
+   the fuzzer's coverage counters and no memory checker; so the library is lent each buffer against an inaccessible page, behind it or
+   before it, and reads its inputs through a mapping that cannot be written. An access past that page's edge stops the process, reads too.
+   On the other side of a buffer 256 bytes are looked at afterwards.
+
+   With --seeds DIR it writes its first inputs to DIR and ends. tools/attack builds and runs it.
+
+   Mistakes on purpose (-DSLIP=n) as in second.c, and
+     slip 33: the library's tables are lent one entry too far up, so that it writes past the edge
+     slip 34: the library's text is lent one byte too far up, so that it reads past the edge */
+#define _GNU_SOURCE
+#include "entries.h"
+
+#include <inttypes.h>
+#include <stdbool.h>
+#include <stdio.h>
+#include <stdlib.h>
+#include <string.h>
+#include <sys/mman.h>
+#include <unistd.h>
+
+#ifndef SLIP
+#define SLIP 0
+#endif
+
+enum { MOST_LETTERS = 1024, MOST_TEXT = 16777216, MOST_FILE = 8192, MOST_INPUT = 8192, ROOM_BYTES = 65536, BESIDE = 256 };
+
+/* ---- memory for the library: between two inaccessible pages ---- */
+
+static struct {
+    uint8_t *write; /* where the target fills it */
+    uint8_t *lent;  /* the same bytes as the library sees them: inputs cannot be written there */
+    size_t at;      /* where the lent part begins */
+} region[SLICES];
+
+static uint8_t *whole_text; /* 16,777,217 bytes that a search must refuse without reading */
+
+static void *must(void *p)
+{
+    if (p == MAP_FAILED || p == NULL) {
+        perror("fuzz: no memory");
+        exit(2);
+    }
+    return p;
+}
+
+static void make_regions(void)
+{
+    size_t page = (size_t)sysconf(_SC_PAGESIZE), all = ROOM_BYTES + 2 * page;
+    for (int s = 0; s < SLICES; s++) {
+        int fd = memfd_create(slice_name[s], 0);
+        if (fd < 0 || ftruncate(fd, ROOM_BYTES) != 0)
+            must(NULL);
+        region[s].write = must(mmap(NULL, ROOM_BYTES, PROT_READ | PROT_WRITE, MAP_SHARED, fd, 0));
+        uint8_t *around = must(mmap(NULL, all, PROT_NONE, MAP_PRIVATE | MAP_ANONYMOUS, -1, 0));
+        int rights = read_slices & 1u << s ? PROT_READ : PROT_READ | PROT_WRITE;
+        region[s].lent = must(mmap(around + page, ROOM_BYTES, rights, MAP_SHARED | MAP_FIXED, fd, 0));
+        close(fd);
+    }
+    whole_text = must(mmap(NULL, MOST_TEXT + 1, PROT_NONE, MAP_PRIVATE | MAP_ANONYMOUS | MAP_NORESERVE, -1, 0));
+}
+
+/* what stands where nothing was put: a number for each place, not the same from one slice to the next */
+static uint8_t stranger(int s, size_t i, uint8_t fill)
+{
+    return (uint8_t)(fill + i * 37 + i / 251 + (size_t)s * 101);
+}
+
+/* where the 256 bytes beside a lent part begin and end */
+static void beside(int s, size_t bytes, size_t *from, size_t *to)
+{
+    bool behind = region[s].at == 0;
+    *from = behind ? bytes : region[s].at > BESIDE ? region[s].at - BESIDE : 0;
+    *to = behind ? (bytes + BESIDE < ROOM_BYTES ? bytes + BESIDE : ROOM_BYTES) : region[s].at;
+}
+
+/* ---- one call ---- */
+
+struct asked {
+    enum entry entry;
+    const uint8_t *content[SLICES]; /* of the inputs */
+    size_t len[SLICES];
+    uint8_t fill;
+    bool front; /* against the page before, not the one behind */
+    bool nulls; /* length 0 is a null pointer */
+    bool whole; /* the text is one byte too long */
+};
+
+static void lend_library(const struct asked *a, int s, struct lent *l)
+{
+    size_t bytes = a->len[s] * slice_width[s], from, to;
+    region[s].at = a->front ? 0 : ROOM_BYTES - bytes;
+    beside(s, bytes, &from, &to);
+    for (size_t i = from; i < to; i++)
+        region[s].write[i] = stranger(s, i, a->fill);
+    for (size_t i = 0; i < bytes; i++)
+        region[s].write[region[s].at + i] = a->content[s] != NULL ? a->content[s][i] : stranger(s, i, a->fill);
+    size_t slip = !a->front && ((SLIP == 33 && s == TABLES) || (SLIP == 34 && s == TEXT)) ? slice_width[s] : 0;
+    l->at[s] = a->nulls && bytes == 0 ? NULL : region[s].lent + region[s].at + slip;
+}
+
+static void lend_second(const struct asked *a, int s, struct lent *l)
+{
+    size_t bytes = a->len[s] * slice_width[s];
+    uint8_t *p = must(malloc(bytes > 0 ? bytes : 1));
+    for (size_t i = 0; i < bytes; i++)
+        p[i] = a->content[s] != NULL ? a->content[s][i] : stranger(s, i, a->fill);
+    l->at[s] = p;
+}
+
+static void stop(const struct asked *a, const char *what, int s, const struct outcome *m, const struct outcome *o)
+{
+    printf("DIFFERENT: %s: %s%s\n", entry_name[a->entry], what, s < 0 ? "" : slice_name[s]);
+    printf("  library: %" PRIu32 ", answers %" PRIu64 " %" PRIu64 "; second opinion: %" PRIu32 ", answers %" PRIu64 " %" PRIu64 "\n",
+           m->number, m->answer[0], m->answer[1], o->number, o->answer[0], o->answer[1]);
+    for (int i = 0; i < SLICES; i++)
+        if (lent_slices[a->entry] & 1u << i)
+            printf("  %s: %zu elements\n", slice_name[i], a->len[i]);
+    fflush(stdout);
+    abort();
+}
+
+static bool is_lent(const struct asked *a, int s)
+{
+    return (lent_slices[a->entry] & 1u << s) && !(a->whole && s == TEXT);
+}
+
+static void check_slice(const struct asked *a, int s, const struct lent *second, const struct outcome *m, const struct outcome *o)
+{
+    size_t bytes = a->len[s] * slice_width[s], from, to;
+    if (memcmp(region[s].write + region[s].at, second->at[s], bytes) != 0)
+        stop(a, "left otherwise: ", s, m, o);
+    if (a->content[s] != NULL && memcmp(region[s].write + region[s].at, a->content[s], bytes) != 0)
+        stop(a, "an input was written: ", s, m, o);
+    beside(s, bytes, &from, &to);
+    for (size_t i = from; i < to; i++)
+        if (region[s].write[i] != stranger(s, i, a->fill))
+            stop(a, "written beside: ", s, m, o);
+}
+
+static void call_both(const struct asked *a)
+{
+    struct lent library = {0}, second = {0};
+    for (int s = 0; s < SLICES; s++) {
+        library.len[s] = second.len[s] = lent_slices[a->entry] & 1u << s ? a->len[s] : 0;
+        if (is_lent(a, s)) {
+            lend_library(a, s, &library);
+            lend_second(a, s, &second);
+        }
+    }
+    if (a->whole)
+        library.at[TEXT] = second.at[TEXT] = whole_text;
+    struct outcome m = ask_marks(a->entry, &library), o = ask_second(a->entry, &second);
+    if (m.number != o.number || m.answer[0] != o.answer[0] || m.answer[1] != o.answer[1])
+        stop(a, "the number or the answers", -1, &m, &o);
+    if (m.number > 12 || !(can_give[a->entry] & 1u << m.number) ||
+        (m.number != 0 && (m.answer[0] != UNTOUCHED || m.answer[1] != UNTOUCHED)))
+        stop(a, "a number that cannot be given, or an answer beside a refusal", -1, &m, &o);
+    for (int s = 0; s < SLICES; s++)
+        if (is_lent(a, s)) {
+            check_slice(a, s, &second, &m, &o);
+            free(second.at[s]);
+        }
+}
+
+/* ---- from the fuzzer's bytes to a call ---- */
+
+/* the head: which call; flags; choices of tables, word room, output and list; length of the word or file, two bytes */
+enum { WHICH, FLAGS, TABLES_CHOICE, ROOM_CHOICE, OUT_CHOICE, LIST, INPUT_LOW, INPUT_HIGH, HEAD };
+
+/* the calls: five entries on what is there, two on the file of a word, changed at a few places */
+enum { LOAD_CHANGED = ENTRIES, SEARCH_FILE_CHANGED, CALLS };
+
+static size_t chosen(size_t need, uint8_t choice)
+{
+    switch (choice % 4) {
+    case 0: return need;
+    case 1: return need > 0 ? need - 1 : 0;
+    case 2: return need + 1 + choice / 4;
+    default: return choice / 4;
+    }
+}
+
+/* the m that a file declares, as far as it can be seen, so that the rooms can be chosen near it */
+static size_t declared(const uint8_t *file, size_t len)
+{
+    size_t m = len > 1 ? file[1] % 128 : 0;
+    if (len > 2 && file[1] >= 128)
+        m += (size_t)(file[2] % 128) * 128;
+    return m <= MOST_LETTERS + 1 ? m : 3;
+}
+
+static size_t file_of(const uint8_t *word, size_t m, uint8_t *file)
+{
+    static uint16_t tables[6 * (MOST_LETTERS + 1)];
+    uint64_t length = 0;
+    second_save(word, m, tables, sizeof tables / sizeof *tables, file, MOST_FILE, &length);
+    return length;
+}
+
+/* the changes: how many, then for each what is done, where (two bytes), and a value; says how many bytes they took */
+static size_t change(uint8_t *file, size_t *len, const uint8_t *rest, size_t rest_len)
+{
+    size_t changes = rest_len > 0 ? rest[0] % 4 : 0, took = rest_len > 0 ? 1 : 0;
+    for (; changes > 0 && rest_len - took >= 4; changes--, took += 4) {
+        size_t at = ((size_t)rest[took + 1] * 256 + rest[took + 2]) % (*len + 1);
+        uint8_t value = rest[took + 3];
+        if (rest[took] % 4 == 0 && at < *len)
+            file[at] = value;
+        else if (rest[took] % 4 == 1 && *len < MOST_FILE) {
+            memmove(file + at + 1, file + at, *len - at);
+            file[at] = value;
+            *len += 1;
+        } else if (rest[took] % 4 == 2 && at < *len) {
+            memmove(file + at, file + at + 1, *len - at - 1);
+            *len -= 1;
+        } else if (rest[took] % 4 == 3)
+            *len = at;
+    }
+    return took;
+}
+
+/* the word or file of the call, the text behind it, and the length m that its rooms are chosen near */
+static size_t understand_input(const uint8_t *data, size_t size, unsigned call, struct asked *a)
+{
+    static uint8_t file[MOST_FILE + 8];
+    size_t rest = size - HEAD, input = (data[INPUT_LOW] + 256u * data[INPUT_HIGH]) % (rest + 1), took = 0, m = input;
+    a->content[INPUT] = data + HEAD;
+    a->len[INPUT] = input;
+    if (call >= LOAD_CHANGED && input >= 1 && input <= MOST_LETTERS) {
+        a->len[INPUT] = file_of(data + HEAD, input, file);
+        a->content[INPUT] = file;
+        took = change(file, &a->len[INPUT], data + HEAD + input, rest - input);
+    } else if (a->entry == LOAD || a->entry == SEARCH_FILE)
+        m = declared(data + HEAD, input);
+    a->content[TEXT] = data + HEAD + input + took;
+    a->len[TEXT] = rest - input - took;
+    return m;
+}
+
+static void understand(const uint8_t *data, size_t size, struct asked *a)
+{
+    static uint8_t file[MOST_FILE];
+    unsigned call = data[WHICH] % CALLS;
+    a->entry = call == LOAD_CHANGED ? LOAD : call == SEARCH_FILE_CHANGED ? SEARCH_FILE : (enum entry)call;
+    size_t m = understand_input(data, size, call, a);
+    a->len[TABLES] = chosen(6 * (m + 1), data[TABLES_CHOICE]) % (ROOM_BYTES / 2);
+    a->len[ROOM] = chosen(m, data[ROOM_CHOICE]);
+    a->len[OUT] = chosen(a->entry == SAVE && m >= 1 && m <= MOST_LETTERS ? file_of(data + HEAD, m, file) : 12, data[OUT_CHOICE]);
+    a->len[FINDS] = data[LIST];
+    a->fill = data[FLAGS];
+    a->front = data[FLAGS] & 1;
+    a->nulls = data[FLAGS] & 2;
+    a->whole = (data[FLAGS] & 0xF0) == 0xF0 && (lent_slices[a->entry] & 1 << TEXT);
+    if (a->whole)
+        a->len[TEXT] = MOST_TEXT + 1;
+}
+
+/* ---- first inputs ---- */
+
+static const char *seed_dir;
+static unsigned seeds;
+
+static void seed(unsigned call, uint8_t flags, const uint8_t *input, size_t input_len, const uint8_t *tail, size_t tail_len)
+{
+    static uint8_t bytes[4 * MOST_INPUT];
+    char path[4096];
+    uint8_t head[HEAD] = {(uint8_t)call, flags, 0, 0, 0, 4, (uint8_t)(input_len % 256), (uint8_t)(input_len / 256)};
+    memcpy(bytes, head, HEAD);
+    memcpy(bytes + HEAD, input, input_len);
+    if (tail_len > 0)
+        memcpy(bytes + HEAD + input_len, tail, tail_len);
+    snprintf(path, sizeof path, "%s/%05u", seed_dir, seeds++);
+    FILE *f = must(fopen(path, "wb"));
+    fwrite(bytes, 1, HEAD + input_len + tail_len, f);
+    fclose(f);
+}
+
+static void seed_word(const uint8_t *word, size_t m)
+{
+    uint8_t file[MOST_FILE], text[3 * 1100];
+    size_t size = m >= 1 && m <= MOST_LETTERS ? file_of(word, m, file) : 0;
+    for (size_t i = 0; i < 2 * m; i++)
+        text[i] = i < m ? word[i] : word[2 * m - 1 - i];
+    static const uint8_t changes[] = {2, 0, 0, 3, 'b', 1, 255, 255, 0};
+    seed(BUILD, 0, word, m, text, 0);
+    seed(SAVE, 1, word, m, text, 0);
+    seed(SEARCH, 0, word, m, text, 2 * m);
+    seed(SEARCH, 0xF0, word, m, text, 0);
+    if (size == 0)
+        return;
+    seed(LOAD, 0, file, size, text, 0);
+    seed(SEARCH_FILE, 1, file, size, text, 2 * m);
+    seed(SEARCH_FILE, 0xF1, file, size, text, 0);
+    seed(LOAD_CHANGED, 0, word, m, changes, sizeof changes);
+    text[0] = 0;
+    seed(SEARCH_FILE_CHANGED, 0, word, m, text, 2 * m);
+}
+
+static void seed_hex(const char *hex)
+{
+    uint8_t file[64];
+    size_t len = 0;
+    for (unsigned byte; sscanf(hex, "%2x", &byte) == 1; hex += 2)
+        file[len++] = (uint8_t)byte;
+    seed(LOAD, 0, file, len, file, 0);
+    seed(SEARCH_FILE, 0, file, len, (const uint8_t *)"abaab", 5);
+}
+
+/* the file of a word with each of its numbers replaced by each of some spellings; the rest of the file behind it, or not */
+static void seed_spellings(const uint8_t *word, size_t m)
+{
+    static const uint8_t put[][6] = {{0x80, 0},
+                                     {0x81, 1},
+                                     {0xFF, 0x80, 0},
+                                     {0xFF, 0xFF, 1},
+                                     {0x80, 0x80, 0x80, 0},
+                                     {0x80, 0x80, 0x80, 1},
+                                     {0xFF, 0xFF, 0xFF, 0xFF, 0},
+                                     {0xFF, 0xFF, 0xFF, 0xFF, 0x0F},
+                                     {0xFF, 0xFF, 0xFF, 0xFF, 0x10},
+                                     {0xFF, 0xFF, 0xFF, 0xFF, 0x8F, 1}};
+    static const size_t put_len[] = {2, 2, 3, 3, 4, 4, 5, 5, 5, 6};
+    uint8_t file[MOST_FILE], other[MOST_FILE];
+    size_t len = file_of(word, m, file), at = 0;
+    for (unsigned field = 0; at < len; field++) {
+        for (size_t i = 0; i < sizeof put_len / sizeof *put_len; i++) {
+            memcpy(other, file, at);
+            memcpy(other + at, put[i], put_len[i]);
+            memcpy(other + at + put_len[i], file + at + 1, len - at - 1);
+            seed(LOAD, 0, other, len - 1 + put_len[i], other, 0);
+            seed(LOAD, 1, other, at + put_len[i] - 1, other, 0);
+        }
+        at += field == 1 ? 1 + m : 1; /* each number of a short word's file is one byte */
+    }
+}
+
+static void write_seeds(void)
+{
+    static const char *const words[] = {"", "a", "ab", "aa", "aaa", "aba", "abc", "abbbaab", "abcacdace", "abaababaabaab"};
+    static const char *const files[] = {"",
+                                        "01",
+                                        "0100",
+                                        "0101",
+                                        "01FFFFFFFF0F",
+                                        "0180808080",
+                                        "8100",
+                                        "00",
+                                        "02",
+                                        "FFFFFFFF0F",
+                                        "018008",
+                                        "018108",
+                                        "01830061616100",
+                                        "010361616103",
+                                        "0103616161",
+                                        "0103616161010000",
+                                        "01036161610000",
+                                        "0102616200",
+                                        "01026162010000"};
+    static const size_t lengths[] = {16, 64, 127, 128, 129, 300, 1024, 1025};
+    uint8_t word[1100];
+    uint32_t state = 1;
+    for (size_t i = 0; i < sizeof words / sizeof *words; i++)
+        seed_word((const uint8_t *)words[i], strlen(words[i]));
+    for (size_t i = 0; i < sizeof files / sizeof *files; i++)
+        seed_hex(files[i]);
+    seed_spellings((const uint8_t *)"abbbaab", 7);
+    for (size_t l = 0; l < sizeof lengths / sizeof *lengths; l++)
+        for (unsigned kind = 0; kind < (lengths[l] > 300 ? 1 : 4); kind++) {
+            for (size_t i = 0; i < lengths[l]; i++) {
+                state = state * 1664525 + 1013904223;
+                word[i] = kind == 1             ? 'a'
+                          : kind == 2 && i >= 5 ? word[i - 5]
+                          : kind == 3           ? (uint8_t)(state >> 24)
+                                                : (uint8_t)('a' + (state >> 24) % 2);
+            }
+            seed_word(word, lengths[l]);
+        }
+}
+
+/* ---- how much of the proved code was reached ---- */
+
+/* the coverage counters of the proved code, which stands in a shared object of its own with counters.c */
+uint8_t *proved_counters(size_t *many);
+
+static uint8_t reached[1 << 16];
+
+/* libFuzzer clears the counters before each input, so they are gathered after it */
+static void gather(void)
+{
+    size_t many;
+    const uint8_t *counters = proved_counters(&many);
+    for (size_t i = 0; i < many && i < sizeof reached; i++)
+        reached[i] |= counters[i];
+}
+
+static void print_reached(void)
+{
+    size_t many, yes = 0;
+    proved_counters(&many);
+    for (size_t i = 0; i < many && i < sizeof reached; i++)
+        yes += reached[i] != 0;
+    printf("proved code: %zu of %zu edges reached\n", yes, many);
+}
+
+/* ---- what libFuzzer calls ---- */
+
+int LLVMFuzzerInitialize(int *argc, char ***argv)
+{
+    if (*argc == 3 && strcmp((*argv)[1], "--seeds") == 0) {
+        seed_dir = (*argv)[2];
+        write_seeds();
+        exit(0);
+    }
+    make_regions();
+    atexit(print_reached);
+    return 0;
+}
+
+int LLVMFuzzerTestOneInput(const uint8_t *data, size_t size)
+{
+    struct asked a = {0};
+    if (size < HEAD || size > MOST_INPUT)
+        return 0;
+    understand(data, size, &a);
+    call_both(&a);
+    gather();
+    return 0;
+}

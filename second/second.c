@@ -1,0 +1,421 @@
+/* The second implementation: what an oracle is by the suffix rule, a supply by 001's definition, an occurrence by comparing bytes at
+   each place, the letters read by going through the published steps. Nothing here is clever, so that it can be held against the scope
+   document line by line.
+
+   Compiled with -DSLIP=n it has one mistake on purpose, to show that the comparison finds it (tools/second-opinion --slips). The mistakes:
+     slip 1: the letters of a file are asked for after the rooms (5 and 3 exchanged)
+     slip 2: 83 00 is read as 3
+     slip 3: the supply of the last state is one too small
+     slip 4: the last place of the text is not looked at
+     slip 5: a refusal behind 3 leaves the tables as they were
+     slip 6: the failing letter is not counted
+     slip 7: the window moves past f+1
+     slip 8: search judges 3 before 4
+     slip 9: an arrow is judged before its second number is read
+     slip 10: bytes behind the last arrow are let through
+     slip 11: a word of 1,025 letters is taken by build
+     slip 12: a fifth byte of 16 is read
+     slip 13: missing arrows are let through
+     slip 14: a refusal behind 3 leaves the word room as it was
+     slip 15: a text of 16,777,217 bytes is taken
+     slip 16: the count stops at the end of the list
+     slip 17: search leaves the tables of the word and not of its mirror
+     slip 18: the new arrow points at the nearest state with the letter
+     slip 19: saving writes a byte behind the file
+     slip 20: an entry behind the tables is cleared
+     slip 21: loading writes to the file
+     slip 22: 12 touches the output
+     slip 23: a refusal writes an answer
+     slip 24: a find is listed behind the list's end
+     slip 25: leftovers (11) are judged before missing arrows (10)
+     slip 26: m declared as 1,024 is refused
+     slip 27: the edition is not judged
+     slip 28: searching with a file looks for the file's word and not for its mirror
+     slip 29: a short text is answered before the tables are filled
+     slip 30: one arrow of the table is lost when it ends in the last state
+   slip 31 and slip 32 stand in compare.c. */
+#include "second.h"
+
+#include <stdbool.h>
+#include <string.h>
+
+#ifndef SLIP
+#define SLIP 0
+#endif
+
+enum {
+    MOST_LETTERS = 1024,
+    STATES = MOST_LETTERS + 1 + (SLIP == 11),
+    MOST_TEXT = 16777216 + (SLIP == 15),
+    MOST_FILE = 8192 /* more than any file has; the scope document says 5,121 */
+};
+
+/* ---- the oracle: one at a time, as a full matrix ---- */
+
+/* where the arrow of a state on a letter leads; 0 for none, as no arrow leads to 0 */
+static uint16_t leads[STATES][256];
+
+/* supply[i] for i from 1 to m */
+static uint16_t supply[STATES];
+
+/* the extra arrows in the file's order: by rising source, then rising target */
+static struct {
+    uint16_t source, target;
+} extra[STATES];
+static size_t extras;
+
+/* walks the letters p[from] .. p[to-1] from state 0 as far as arrows go; says where it ends, *stop is the place of the first letter not
+   spelled */
+static unsigned walk(const uint8_t *p, size_t from, size_t to, size_t *stop)
+{
+    unsigned state = 0;
+    size_t at = from;
+    while (at < to && leads[state][p[at]] != 0)
+        state = leads[state][p[at++]];
+    *stop = at;
+    return state;
+}
+
+/* the suffix rule: the spine, then a walk of every suffix, from the second letter's to the last's */
+static void make_arrows(const uint8_t *p, size_t m)
+{
+    memset(leads, 0, (m + 1) * sizeof leads[0]);
+    for (size_t i = 0; i < m; i++)
+        leads[i][p[i]] = (uint16_t)(i + 1);
+    for (size_t i = 1; i < m; i++) {
+        size_t k;
+        unsigned j = walk(p, i, m, &k);
+        if (k < m)
+            leads[j][p[k]] = (uint16_t)(k + 1);
+#if SLIP == 18
+        for (size_t near = j; k < m && near < k; near++)
+            if (p[near] == p[k]) {
+                leads[j][p[k]] = (uint16_t)(near + 1);
+                break;
+            }
+#endif
+    }
+}
+
+static void list_extras(const uint8_t *p, size_t m)
+{
+    extras = 0;
+    for (size_t s = 0; s <= m; s++)
+        for (size_t t = s + 2; t <= m; t++)
+            if (leads[s][p[t - 1]] == t) {
+                extra[extras].source = (uint16_t)s;
+                extra[extras].target = (uint16_t)t;
+                extras++;
+            }
+}
+
+/* common[e] is the length of the longest common end of p1..pe and p1..pi, so the longest end of p1..pi that stands there twice is as
+   long as the greatest of them for e below i; the supply is where it is walked to */
+static void find_supplies(const uint8_t *p, size_t m)
+{
+    static uint16_t common[STATES];
+    memset(common, 0, sizeof common);
+    for (size_t i = 1; i <= m; i++) {
+        size_t longest = 0, end;
+        for (size_t e = i - 1; e >= 1; e--) {
+            common[e] = p[e - 1] == p[i - 1] ? (uint16_t)(common[e - 1] + 1) : 0;
+            if (common[e] > longest)
+                longest = common[e];
+        }
+        supply[i] = (uint16_t)walk(p, i - longest, i, &end);
+    }
+    if (SLIP == 3 && supply[m] > 0)
+        supply[m]--;
+}
+
+static void make_oracle(const uint8_t *p, size_t m)
+{
+    make_arrows(p, m);
+    list_extras(p, m);
+    find_supplies(p, m);
+}
+
+/* ---- the tables, as docs/TABLE.md lays them out ---- */
+
+static size_t entries(size_t m)
+{
+    return 6 * (m + 1);
+}
+
+static void clear(void *at, size_t bytes)
+{
+    if (bytes > 0)
+        memset(at, 0, bytes);
+}
+
+static void write_tables(const uint8_t *p, size_t m, uint16_t *tables)
+{
+    size_t n = m + 1, e = 0;
+    clear(tables, entries(m) * sizeof *tables);
+    for (size_t i = 1; i <= m; i++) {
+        tables[i] = p[i - 1];
+        tables[n + i] = supply[i];
+    }
+    for (size_t k = 0; k <= m; k++) {
+        tables[2 * n + k] = (uint16_t)e;
+        while (e < extras && extra[e].source == k) {
+            tables[3 * n + e] = SLIP == 30 && extra[e].target == m ? 0 : extra[e].target;
+            e++;
+        }
+    }
+}
+
+/* ---- the file ---- */
+
+static size_t spell_number(uint32_t number, uint8_t *out)
+{
+    size_t groups = 0;
+    for (; number >= 128; number /= 128)
+        out[groups++] = (uint8_t)(128 + number % 128);
+    out[groups++] = (uint8_t)number;
+    return groups;
+}
+
+static size_t spell_file(const uint8_t *p, size_t m, uint8_t *out)
+{
+    unsigned source = 0;
+    size_t at = spell_number(1, out);
+    at += spell_number((uint32_t)m, out + at);
+    memcpy(out + at, p, m);
+    at += m;
+    at += spell_number((uint32_t)extras, out + at);
+    for (size_t e = 0; e < extras; e++) {
+        at += spell_number((uint32_t)(extra[e].source - source), out + at);
+        at += spell_number((uint32_t)(extra[e].target - extra[e].source - 2), out + at);
+        source = extra[e].source;
+    }
+    return at;
+}
+
+/* reads a number at *at; 0, or the refusal 5 or 6, whichever its bytes show first */
+static uint32_t read_number(const uint8_t *file, size_t file_len, size_t *at, uint32_t *number)
+{
+    *number = 0;
+    for (unsigned group = 0;; group++) {
+        if (*at >= file_len)
+            return 5;
+        uint8_t byte = file[(*at)++];
+        if (group == 4 && byte > (SLIP == 12 ? 16 : 15))
+            return 6;
+        *number |= (uint32_t)(byte % 128) << (7 * group);
+        if (byte < 128)
+            return group > 0 && byte == 0 && SLIP != 2 ? 6 : 0;
+    }
+}
+
+/* reads edition, m and letters, and judges the rooms; on 0 *at is behind the letters */
+static uint32_t read_front(const uint8_t *file, size_t file_len, size_t room_len, size_t tables_len, size_t *at, size_t *m)
+{
+    uint32_t no, number;
+    *at = 0;
+    if ((no = read_number(file, file_len, at, &number)) != 0)
+        return no;
+    if (number != 1 && SLIP != 27)
+        return 7;
+    if ((no = read_number(file, file_len, at, &number)) != 0)
+        return no;
+    if (number < 1 || number > MOST_LETTERS - (SLIP == 26))
+        return 8;
+    *m = number;
+    bool short_room = tables_len < entries(*m) || room_len < *m;
+    if (SLIP == 1 && short_room)
+        return 3;
+    if (file_len - *at < *m)
+        return 5;
+    if (short_room)
+        return 3;
+    *at += *m;
+    return 0;
+}
+
+/* reads the count and the arrows from *at on, against the oracle at hand */
+static uint32_t read_arrows(const uint8_t *file, size_t file_len, size_t at, size_t m)
+{
+    uint32_t no, count, up, over;
+    unsigned source = 0;
+    if ((no = read_number(file, file_len, &at, &count)) != 0)
+        return no;
+    if (count > m - 1)
+        return 9;
+    for (size_t e = 0; e < count; e++) {
+        if ((no = read_number(file, file_len, &at, &up)) != 0)
+            return no;
+        if (SLIP == 9 && (e >= extras || up != (unsigned)(extra[e].source - source)))
+            return 10;
+        if ((no = read_number(file, file_len, &at, &over)) != 0)
+            return no;
+        if (e >= extras || up != (unsigned)(extra[e].source - source) || over != (unsigned)(extra[e].target - extra[e].source - 2))
+            return 10;
+        source = extra[e].source;
+    }
+    if (SLIP == 25 && at < file_len)
+        return 11;
+    if (count < extras && SLIP != 13)
+        return 10;
+    return at < file_len && SLIP != 10 ? 11 : 0;
+}
+
+/* ---- the search ---- */
+
+/* the letters that the published steps read, with the oracle at hand, which is of the mirror of a word of m letters */
+static uint64_t letters_read(const uint8_t *text, size_t n, size_t m)
+{
+    uint64_t letters = 0;
+    size_t s = 0;
+    while (s + m <= n) {
+        unsigned state = 0;
+        size_t unread = m; /* the letter to read next stands at s + unread - 1 */
+        while (unread > 0) {
+            letters++;
+            state = leads[state][text[s + unread - 1]];
+            if (state == 0)
+                break;
+            unread--;
+        }
+        if (SLIP == 6 && unread > 0)
+            letters--;
+        if (unread > 0)
+            s = s + unread + (SLIP == 7 ? 1 : 0); /* f is s + unread - 1 */
+        else
+            s = s + 1;
+    }
+    return letters;
+}
+
+static uint64_t list_occurrences(const uint8_t *word, size_t m, const uint8_t *text, size_t n, uint32_t *finds, size_t finds_len)
+{
+    uint64_t count = 0;
+    for (size_t s = 0; s + m + (SLIP == 4 ? 1 : 0) <= n; s++)
+        if (memcmp(text + s, word, m) == 0) {
+            if (count < finds_len + (SLIP == 24 && finds_len > 0))
+                finds[count] = (uint32_t)s;
+            if (SLIP != 16 || count < finds_len)
+                count++;
+        }
+    return count;
+}
+
+static void mirror(const uint8_t *word, size_t m, uint8_t *out)
+{
+    for (size_t i = 0; i < m; i++)
+        out[i] = word[m - 1 - i];
+}
+
+/* ---- the five entries ---- */
+
+uint32_t second_build(const uint8_t *word, size_t word_len, uint16_t *tables, size_t tables_len, uint64_t *m)
+{
+    if (word_len == 0)
+        return 1;
+    if (word_len > MOST_LETTERS + (SLIP == 11))
+        return 2;
+    if (tables_len < entries(word_len))
+        return 3;
+    make_oracle(word, word_len);
+    write_tables(word, word_len, tables);
+    if (SLIP == 20 && tables_len > entries(word_len))
+        tables[entries(word_len)] = 0;
+    *m = word_len;
+    return 0;
+}
+
+uint32_t second_save(const uint8_t *word, size_t word_len, uint16_t *tables, size_t tables_len, uint8_t *out, size_t out_len,
+                     uint64_t *length)
+{
+    uint8_t file[MOST_FILE];
+    if (word_len == 0)
+        return 1;
+    if (word_len > MOST_LETTERS)
+        return 2;
+    if (tables_len < entries(word_len))
+        return 3;
+    make_oracle(word, word_len);
+    size_t size = spell_file(word, word_len, file);
+    if (out_len < size) {
+        clear(tables, entries(word_len) * sizeof *tables);
+        if (SLIP == 22 && out_len > 0)
+            out[0] = file[0];
+        if (SLIP == 23)
+            *length = size;
+        return 12;
+    }
+    write_tables(word, word_len, tables);
+    memcpy(out, file, size);
+    if (SLIP == 19 && out_len > size)
+        out[size] = 0;
+    *length = size;
+    return 0;
+}
+
+uint32_t second_load(const uint8_t *file, size_t file_len, uint8_t *room, size_t room_len, uint16_t *tables, size_t tables_len, uint64_t *m)
+{
+    size_t at, letters = 0;
+    uint32_t no = read_front(file, file_len, room_len, tables_len, &at, &letters);
+    if (no != 0)
+        return no;
+    const uint8_t *word = file + at - letters;
+    make_oracle(word, letters);
+    no = read_arrows(file, file_len, at, letters);
+    if (no != 0) {
+        if (SLIP != 14)
+            clear(room, letters);
+        if (SLIP != 5)
+            clear(tables, entries(letters) * sizeof *tables);
+        return no;
+    }
+    memcpy(room, word, letters);
+    write_tables(word, letters, tables);
+#if SLIP == 21
+    ((uint8_t *)file)[file_len - 1] ^= 1;
+#endif
+    *m = letters;
+    return 0;
+}
+
+uint32_t second_search(const uint8_t *word, size_t word_len, const uint8_t *text, size_t text_len, uint16_t *tables, size_t tables_len,
+                       uint32_t *finds, size_t finds_len, uint64_t *count, uint64_t *letters)
+{
+    uint8_t mirrored[MOST_LETTERS];
+    if (word_len == 0)
+        return 1;
+    if (word_len > MOST_LETTERS)
+        return 2;
+    if (SLIP == 8 && tables_len < entries(word_len))
+        return 3;
+    if (text_len > MOST_TEXT)
+        return 4;
+    if (tables_len < entries(word_len))
+        return 3;
+    mirror(word, word_len, mirrored);
+    if (SLIP == 17) {
+        make_oracle(word, word_len);
+        write_tables(word, word_len, tables);
+    }
+    make_oracle(mirrored, word_len);
+    if (SLIP != 17 && !(SLIP == 29 && text_len < word_len))
+        write_tables(mirrored, word_len, tables);
+    *count = list_occurrences(word, word_len, text, text_len, finds, finds_len);
+    *letters = letters_read(text, text_len, word_len);
+    return 0;
+}
+
+uint32_t second_search_file(const uint8_t *file, size_t file_len, const uint8_t *text, size_t text_len, uint8_t *room, size_t room_len,
+                            uint16_t *tables, size_t tables_len, uint32_t *finds, size_t finds_len, uint64_t *count, uint64_t *letters)
+{
+    uint8_t sought[MOST_LETTERS];
+    uint64_t m;
+    if (text_len > MOST_TEXT)
+        return 4;
+    uint32_t no = second_load(file, file_len, room, room_len, tables, tables_len, &m);
+    if (no != 0)
+        return no;
+    mirror(room, m, sought); /* the oracle at hand is of the file's word, so of the mirror of what is sought */
+    *count = list_occurrences(SLIP == 28 ? room : sought, m, text, text_len, finds, finds_len);
+    *letters = letters_read(text, text_len, m);
+    return 0;
+}
