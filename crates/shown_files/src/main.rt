@@ -5,10 +5,14 @@ ghost use mathlib.Core.Path.{_≡_};
 ghost use lib.ListN.{length};
 use printed::bytes;
 use printed::entries;
+use printed::make;
+use printed::mixed;
 use printed::nines;
 use printed::number;
 use printed::numbers;
 use printed::sevens;
+use printed::sum_bytes;
+use printed::sum_entries;
 use printed::write;
 
 // Room for a word.
@@ -196,8 +200,416 @@ fn search(file: &[u8], text: &[u8], fit: usize, room: usize, list: usize) -> usi
     )
 }
 
+// A room and an output that are enough, then one short or one longer, and none.
+fn saves(word: &[u8]) {
+    if word.len() <= 1025 {
+        let enough = 6 * (word.len() + 1);
+        let size = save(word, 5121, enough);
+        save(word, size, enough);
+        save(word, size + 1, enough + 1);
+        if 1 <= size {
+            save(word, size - 1, enough);
+        }
+        save(word, size, enough - 1);
+        save(word, 0, enough);
+        save(word, 0, enough - 1);
+        save(word, 0, 0);
+    }
+}
+
+fn load_and_search(file: &[u8], fit: usize, room: usize)
+    requires { ⌜ (fit < 1100) × (room < 6200) ⌝ }
+{
+    load(file, fit, room);
+    search(file, b"baaababba", fit, room, 2);
+}
+
+// Rooms that are enough for m letters, one short or the other, and both longer.
+fn loads(file: &[u8], m: usize)
+    requires { ⌜ (1 ≤ m) × (m ≤ 1024) ⌝ }
+{
+    let enough = 6 * (m + 1);
+    load_and_search(file, m, enough);
+    load_and_search(file, m - 1, enough);
+    load_and_search(file, m, enough - 1);
+    load_and_search(file, m + 1, enough + 1);
+}
+
+// Lists of no number, of one, one short of the finds, just long enough, one longer.
+fn searches(file: &[u8], text: &[u8], m: usize)
+    requires { ⌜ m ≤ 1024 ⌝ }
+{
+    let enough = 6 * (m + 1);
+    let found = search(file, text, m, enough, 0);
+    search(file, text, m, enough, 1);
+    if 2 <= found {
+        search(file, text, m, enough, found - 1);
+        search(file, text, m, enough, found);
+        search(file, text, m, enough, found + 1);
+    }
+}
+
+// Files of `a`, `aaa`, `ab`, `abc`, the least and the greatest byte, and `abbbaab`.
+fn good_files() {
+    loads(b"\x01\x01a\x00", 1);
+    loads(b"\x01\x03aaa\x00", 3);
+    loads(b"\x01\x02ab\x01\x00\x00", 2);
+    loads(b"\x01\x03abc\x02\x00\x00\x00\x01", 3);
+    loads(b"\x01\x02\x00\xff\x01\x00\x00", 2);
+    loads(b"\x01\x07abbbaab\x04\x00\x00\x01\x03\x01\x01\x01\x00", 7);
+}
+
+// ...
+fn bad_editions() {
+    loads(b"", 1);
+    loads(b"\x00", 1);
+    loads(b"\x02", 1);
+    loads(b"\x81", 1);
+    loads(b"\x81\x00", 1);
+    loads(b"\x81\x80\x00", 1);
+    loads(b"\xff\xff\xff\xff\x0f", 1);
+    loads(b"\xff\xff\xff\xff\x10", 1);
+    loads(b"\x81\x80\x80\x80", 1);
+    loads(b"\x81\x80\x80\x80\x00", 1);
+    loads(b"\x81\x80\x80\x80\x8f", 1);
+}
+
+// 
+fn bad_lengths() {
+    loads(b"\x01", 1);
+    loads(b"\x01\x00", 1);
+    loads(b"\x01\x80", 1);
+    loads(b"\x01\x80\x00", 1);
+    loads(b"\x01\x80\x08", 3);
+    loads(b"\x01\x81\x08", 3);
+    loads(b"\x01\xff\xff\xff\xff\x0f", 3);
+    loads(b"\x01\xff\xff\xff\xff\x10", 3);
+    loads(b"\x01\x83\x00aaa\x00", 3);
+    loads(b"\x01\x81\x80\x04a\x00", 1);
+}
+
+// 
+fn bad_letters_and_counts() {
+    loads(b"\x01\x01", 1);
+    loads(b"\x01\x03aa", 3);
+    loads(b"\x01\x01a", 1);
+    loads(b"\x01\x01a\x01", 1);
+    loads(b"\x01\x03aaa", 3);
+    loads(b"\x01\x03aaa\x03", 3);
+    loads(b"\x01\x03aaa\x80", 3);
+    loads(b"\x01\x03aaa\x80\x00", 3);
+    loads(b"\x01\x03aaa\xff\xff\xff\xff\x0f", 3);
+    loads(b"\x01\x03aaa\x80\x80\x04", 3);
+}
+
+// 
+fn arrows_too_many() {
+    loads(b"\x01\x03aaa\x01", 3);
+    loads(b"\x01\x03aaa\x01\x00", 3);
+    loads(b"\x01\x03aaa\x01\x00\x00", 3);
+    loads(b"\x01\x03aaa\x00\x00", 3);
+    loads(b"\x01\x02ab\x01\x00\x00\x00", 2);
+    loads(b"\x01\x03aaa\x01\x80\x00", 3);
+    loads(b"\x01\x03aaa\x01\x00\x80\x00", 3);
+}
+
+// 
+fn arrows_missing_or_wrong() {
+    loads(b"\x01\x02ab\x00", 2);
+    loads(b"\x01\x02ab\x00\x00", 2);
+    loads(b"\x01\x02ab\x01\x01\x00", 2);
+    loads(b"\x01\x02ab\x01\x00\x01", 2);
+    loads(b"\x01\x02ab\x01\x01", 2);
+    loads(b"\x01\x02ab\x01\x01\x80\x00", 2);
+    loads(b"\x01\x02ab\x01\x80\x80\x04\x00", 2);
+    loads(b"\x01\x02ab\x01\xff\xff\xff\xff\x0f\x00", 2);
+}
+
+// 
+fn arrows_exchanged() {
+    loads(b"\x01\x03abc\x02\x00\x01\x00\x00", 3);
+    loads(b"\x01\x03abc\x02\x00\x00\x00\x00", 3);
+    loads(b"\x01\x03abc\x01\x00\x00", 3);
+    loads(b"\x01\x03abc\x02\x00\x00", 3);
+    loads(b"\x01\x03abc\x02\x00\x00\x00\x01\x00", 3);
+}
+
+// A file that declares a number of letters in two bytes and goes on in letters `a`, up to n bytes in all; the byte behind the first 1,024 letters is chosen.
+fn long_file(low: u8, high: u8, behind: u8, n: usize)
+    requires { ⌜ n ≤ 1100 ⌝ }
+{
+    let mut file = [97u8; 1100];
+    file[0] = 1;
+    file[1] = low;
+    file[2] = high;
+    file[1027] = behind;
+    loads(&file[0..n], 1024);
+}
+
+// 1,024 letters and nothing behind them, one letter short, one arrow, none, and a byte too many; then 1,025 and 1,023 letters declared.
+fn long_files() {
+    long_file(128, 8, 0, 1027);
+    long_file(128, 8, 0, 1026);
+    long_file(128, 8, 0, 3);
+    long_file(128, 8, 1, 1028);
+    long_file(128, 8, 1, 1030);
+    long_file(128, 8, 0, 1028);
+    long_file(128, 8, 0, 1029);
+    long_file(129, 8, 0, 1028);
+    long_file(129, 8, 0, 1100);
+    long_file(255, 7, 0, 1028);
+}
+
+// What one load of many answers and leaves: a refusal's number or 0, and a sum over all of it and over the loads before.
+struct Seen {
+    code: u8,
+    sum: u64,
+}
+
+fn code_of(answer: marks::Loaded) -> u8 {
+    match answer {
+        marks::Loaded::Done(m) => 0,
+        marks::Loaded::Refused(why) => why,
+    }
+}
+
+fn length_of(answer: marks::Loaded) -> u64 {
+    match answer {
+        marks::Loaded::Done(m) => m as u64,
+        marks::Loaded::Refused(why) => 0,
+    }
+}
+
+fn load_unseen(before: u64, file: &[u8], letters: &mut [u8], tables: &mut [u16]) -> Seen
+    requires { ⌜ (1 ≤ length (now letters)) × (1 ≤ length (now tables)) ⌝ }
+{
+    let fit = letters.len() - 1;
+    let room = tables.len() - 1;
+    let answer = marks::load(file, &mut letters[0..fit], &mut tables[0..room]);
+    let code = code_of(answer);
+    let answered = mixed(mixed(before, code as u64), length_of(answer));
+    let sum = sum_entries(sum_bytes(answered, letters), tables);
+    Seen { code: code, sum: sum }
+}
+
+// One load of many, in rooms of so many bytes and so many entries.
+fn load_one(before: u64, file: &[u8], fit: usize, room: usize) -> Seen
+    requires { ⌜ (fit < 1100) × (room < 6200) ⌝ }
+{
+    let mut letters = sixes();
+    let mut tables = sevens();
+    load_unseen(before, file, &mut letters[0..fit + 1], &mut tables[0..room + 1])
+}
+
+fn copied(file: &[u8]) -> [u8; 64]
+    requires { ⌜ length (now file) ≤ 64 ⌝ }
+    ensures { λ r. ⌜ 64 ≡ length r ⌝ }
+{
+    let mut copy = [0u8; 64];
+    let mut i = 0;
+    while i < file.len() {
+        copy[i] = file[i];
+        i += 1;
+    }
+    copy
+}
+
+fn load_changed(before: u64, file: &[u8], place: usize, value: u8, fit: usize, room: usize) -> Seen
+    requires { ⌜ (place < length (now file)) × (length (now file) ≤ 64) × (fit < 1100) × (room < 6200) ⌝ }
+{
+    let n = file.len();
+    let mut copy = copied(file);
+    copy[place] = value;
+    load_one(before, &copy[0..n], fit, room)
+}
+
+fn count(codes: &[u8], code: u8) -> usize {
+    let mut found: usize = 0;
+    let mut i = 0;
+    while i < codes.len() {
+        if codes[i] == code {
+            found += 1;
+        }
+        i += 1;
+    }
+    found
+}
+
+// How many loads were good, and how many were refused with each number.
+fn counts(codes: &[u8]) {
+    let mut code: u8 = 0;
+    while code <= 12 {
+        number(count(codes, code) as u64);
+        code += 1;
+    }
+}
+
+fn summary(codes: &[u8], sum: u64) {
+    write(b":");
+    counts(codes);
+    write(b": sum");
+    number(sum);
+    write(b"\n");
+}
+
+// Every byte at one place of a file, the file's own included.
+fn changes_at(file: &[u8], place: usize, fit: usize, room: usize)
+    requires { ⌜ (place < length (now file)) × (length (now file) ≤ 64) × (fit < 1100) × (room < 6200) ⌝ }
+{
+    let mut codes = [99u8; 256];
+    let mut sum: u64 = 0;
+    let mut value: usize = 0;
+    while value < 256 {
+        let seen = load_changed(sum, file, place, value as u8, fit, room);
+        codes[value] = seen.code;
+        sum = seen.sum;
+        value += 1;
+    }
+    write(b" at");
+    number(place as u64);
+    summary(&codes, sum);
+}
+
+// Every byte at each place.
+fn changes(file: &[u8], fit: usize, room: usize)
+    requires { ⌜ (length (now file) ≤ 64) × (fit < 1100) × (room < 6200) ⌝ }
+{
+    let mut place = 0;
+    while place < file.len() {
+        given(b"changed", file);
+        lent(fit, room);
+        changes_at(file, place, fit, room);
+        place += 1;
+    }
+}
+
+// A file cut behind every so many bytes.
+fn cuts(file: &[u8], step: usize, fit: usize, room: usize)
+    requires { ⌜ (length (now file) ≤ 5121) × (1 ≤ step) × (step < 100) × (fit < 1100) × (room < 6200) ⌝ }
+{
+    let mut codes = [99u8; 5121];
+    let mut sum: u64 = 0;
+    let mut n = 0;
+    while n < file.len() {
+        let seen = load_one(sum, &file[0..n], fit, room);
+        codes[n] = seen.code;
+        sum = seen.sum;
+        n += step;
+    }
+    summary(&codes, sum);
+}
+
+// Each beginning of a file.
+fn each_cut(file: &[u8], fit: usize, room: usize)
+    requires { ⌜ (fit < 1100) × (room < 6200) ⌝ }
+{
+    let mut n = 0;
+    while n < file.len() {
+        load_and_search(&file[0..n], fit, room);
+        n += 1;
+    }
+}
+
+// The files of `a`, `ab` and `abbbaab`, in rooms that are just enough and in longer ones, and with one byte more.
+fn all_changes() {
+    changes(b"\x01\x01a\x00\x00", 1, 12);
+    changes(b"\x01\x02ab\x01\x00\x00", 2, 18);
+    changes(b"\x01\x07abbbaab\x04\x00\x00\x01\x03\x01\x01\x01\x00", 7, 48);
+    changes(b"\x01\x07abbbaab\x04\x00\x00\x01\x03\x01\x01\x01\x00", 20, 126);
+    changes(b"\x01\x07abbbaab\x04\x00\x00\x01\x03\x01\x01\x01\x00\x00", 7, 48);
+    each_cut(b"\x01\x07abbbaab\x04\x00\x00\x01\x03\x01\x01\x01\x00", 7, 48);
+}
+
+fn mirrored(made: &[u8]) -> [u8; 3000]
+    requires { ⌜ length (now made) ≡ 3000 ⌝ }
+    ensures { λ r. ⌜ 3000 ≡ length r ⌝ }
+{
+    let mut mirror = [0u8; 3000];
+    let mut i = 0;
+    while i < 3000 {
+        mirror[i] = made[2999 - i];
+        i += 1;
+    }
+    mirror
+}
+
+// The file that is saved: loaded again, with the byte behind it, cut, and searched with.
+fn save_then_load(word: &[u8], text: &[u8], out: &mut [u8], tables: &mut [u16])
+    requires { ⌜ (1 ≤ length (now word)) × (length (now word) ≤ 1024) × (5122 ≤ length (now out)) × (1 ≤ length (now tables)) ⌝ }
+{
+    let m = word.len();
+    let enough = 6 * (m + 1);
+    let size = save_into(word, out, tables);
+    loads(&out[0..size], m);
+    load(&out[0..size + 1], m, enough);
+    searches(&out[0..size], text, m);
+    given(b"cut", &out[0..size]);
+    cuts(&out[0..size], 61, m, enough);
+}
+
+fn through_a_file(word: &[u8], text: &[u8])
+    requires { ⌜ (1 ≤ length (now word)) × (length (now word) ≤ 1024) ⌝ }
+{
+    let mut out = eights();
+    let mut tables = sevens();
+    save_then_load(word, text, &mut out[0..5122], &mut tables[0..6151]);
+}
+
+// Words of one kind at the greatest length, and where a number gets longer.
+fn long(kind: u8) {
+    let made = make(kind);
+    let text = mirrored(&made);
+    saves(&made[0..1024]);
+    saves(&made[0..1025]);
+    through_a_file(&made[0..127], &text);
+    through_a_file(&made[0..128], &text);
+    through_a_file(&made[0..1024], &text);
+}
+
+fn short_saves() {
+    saves(b"");
+    saves(b"a");
+    saves(b"aaa");
+    saves(b"ab");
+    saves(b"abbbaab");
+    saves(b"abcacdace");
+}
+
+// The mirror of `aba` is itself, that of `ab` is `ba`, and that of `abbbaab` is `baabbba`.
+fn searches_for_mirrors() {
+    searches(b"\x01\x03aba\x01\x00\x00", b"ababa", 3);
+    searches(b"\x01\x02ab\x01\x00\x00", b"aab", 2);
+    searches(b"\x01\x02ab\x01\x00\x00", b"bababba", 2);
+    searches(b"\x01\x02ab\x01\x00\x00", b"", 2);
+    searches(b"\x01\x01a\x00", b"a", 1);
+    searches(b"\x01\x03aaa\x00", b"aaaaa", 3);
+    searches(b"\x01\x03aaa\x00", b"aa", 3);
+    searches(b"\x01\x07abbbaab\x04\x00\x00\x01\x03\x01\x01\x01\x00", b"xxxxabaabbba", 7);
+}
+
+// Words whose oracles accept more than factors, and the least and the greatest byte.
+fn short_words_through_files() {
+    through_a_file(b"abbbaab", b"bbbbababaabbbabaabbba");
+    through_a_file(b"abcacdace", b"xxxxxecacxecadcacbaecadcacba");
+    through_a_file(b"\x00\xff\x00\x00", b"\x00\x00\x00\xff\x00\x00\xff\x00");
+}
+
 fn main() {
-    save(b"abbbaab", 48, 18);
-    load(b"\x01\x01a\x00", 1, 12);
-    search(b"\x01\x01a\x00", b"aba", 1, 12, 3);
+    short_saves();
+    good_files();
+    bad_editions();
+    bad_lengths();
+    bad_letters_and_counts();
+    arrows_too_many();
+    arrows_missing_or_wrong();
+    arrows_exchanged();
+    long_files();
+    all_changes();
+    searches_for_mirrors();
+    short_words_through_files();
+    let mut kind: u8 = 0;
+    while kind < 5 {
+        long(kind);
+        kind += 1;
+    }
 }
