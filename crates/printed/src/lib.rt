@@ -106,7 +106,7 @@ pub fn bytes(s: &[u8]) {
     number(sum_bytes(0, s));
 }
 
-// A room of table entries, and a list of finds.
+// A room of table entries, a list of finds, room for a word, and room for a file.
 pub fn sevens() -> [u16; 6200]
     ensures { λ r. ⌜ 6200 ≡ length r ⌝ }
 {
@@ -117,6 +117,111 @@ pub fn nines() -> [u32; 3100]
     ensures { λ r. ⌜ 3100 ≡ length r ⌝ }
 {
     [9; 3100]
+}
+
+pub fn sixes() -> [u8; 1100]
+    ensures { λ r. ⌜ 1100 ≡ length r ⌝ }
+{
+    [6; 1100]
+}
+
+pub fn eights() -> [u8; 5200]
+    ensures { λ r. ⌜ 5200 ≡ length r ⌝ }
+{
+    [8; 5200]
+}
+
+// What is handed to an entry: how long it is, and its bytes.
+pub fn given(name: &[u8], s: &[u8]) {
+    write(name);
+    number(s.len() as u64);
+    write(b":");
+    bytes(s);
+}
+
+// How many bytes and entries the entry is lent.
+pub fn lent(fit: usize, room: usize) {
+    write(b":");
+    number(fit as u64);
+    number(room as u64);
+}
+
+// What stands in them afterwards, and behind them.
+pub fn left(s: &[u8], table: &[u16]) {
+    write(b":");
+    bytes(s);
+    write(b":");
+    entries(table);
+    write(b"\n");
+}
+
+// The same of a search with a file.
+pub fn lent_to_search(file: &[u8], text: &[u8], fit: usize, room: usize, list: usize) {
+    given(b"search", file);
+    given(b": in", text);
+    lent(fit, room);
+    number(list as u64);
+}
+
+pub fn left_by_search(finds: &[u32], letters: &[u8], tables: &[u16]) {
+    write(b":");
+    numbers(finds);
+    left(letters, tables);
+}
+
+// What an entry answers, and the number of its refusal.
+pub fn done(answer: u64) {
+    write(b" done");
+    number(answer);
+}
+
+pub fn refused(why: u64) {
+    write(b" refused");
+    number(why);
+}
+
+// What one load of many answers and leaves: a refusal's number or 0, and a sum over all of it and over the loads before.
+pub struct Seen {
+    pub code: u8,
+    pub sum: u64,
+}
+
+pub fn see(before: u64, code: u8, m: u64, letters: &[u8], tables: &[u16]) -> Seen {
+    let answered = mixed(mixed(before, code as u64), m);
+    let sum = sum_entries(sum_bytes(answered, letters), tables);
+    Seen {
+        code: code,
+        sum: sum,
+    }
+}
+
+fn count(codes: &[u8], code: u8) -> usize {
+    let mut found: usize = 0;
+    let mut i = 0;
+    while i < codes.len() {
+        if codes[i] == code {
+            found += 1;
+        }
+        i += 1;
+    }
+    found
+}
+
+fn counts(codes: &[u8]) {
+    let mut code: u8 = 0;
+    while code <= 12 {
+        number(count(codes, code) as u64);
+        code += 1;
+    }
+}
+
+// Of many loads: how many were good, how many were refused with each number, and a sum over all that was seen.
+pub fn summary(codes: &[u8], sum: u64) {
+    write(b":");
+    counts(codes);
+    write(b": sum");
+    number(sum);
+    write(b"\n");
 }
 
 // The largest Fibonacci number that is at most k.
@@ -174,4 +279,32 @@ pub fn make(kind: u8) -> [u8; 3000]
         i += 1;
     }
     made
+}
+
+pub fn mirrored(made: &[u8]) -> [u8; 3000]
+    requires { ⌜ length (now made) ≡ 3000 ⌝ }
+    ensures { λ r. ⌜ 3000 ≡ length r ⌝ }
+{
+    let mut mirror = [0u8; 3000];
+    let mut i = 0;
+    while i < 3000 {
+        mirror[i] = made[2999 - i];
+        i += 1;
+    }
+    mirror
+}
+
+// A file with one byte changed.
+pub fn changed(file: &[u8], place: usize, value: u8) -> [u8; 64]
+    requires { ⌜ (place < length (now file)) × (length (now file) ≤ 64) ⌝ }
+    ensures { λ r. ⌜ 64 ≡ length r ⌝ }
+{
+    let mut copy = [0u8; 64];
+    let mut i = 0;
+    while i < file.len() {
+        copy[i] = file[i];
+        i += 1;
+    }
+    copy[place] = value;
+    copy
 }

@@ -3,23 +3,22 @@
 ghost use Prim.Native.Nat.{_<_, _≤_};
 ghost use mathlib.Core.Path.{_≡_};
 ghost use lib.ListN.{length};
+use printed::done;
 use printed::entries;
 use printed::make;
 use printed::nines;
 use printed::number;
 use printed::numbers;
+use printed::refused;
 use printed::sevens;
 use printed::write;
 
 fn tell_build(answer: marks::Built) {
     match answer {
-        marks::Built::Done(m) => {
-            write(b" done");
-            number(m as u64);
-        }
-        marks::Built::EmptyWord => write(b" refused 1"),
-        marks::Built::LongWord => write(b" refused 2"),
-        marks::Built::ShortRoom => write(b" refused 3"),
+        marks::Built::Done(m) => done(m as u64),
+        marks::Built::EmptyWord => refused(1),
+        marks::Built::LongWord => refused(2),
+        marks::Built::ShortRoom => refused(3),
     }
 }
 
@@ -54,17 +53,16 @@ fn tell_search(answer: marks::Searched) -> usize
 {
     match answer {
         marks::Searched::Done(tally) => {
-            write(b" done");
-            number(tally.count as u64);
+            done(tally.count as u64);
             number(tally.letters);
             if tally.count <= 3000 {
                 return tally.count;
             }
         }
-        marks::Searched::EmptyWord => write(b" refused 1"),
-        marks::Searched::LongWord => write(b" refused 2"),
-        marks::Searched::ShortRoom => write(b" refused 3"),
-        marks::Searched::LongText => write(b" refused 4"),
+        marks::Searched::EmptyWord => refused(1),
+        marks::Searched::LongWord => refused(2),
+        marks::Searched::ShortRoom => refused(3),
+        marks::Searched::LongText => refused(4),
     }
     0
 }

@@ -3,55 +3,25 @@
 ghost use Prim.Native.Nat.{_<_, _≤_};
 ghost use mathlib.Core.Path.{_≡_};
 ghost use lib.ListN.{length};
-use printed::bytes;
-use printed::entries;
+use printed::Seen;
+use printed::changed;
+use printed::done;
+use printed::eights;
+use printed::given;
+use printed::left;
+use printed::left_by_search;
+use printed::lent;
+use printed::lent_to_search;
 use printed::make;
-use printed::mixed;
+use printed::mirrored;
 use printed::nines;
 use printed::number;
-use printed::numbers;
+use printed::refused;
+use printed::see;
 use printed::sevens;
-use printed::sum_bytes;
-use printed::sum_entries;
+use printed::sixes;
+use printed::summary;
 use printed::write;
-
-// Room for a word.
-fn sixes() -> [u8; 1100]
-    ensures { λ r. ⌜ 1100 ≡ length r ⌝ }
-{
-    [6; 1100]
-}
-
-// Room for a file.
-fn eights() -> [u8; 5200]
-    ensures { λ r. ⌜ 5200 ≡ length r ⌝ }
-{
-    [8; 5200]
-}
-
-// What is handed to an entry: how long it is, and its bytes.
-fn given(name: &[u8], s: &[u8]) {
-    write(name);
-    number(s.len() as u64);
-    write(b":");
-    bytes(s);
-}
-
-// How many bytes and entries the entry is lent.
-fn lent(fit: usize, room: usize) {
-    write(b":");
-    number(fit as u64);
-    number(room as u64);
-}
-
-// What stands in them afterwards, and behind them.
-fn left(s: &[u8], table: &[u16]) {
-    write(b":");
-    bytes(s);
-    write(b":");
-    entries(table);
-    write(b"\n");
-}
 
 // Answers the file's length, where it is one that a file can have.
 fn tell_save(answer: marks::Saved) -> usize
@@ -59,16 +29,15 @@ fn tell_save(answer: marks::Saved) -> usize
 {
     match answer {
         marks::Saved::Done(size) => {
-            write(b" done");
-            number(size as u64);
+            done(size as u64);
             if size <= 5121 {
                 return size;
             }
         }
-        marks::Saved::EmptyWord => write(b" refused 1"),
-        marks::Saved::LongWord => write(b" refused 2"),
-        marks::Saved::ShortRoom => write(b" refused 3"),
-        marks::Saved::ShortOutput => write(b" refused 12"),
+        marks::Saved::EmptyWord => refused(1),
+        marks::Saved::LongWord => refused(2),
+        marks::Saved::ShortRoom => refused(3),
+        marks::Saved::ShortOutput => refused(12),
     }
     0
 }
@@ -99,14 +68,8 @@ fn save(word: &[u8], fit: usize, room: usize) -> usize
 
 fn tell_load(answer: marks::Loaded) {
     match answer {
-        marks::Loaded::Done(m) => {
-            write(b" done");
-            number(m as u64);
-        }
-        marks::Loaded::Refused(why) => {
-            write(b" refused");
-            number(why as u64);
-        }
+        marks::Loaded::Done(m) => done(m as u64),
+        marks::Loaded::Refused(why) => refused(why as u64),
     }
 }
 
@@ -137,17 +100,13 @@ fn tell_search(answer: marks::FileSearched) -> usize
 {
     match answer {
         marks::FileSearched::Done(tally) => {
-            write(b" done");
-            number(tally.count as u64);
+            done(tally.count as u64);
             number(tally.letters);
             if tally.count <= 3000 {
                 return tally.count;
             }
         }
-        marks::FileSearched::Refused(why) => {
-            write(b" refused");
-            number(why as u64);
-        }
+        marks::FileSearched::Refused(why) => refused(why as u64),
     }
     0
 }
@@ -165,10 +124,7 @@ fn search_into(
     let fit = letters.len() - 1;
     let room = tables.len() - 1;
     let list = finds.len() - 1;
-    given(b"search", file);
-    given(b": in", text);
-    lent(fit, room);
-    number(list as u64);
+    lent_to_search(file, text, fit, room, list);
     let answer = marks::search_file(
         file,
         text,
@@ -177,9 +133,7 @@ fn search_into(
         &mut finds[0..list],
     );
     let found = tell_search(answer);
-    write(b":");
-    numbers(finds);
-    left(letters, tables);
+    left_by_search(finds, letters, tables);
     found
 }
 
@@ -259,7 +213,7 @@ fn good_files() {
     loads(b"\x01\x07abbbaab\x04\x00\x00\x01\x03\x01\x01\x01\x00", 7);
 }
 
-// ...
+// The file ends in its first number or before it, the edition is another, or its spelling is none.
 fn bad_editions() {
     loads(b"", 1);
     loads(b"\x00", 1);
@@ -274,7 +228,7 @@ fn bad_editions() {
     loads(b"\x81\x80\x80\x80\x8f", 1);
 }
 
-// 
+// The same of the number of letters; 0, 1,025, 65,537 and the greatest number are declared.
 fn bad_lengths() {
     loads(b"\x01", 1);
     loads(b"\x01\x00", 1);
@@ -288,7 +242,7 @@ fn bad_lengths() {
     loads(b"\x01\x81\x80\x04a\x00", 1);
 }
 
-// 
+// Letters that are cut, and counts of arrows that are cut, too many or badly spelled.
 fn bad_letters_and_counts() {
     loads(b"\x01\x01", 1);
     loads(b"\x01\x03aa", 3);
@@ -302,7 +256,7 @@ fn bad_letters_and_counts() {
     loads(b"\x01\x03aaa\x80\x80\x04", 3);
 }
 
-// 
+// Arrows that the word does not have, cut, badly spelled or all there, and bytes behind the last.
 fn arrows_too_many() {
     loads(b"\x01\x03aaa\x01", 3);
     loads(b"\x01\x03aaa\x01\x00", 3);
@@ -313,8 +267,8 @@ fn arrows_too_many() {
     loads(b"\x01\x03aaa\x01\x00\x80\x00", 3);
 }
 
-// 
-fn arrows_missing_or_wrong() {
+// Arrows that are missing, differ in one number or in both, stand in another order or twice, and one that is wrong before it ends or is badly spelled.
+fn wrong_arrows() {
     loads(b"\x01\x02ab\x00", 2);
     loads(b"\x01\x02ab\x00\x00", 2);
     loads(b"\x01\x02ab\x01\x01\x00", 2);
@@ -323,10 +277,6 @@ fn arrows_missing_or_wrong() {
     loads(b"\x01\x02ab\x01\x01\x80\x00", 2);
     loads(b"\x01\x02ab\x01\x80\x80\x04\x00", 2);
     loads(b"\x01\x02ab\x01\xff\xff\xff\xff\x0f\x00", 2);
-}
-
-// 
-fn arrows_exchanged() {
     loads(b"\x01\x03abc\x02\x00\x01\x00\x00", 3);
     loads(b"\x01\x03abc\x02\x00\x00\x00\x00", 3);
     loads(b"\x01\x03abc\x01\x00\x00", 3);
@@ -360,36 +310,16 @@ fn long_files() {
     long_file(255, 7, 0, 1028);
 }
 
-// What one load of many answers and leaves: a refusal's number or 0, and a sum over all of it and over the loads before.
-struct Seen {
-    code: u8,
-    sum: u64,
-}
-
-fn code_of(answer: marks::Loaded) -> u8 {
-    match answer {
-        marks::Loaded::Done(m) => 0,
-        marks::Loaded::Refused(why) => why,
-    }
-}
-
-fn length_of(answer: marks::Loaded) -> u64 {
-    match answer {
-        marks::Loaded::Done(m) => m as u64,
-        marks::Loaded::Refused(why) => 0,
-    }
-}
-
-fn load_unseen(before: u64, file: &[u8], letters: &mut [u8], tables: &mut [u16]) -> Seen
+fn see_load(before: u64, file: &[u8], letters: &mut [u8], tables: &mut [u16]) -> Seen
     requires { ⌜ (1 ≤ length (now letters)) × (1 ≤ length (now tables)) ⌝ }
 {
     let fit = letters.len() - 1;
     let room = tables.len() - 1;
     let answer = marks::load(file, &mut letters[0..fit], &mut tables[0..room]);
-    let code = code_of(answer);
-    let answered = mixed(mixed(before, code as u64), length_of(answer));
-    let sum = sum_entries(sum_bytes(answered, letters), tables);
-    Seen { code: code, sum: sum }
+    match answer {
+        marks::Loaded::Done(m) => see(before, 0, m as u64, letters, tables),
+        marks::Loaded::Refused(why) => see(before, why, 0, letters, tables),
+    }
 }
 
 // One load of many, in rooms of so many bytes and so many entries.
@@ -398,71 +328,27 @@ fn load_one(before: u64, file: &[u8], fit: usize, room: usize) -> Seen
 {
     let mut letters = sixes();
     let mut tables = sevens();
-    load_unseen(before, file, &mut letters[0..fit + 1], &mut tables[0..room + 1])
-}
-
-fn copied(file: &[u8]) -> [u8; 64]
-    requires { ⌜ length (now file) ≤ 64 ⌝ }
-    ensures { λ r. ⌜ 64 ≡ length r ⌝ }
-{
-    let mut copy = [0u8; 64];
-    let mut i = 0;
-    while i < file.len() {
-        copy[i] = file[i];
-        i += 1;
-    }
-    copy
-}
-
-fn load_changed(before: u64, file: &[u8], place: usize, value: u8, fit: usize, room: usize) -> Seen
-    requires { ⌜ (place < length (now file)) × (length (now file) ≤ 64) × (fit < 1100) × (room < 6200) ⌝ }
-{
-    let n = file.len();
-    let mut copy = copied(file);
-    copy[place] = value;
-    load_one(before, &copy[0..n], fit, room)
-}
-
-fn count(codes: &[u8], code: u8) -> usize {
-    let mut found: usize = 0;
-    let mut i = 0;
-    while i < codes.len() {
-        if codes[i] == code {
-            found += 1;
-        }
-        i += 1;
-    }
-    found
-}
-
-// How many loads were good, and how many were refused with each number.
-fn counts(codes: &[u8]) {
-    let mut code: u8 = 0;
-    while code <= 12 {
-        number(count(codes, code) as u64);
-        code += 1;
-    }
-}
-
-fn summary(codes: &[u8], sum: u64) {
-    write(b":");
-    counts(codes);
-    write(b": sum");
-    number(sum);
-    write(b"\n");
+    see_load(
+        before,
+        file,
+        &mut letters[0..fit + 1],
+        &mut tables[0..room + 1],
+    )
 }
 
 // Every byte at one place of a file, the file's own included.
 fn changes_at(file: &[u8], place: usize, fit: usize, room: usize)
     requires { ⌜ (place < length (now file)) × (length (now file) ≤ 64) × (fit < 1100) × (room < 6200) ⌝ }
 {
+    let n = file.len();
     let mut codes = [99u8; 256];
     let mut sum: u64 = 0;
     let mut value: usize = 0;
     while value < 256 {
-        let seen = load_changed(sum, file, place, value as u8, fit, room);
-        codes[value] = seen.code;
-        sum = seen.sum;
+        let other = changed(file, place, value as u8);
+        let load = load_one(sum, &other[0..n], fit, room);
+        codes[value] = load.code;
+        sum = load.sum;
         value += 1;
     }
     write(b" at");
@@ -491,9 +377,9 @@ fn cuts(file: &[u8], step: usize, fit: usize, room: usize)
     let mut sum: u64 = 0;
     let mut n = 0;
     while n < file.len() {
-        let seen = load_one(sum, &file[0..n], fit, room);
-        codes[n] = seen.code;
-        sum = seen.sum;
+        let load = load_one(sum, &file[0..n], fit, room);
+        codes[n] = load.code;
+        sum = load.sum;
         n += step;
     }
     summary(&codes, sum);
@@ -510,41 +396,41 @@ fn each_cut(file: &[u8], fit: usize, room: usize)
     }
 }
 
-// The files of `a`, `ab` and `abbbaab`, in rooms that are just enough and in longer ones, and with one byte more.
+// A file and one byte behind it: changed in rooms that are just enough and in longer ones, with that byte too, and cut.
+fn long_changes(longer: &[u8])
+    requires { ⌜ length (now longer) ≡ 19 ⌝ }
+{
+    changes(&longer[0..18], 7, 48);
+    changes(&longer[0..18], 20, 126);
+    changes(longer, 7, 48);
+    each_cut(&longer[0..18], 7, 48);
+}
+
+// The files of `a`, with one byte more, of `ab` and of `abbbaab`.
 fn all_changes() {
     changes(b"\x01\x01a\x00\x00", 1, 12);
     changes(b"\x01\x02ab\x01\x00\x00", 2, 18);
-    changes(b"\x01\x07abbbaab\x04\x00\x00\x01\x03\x01\x01\x01\x00", 7, 48);
-    changes(b"\x01\x07abbbaab\x04\x00\x00\x01\x03\x01\x01\x01\x00", 20, 126);
-    changes(b"\x01\x07abbbaab\x04\x00\x00\x01\x03\x01\x01\x01\x00\x00", 7, 48);
-    each_cut(b"\x01\x07abbbaab\x04\x00\x00\x01\x03\x01\x01\x01\x00", 7, 48);
+    long_changes(b"\x01\x07abbbaab\x04\x00\x00\x01\x03\x01\x01\x01\x00\x00");
 }
 
-fn mirrored(made: &[u8]) -> [u8; 3000]
-    requires { ⌜ length (now made) ≡ 3000 ⌝ }
-    ensures { λ r. ⌜ 3000 ≡ length r ⌝ }
+// A file and one byte behind it: the file loaded, with that byte too, searched with, and cut.
+fn load_again(longer: &[u8], size: usize, text: &[u8], m: usize)
+    requires { ⌜ (size < length (now longer)) × (size ≤ 5121) × (1 ≤ m) × (m ≤ 1024) ⌝ }
 {
-    let mut mirror = [0u8; 3000];
-    let mut i = 0;
-    while i < 3000 {
-        mirror[i] = made[2999 - i];
-        i += 1;
-    }
-    mirror
+    let enough = 6 * (m + 1);
+    loads(&longer[0..size], m);
+    load(&longer[0..size + 1], m, enough);
+    searches(&longer[0..size], text, m);
+    given(b"cut", &longer[0..size]);
+    cuts(&longer[0..size], 61, m, enough);
 }
 
-// The file that is saved: loaded again, with the byte behind it, cut, and searched with.
 fn save_then_load(word: &[u8], text: &[u8], out: &mut [u8], tables: &mut [u16])
     requires { ⌜ (1 ≤ length (now word)) × (length (now word) ≤ 1024) × (5122 ≤ length (now out)) × (1 ≤ length (now tables)) ⌝ }
 {
     let m = word.len();
-    let enough = 6 * (m + 1);
     let size = save_into(word, out, tables);
-    loads(&out[0..size], m);
-    load(&out[0..size + 1], m, enough);
-    searches(&out[0..size], text, m);
-    given(b"cut", &out[0..size]);
-    cuts(&out[0..size], 61, m, enough);
+    load_again(out, size, text, m);
 }
 
 fn through_a_file(word: &[u8], text: &[u8])
@@ -584,7 +470,11 @@ fn searches_for_mirrors() {
     searches(b"\x01\x01a\x00", b"a", 1);
     searches(b"\x01\x03aaa\x00", b"aaaaa", 3);
     searches(b"\x01\x03aaa\x00", b"aa", 3);
-    searches(b"\x01\x07abbbaab\x04\x00\x00\x01\x03\x01\x01\x01\x00", b"xxxxabaabbba", 7);
+    searches(
+        b"\x01\x07abbbaab\x04\x00\x00\x01\x03\x01\x01\x01\x00",
+        b"xxxxabaabbba",
+        7,
+    );
 }
 
 // Words whose oracles accept more than factors, and the least and the greatest byte.
@@ -601,8 +491,7 @@ fn main() {
     bad_lengths();
     bad_letters_and_counts();
     arrows_too_many();
-    arrows_missing_or_wrong();
-    arrows_exchanged();
+    wrong_arrows();
     long_files();
     all_changes();
     searches_for_mirrors();

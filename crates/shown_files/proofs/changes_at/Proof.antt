@@ -6,19 +6,31 @@ use Rattle.shown_files.proofs.changes_at.Statement.{statement}
 use Rattle.shown_files.proofs.changes_at.Tie as tie
 
 abbrev Inv-loop : tie.InvT-loop
-Inv-loop file place fit room codes₀ sum₀ value₀ t9 codes sum value = (value ≤ 256) × (length codes ≡ 256)
+Inv-loop file place fit room n codes₀ sum₀ value₀ t11 codes sum value = (value ≤ 256) × (length codes ≡ 256)
 
 abbrev μ-loop : tie.MeasureT-loop
-μ-loop file place fit room codes₀ sum₀ value₀ t9 codes sum value = 256 - value
+μ-loop file place fit room n codes₀ sum₀ value₀ t11 codes sum value = 256 - value
 
 loop-holds : tie.Need-loop-holds Inv-loop μ-loop
 loop-holds c = search needs
 
-cast-load-changed : tie.Need-cast-load-changed Inv-loop μ-loop
-cast-load-changed c = search needs
+cast-changed : tie.Need-cast-changed Inv-loop μ-loop
+cast-changed c = search needs
 
-load-changed-requires : tie.Need-load-changed-requires Inv-loop μ-loop
-load-changed-requires c κs = search needs
+changed-requires : tie.Need-changed-requires Inv-loop μ-loop
+changed-requires c κs = search needs
+
+sub-load-one : tie.Need-sub-load-one Inv-loop μ-loop
+sub-load-one c = search needs
+
+part-load-one-start : tie.Need-part-load-one-start Inv-loop μ-loop
+part-load-one-start c = search needs
+
+part-load-one-end : tie.Need-part-load-one-end Inv-loop μ-loop
+part-load-one-end c = search needs
+
+load-one-requires : tie.Need-load-one-requires Inv-loop μ-loop
+load-one-requires c κs = search needs
 
 array-write-codes : tie.Need-array-write-codes Inv-loop μ-loop
 array-write-codes c = search needs
@@ -57,8 +69,12 @@ changes-at-spec =
     Inv-loop
     μ-loop
     loop-holds
-    cast-load-changed
-    load-changed-requires
+    cast-changed
+    changed-requires
+    sub-load-one
+    part-load-one-start
+    part-load-one-end
+    load-one-requires
     array-write-codes
     add-value
     loop-less

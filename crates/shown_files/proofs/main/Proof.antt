@@ -27,11 +27,8 @@ bad-letters-and-counts-requires c κs = search needs
 arrows-too-many-requires : tie.Need-arrows-too-many-requires Inv-loop μ-loop
 arrows-too-many-requires c κs = search needs
 
-arrows-missing-or-wrong-requires : tie.Need-arrows-missing-or-wrong-requires Inv-loop μ-loop
-arrows-missing-or-wrong-requires c κs = search needs
-
-arrows-exchanged-requires : tie.Need-arrows-exchanged-requires Inv-loop μ-loop
-arrows-exchanged-requires c κs = search needs
+wrong-arrows-requires : tie.Need-wrong-arrows-requires Inv-loop μ-loop
+wrong-arrows-requires c κs = search needs
 
 long-files-requires : tie.Need-long-files-requires Inv-loop μ-loop
 long-files-requires c κs = search needs
@@ -75,8 +72,7 @@ main-spec =
     bad-lengths-requires
     bad-letters-and-counts-requires
     arrows-too-many-requires
-    arrows-missing-or-wrong-requires
-    arrows-exchanged-requires
+    wrong-arrows-requires
     long-files-requires
     all-changes-requires
     searches-for-mirrors-requires

@@ -3,8 +3,8 @@ use Prim.Native.Nat.{_-_, _≤_}
 use mathlib.Core.Logic.{⊎-elim}
 use native.Mathlib.Omega.{arith}
 use borrow.Author.Needs.{needs}
-use Rattle.shown_files.proofs.count.Statement.{statement}
-use Rattle.shown_files.proofs.count.Tie as tie
+use Rattle.printed.proofs.count.Statement.{statement}
+use Rattle.printed.proofs.count.Tie as tie
 
 abbrev Inv-loop : tie.InvT-loop
 Inv-loop codes code found₀ i₀ found i = (i ≤ length codes) × (found ≤ i)

@@ -2,8 +2,8 @@ use lib.ListN.{length}
 use mathlib.Core.Path.{_≡_}
 use Prim.Native.Nat.{_-_, _≤_}
 use borrow.Author.Needs.{needs}
-use Rattle.shown_files.proofs.mirrored.Statement.{statement}
-use Rattle.shown_files.proofs.mirrored.Tie as tie
+use Rattle.printed.proofs.mirrored.Statement.{statement}
+use Rattle.printed.proofs.mirrored.Tie as tie
 
 abbrev Inv-loop : tie.InvT-loop
 Inv-loop made mirror₀ i₀ mirror i = (i ≤ 3000) × (length mirror ≡ 3000)

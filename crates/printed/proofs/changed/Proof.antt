@@ -2,14 +2,14 @@ use lib.ListN.{length}
 use mathlib.Core.Path.{_≡_}
 use Prim.Native.Nat.{_-_, _≤_}
 use borrow.Author.Needs.{needs}
-use Rattle.shown_files.proofs.copied.Statement.{statement}
-use Rattle.shown_files.proofs.copied.Tie as tie
+use Rattle.printed.proofs.changed.Statement.{statement}
+use Rattle.printed.proofs.changed.Tie as tie
 
 abbrev Inv-loop : tie.InvT-loop
-Inv-loop file copy₀ i₀ copy i = (i ≤ length file) × (64 ≡ length copy)
+Inv-loop file place value copy₀ i₀ copy i = (i ≤ length file) × (64 ≡ length copy)
 
 abbrev μ-loop : tie.MeasureT-loop
-μ-loop file copy₀ i₀ copy i = length file - i
+μ-loop file place value copy₀ i₀ copy i = length file - i
 
 loop-holds : tie.Need-loop-holds Inv-loop μ-loop
 loop-holds c = search needs
@@ -29,11 +29,14 @@ loop-less c = search needs
 loop-again : tie.Need-loop-again Inv-loop μ-loop
 loop-again c = search needs
 
+array-write-copy-2 : tie.Need-array-write-copy-2 Inv-loop μ-loop
+array-write-copy-2 c = search needs
+
 returns : tie.Need-returns Inv-loop μ-loop
 returns c = search needs
 
-pub copied-spec : {M : Type 1} → statement M
-copied-spec =
+pub changed-spec : {M : Type 1} → statement M
+changed-spec =
     tie.close
     (tie.spec
     Inv-loop
@@ -44,4 +47,5 @@ copied-spec =
     add-i
     loop-less
     loop-again
+    array-write-copy-2
     returns)

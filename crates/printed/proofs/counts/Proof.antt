@@ -1,7 +1,7 @@
 use Prim.Native.Nat.{_-_, _≤_}
 use borrow.Author.Needs.{needs}
-use Rattle.shown_files.proofs.counts.Statement.{statement}
-use Rattle.shown_files.proofs.counts.Tie as tie
+use Rattle.printed.proofs.counts.Statement.{statement}
+use Rattle.printed.proofs.counts.Tie as tie
 
 abbrev Inv-loop : tie.InvT-loop
 Inv-loop codes code₀ code = code ≤ 13
