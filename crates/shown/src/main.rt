@@ -3,162 +3,23 @@
 ghost use Prim.Native.Nat.{_<_, _≤_};
 ghost use mathlib.Core.Path.{_≡_};
 ghost use lib.ListN.{length};
-use libc::STDOUT_FILENO;
-
-fn write(s: &[u8]) {
-    io::write_all(STDOUT_FILENO, s);
-}
-
-fn number(x: u64) {
-    write(b" ");
-    io::print_decimal(STDOUT_FILENO, x);
-}
-
-// Every number, or a sum that tells their order too where they are many.
-fn numbers(list: &[u32]) {
-    if list.len() <= 64 {
-        each(list);
-        return;
-    }
-    write(b" sum");
-    number(sum(list));
-}
-
-fn each(list: &[u32]) {
-    let mut i = 0;
-    while i < list.len() {
-        let x = list[i];
-        number(x as u64);
-        i += 1;
-    }
-}
-
-fn sum(list: &[u32]) -> u64
-    ensures { λ r. ⌜ r < 1000003 ⌝ }
-{
-    let mut s: u64 = 0;
-    let mut i = 0;
-    while i < list.len() {
-        let x = list[i];
-        s = mixed(s, x);
-        i += 1;
-    }
-    s
-}
-
-fn mixed(s: u64, x: u32) -> u64
-    requires { ⌜ s < 1000003 ⌝ }
-    ensures { λ r. ⌜ r < 1000003 ⌝ }
-{
-    (s * 31 + (x as u64)) % 1000003
-}
-
-// A table's entries as numbers.
-fn widen(table: &[u16], wide: &mut [u32])
-    requires { ⌜ length (now table) ≡ length (now wide) ⌝ }
-{
-    let mut i = 0;
-    while i < table.len() {
-        let x = table[i];
-        wide[i] = x as u32;
-        i += 1;
-    }
-}
-
-fn zeros() -> [u32; 6200]
-    ensures { λ r. ⌜ 6200 ≡ length r ⌝ }
-{
-    [0; 6200]
-}
-
-fn entries(table: &[u16]) {
-    let mut wide = zeros();
-    if table.len() <= 6200 {
-        let count = table.len();
-        widen(table, &mut wide[0..count]);
-        numbers(&wide[0..count]);
-    }
-}
-
-// The largest Fibonacci number that is at most k.
-fn fibonacci_up_to(k: usize) -> usize
-    requires { ⌜ (2 ≤ k) × (k < 3000) ⌝ }
-    ensures { λ r. ⌜ (1 ≤ r) × (r ≤ k) ⌝ }
-{
-    let mut a: usize = 1;
-    let mut b: usize = 2;
-    while b <= k {
-        let c = a + b;
-        a = b;
-        b = c;
-    }
-    a
-}
-
-// Letter i of the Fibonacci word.
-fn fibonacci_letter(i: usize) -> u8
-    requires { ⌜ i < 3000 ⌝ }
-{
-    let mut k = i;
-    while 2 <= k {
-        k = k - fibonacci_up_to(k);
-    }
-    if k == 0 { b'a' } else { b'b' }
-}
-
-// Letter i of a word of some kind: one letter, every byte in turn, three letters in turn, Fibonacci, mixed.
-fn letter(kind: u8, i: usize) -> u8
-    requires { ⌜ i < 3000 ⌝ }
-{
-    if kind == 0 {
-        return b'a';
-    }
-    if kind == 1 {
-        return (i % 256) as u8;
-    }
-    if kind == 2 {
-        return 97 + ((i % 3) as u8);
-    }
-    if kind == 3 {
-        return fibonacci_letter(i);
-    }
-    97 + (((i * i * 7 + i * 3 + i / 5) % 11 % 4) as u8)
-}
-
-fn make(kind: u8) -> [u8; 3000]
-    ensures { λ r. ⌜ 3000 ≡ length r ⌝ }
-{
-    let mut made = [0u8; 3000];
-    let mut i = 0;
-    while i < 3000 {
-        made[i] = letter(kind, i);
-        i += 1;
-    }
-    made
-}
+use printed::done;
+use printed::entries;
+use printed::make;
+use printed::nines;
+use printed::number;
+use printed::numbers;
+use printed::refused;
+use printed::sevens;
+use printed::write;
 
 fn tell_build(answer: marks::Built) {
     match answer {
-        marks::Built::Done(m) => {
-            write(b" done");
-            number(m as u64);
-        }
-        marks::Built::EmptyWord => write(b" refused 1"),
-        marks::Built::LongWord => write(b" refused 2"),
-        marks::Built::ShortRoom => write(b" refused 3"),
+        marks::Built::Done(m) => done(m as u64),
+        marks::Built::EmptyWord => refused(1),
+        marks::Built::LongWord => refused(2),
+        marks::Built::ShortRoom => refused(3),
     }
-}
-
-fn sevens() -> [u16; 6200]
-    ensures { λ r. ⌜ 6200 ≡ length r ⌝ }
-{
-    [7; 6200]
-}
-
-fn nines() -> [u32; 3100]
-    ensures { λ r. ⌜ 3100 ≡ length r ⌝ }
-{
-    [9; 3100]
 }
 
 // One build, in a room of so many entries that hold 7, with one behind it that must stay.
@@ -192,17 +53,16 @@ fn tell_search(answer: marks::Searched) -> usize
 {
     match answer {
         marks::Searched::Done(tally) => {
-            write(b" done");
-            number(tally.count as u64);
+            done(tally.count as u64);
             number(tally.letters);
             if tally.count <= 3000 {
                 return tally.count;
             }
         }
-        marks::Searched::EmptyWord => write(b" refused 1"),
-        marks::Searched::LongWord => write(b" refused 2"),
-        marks::Searched::ShortRoom => write(b" refused 3"),
-        marks::Searched::LongText => write(b" refused 4"),
+        marks::Searched::EmptyWord => refused(1),
+        marks::Searched::LongWord => refused(2),
+        marks::Searched::ShortRoom => refused(3),
+        marks::Searched::LongText => refused(4),
     }
     0
 }

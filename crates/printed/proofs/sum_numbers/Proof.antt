@@ -1,16 +1,15 @@
 use lib.ListN.{length}
-use mathlib.Core.Path.{_≡_}
 use Prim.Native.Nat.{_-_, _≤_}
 use native.Mathlib.Omega.{arith}
 use borrow.Author.Needs.{needs}
-use Rattle.shown.proofs.widen.Statement.{statement}
-use Rattle.shown.proofs.widen.Tie as tie
+use Rattle.printed.proofs.sum_numbers.Statement.{statement}
+use Rattle.printed.proofs.sum_numbers.Tie as tie
 
 abbrev Inv-loop : tie.InvT-loop
-Inv-loop table wide₀ i₀ wide i = (i ≤ length table) × (length wide ≡ length wide₀)
+Inv-loop start list sum₀ i₀ sum i = i ≤ length list
 
 abbrev μ-loop : tie.MeasureT-loop
-μ-loop table wide₀ i₀ wide i = length table - i
+μ-loop start list sum₀ i₀ sum i = length list - i
 
 loop-holds : tie.Need-loop-holds Inv-loop μ-loop
 loop-holds c = search needs
@@ -21,16 +20,13 @@ mul-x c = search needs
 shared-slice-read-x : tie.Need-shared-slice-read-x Inv-loop μ-loop
 shared-slice-read-x c = search needs
 
-cast-wide : tie.Need-cast-wide Inv-loop μ-loop
-cast-wide c =
+cast-mixed : tie.Need-cast-mixed Inv-loop μ-loop
+cast-mixed c =
     let at-loop = c .before .before in
-    omega (arith, c .shared-slice-known .given (at-loop .loop .i))
+    omega (arith, c .shared-slice-known2 .given (at-loop .loop .i))
 
-mul-wide : tie.Need-mul-wide Inv-loop μ-loop
-mul-wide c = search needs
-
-slice-write-wide : tie.Need-slice-write-wide Inv-loop μ-loop
-slice-write-wide c = search needs
+mixed-requires : tie.Need-mixed-requires Inv-loop μ-loop
+mixed-requires c κs = search needs
 
 add-i : tie.Need-add-i Inv-loop μ-loop
 add-i c = search needs
@@ -41,14 +37,11 @@ loop-less c = search needs
 loop-again : tie.Need-loop-again Inv-loop μ-loop
 loop-again c = search needs
 
-same-length : tie.Need-same-length Inv-loop μ-loop
-same-length c = search needs
-
 returns : tie.Need-returns Inv-loop μ-loop
 returns c = search needs
 
-pub widen-spec : {M : Type 1} → statement M
-widen-spec =
+pub sum-numbers-spec : {M : Type 1} → statement M
+sum-numbers-spec =
     tie.close
     (tie.spec
     Inv-loop
@@ -56,11 +49,9 @@ widen-spec =
     loop-holds
     mul-x
     shared-slice-read-x
-    cast-wide
-    mul-wide
-    slice-write-wide
+    cast-mixed
+    mixed-requires
     add-i
     loop-less
     loop-again
-    same-length
     returns)

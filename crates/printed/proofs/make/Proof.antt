@@ -2,8 +2,8 @@ use lib.ListN.{length}
 use mathlib.Core.Path.{_≡_}
 use Prim.Native.Nat.{_-_, _≤_}
 use borrow.Author.Needs.{needs}
-use Rattle.shown.proofs.make.Statement.{statement}
-use Rattle.shown.proofs.make.Tie as tie
+use Rattle.printed.proofs.make.Statement.{statement}
+use Rattle.printed.proofs.make.Tie as tie
 
 abbrev Inv-loop : tie.InvT-loop
 Inv-loop kind made₀ i₀ made i = (i ≤ 3000) × (length made ≡ 3000)

@@ -1,14 +1,15 @@
 use lib.ListN.{length}
-use Prim.Native.Nat.{_-_, _≤_, _<_}
+use Prim.Native.Nat.{_-_, _≤_}
+use native.Mathlib.Omega.{arith}
 use borrow.Author.Needs.{needs}
-use Rattle.shown.proofs.sum.Statement.{statement}
-use Rattle.shown.proofs.sum.Tie as tie
+use Rattle.printed.proofs.each_number.Statement.{statement}
+use Rattle.printed.proofs.each_number.Tie as tie
 
 abbrev Inv-loop : tie.InvT-loop
-Inv-loop list s₀ i₀ s i = (i ≤ length list) × (s < 1000003)
+Inv-loop list i₀ i = i ≤ length list
 
 abbrev μ-loop : tie.MeasureT-loop
-μ-loop list s₀ i₀ s i = length list - i
+μ-loop list i₀ i = length list - i
 
 loop-holds : tie.Need-loop-holds Inv-loop μ-loop
 loop-holds c = search needs
@@ -19,8 +20,13 @@ mul-x c = search needs
 shared-slice-read-x : tie.Need-shared-slice-read-x Inv-loop μ-loop
 shared-slice-read-x c = search needs
 
-mixed-requires : tie.Need-mixed-requires Inv-loop μ-loop
-mixed-requires c κs = search needs
+cast-number : tie.Need-cast-number Inv-loop μ-loop
+cast-number c =
+    let at-loop = c .before .before in
+    omega (arith, c .shared-slice-known2 .given (at-loop .loop .i))
+
+number-requires : tie.Need-number-requires Inv-loop μ-loop
+number-requires c κs = search needs
 
 add-i : tie.Need-add-i Inv-loop μ-loop
 add-i c = search needs
@@ -34,8 +40,8 @@ loop-again c = search needs
 returns : tie.Need-returns Inv-loop μ-loop
 returns c = search needs
 
-pub sum-spec : {M : Type 1} → statement M
-sum-spec =
+pub each-number-spec : {M : Type 1} → statement M
+each-number-spec =
     tie.close
     (tie.spec
     Inv-loop
@@ -43,7 +49,8 @@ sum-spec =
     loop-holds
     mul-x
     shared-slice-read-x
-    mixed-requires
+    cast-number
+    number-requires
     add-i
     loop-less
     loop-again

@@ -1,7 +1,7 @@
 use Prim.Native.Nat.{_+_, _-_, _≤_}
 use borrow.Author.Needs.{needs}
-use Rattle.shown.proofs.fibonacci_up_to.Statement.{statement}
-use Rattle.shown.proofs.fibonacci_up_to.Tie as tie
+use Rattle.printed.proofs.fibonacci_up_to.Statement.{statement}
+use Rattle.printed.proofs.fibonacci_up_to.Tie as tie
 
 abbrev Inv-loop : tie.InvT-loop
 Inv-loop k a₀ b₀ a b = (1 ≤ a) × (a ≤ k) × (1 ≤ b) × (b ≤ k + k)

@@ -2,14 +2,14 @@ use lib.ListN.{length}
 use Prim.Native.Nat.{_-_, _≤_}
 use native.Mathlib.Omega.{arith}
 use borrow.Author.Needs.{needs}
-use Rattle.shown.proofs.each.Statement.{statement}
-use Rattle.shown.proofs.each.Tie as tie
+use Rattle.printed.proofs.sum_entries.Statement.{statement}
+use Rattle.printed.proofs.sum_entries.Tie as tie
 
 abbrev Inv-loop : tie.InvT-loop
-Inv-loop list i₀ i = i ≤ length list
+Inv-loop start table sum₀ i₀ sum i = i ≤ length table
 
 abbrev μ-loop : tie.MeasureT-loop
-μ-loop list i₀ i = length list - i
+μ-loop start table sum₀ i₀ sum i = length table - i
 
 loop-holds : tie.Need-loop-holds Inv-loop μ-loop
 loop-holds c = search needs
@@ -20,13 +20,13 @@ mul-x c = search needs
 shared-slice-read-x : tie.Need-shared-slice-read-x Inv-loop μ-loop
 shared-slice-read-x c = search needs
 
-cast-number : tie.Need-cast-number Inv-loop μ-loop
-cast-number c =
+cast-mixed : tie.Need-cast-mixed Inv-loop μ-loop
+cast-mixed c =
     let at-loop = c .before .before in
     omega (arith, c .shared-slice-known2 .given (at-loop .loop .i))
 
-number-requires : tie.Need-number-requires Inv-loop μ-loop
-number-requires c κs = search needs
+mixed-requires : tie.Need-mixed-requires Inv-loop μ-loop
+mixed-requires c κs = search needs
 
 add-i : tie.Need-add-i Inv-loop μ-loop
 add-i c = search needs
@@ -40,8 +40,8 @@ loop-again c = search needs
 returns : tie.Need-returns Inv-loop μ-loop
 returns c = search needs
 
-pub each-spec : {M : Type 1} → statement M
-each-spec =
+pub sum-entries-spec : {M : Type 1} → statement M
+sum-entries-spec =
     tie.close
     (tie.spec
     Inv-loop
@@ -49,8 +49,8 @@ each-spec =
     loop-holds
     mul-x
     shared-slice-read-x
-    cast-number
-    number-requires
+    cast-mixed
+    mixed-requires
     add-i
     loop-less
     loop-again

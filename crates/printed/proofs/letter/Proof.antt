@@ -1,8 +1,8 @@
 use native.Mathlib.Nat.{le-of-lt, mul-le-mul}
 use native.Mathlib.Omega.{arith}
 use borrow.Author.Needs.{needs}
-use Rattle.shown.proofs.letter.Statement.{statement}
-use Rattle.shown.proofs.letter.Tie as tie
+use Rattle.printed.proofs.letter.Statement.{statement}
+use Rattle.printed.proofs.letter.Tie as tie
 
 returns : tie.Need-returns
 returns c = search needs

@@ -1,7 +1,7 @@
 use Prim.Native.Nat.{_<_}
 use borrow.Author.Needs.{needs}
-use Rattle.shown.proofs.fibonacci_letter.Statement.{statement}
-use Rattle.shown.proofs.fibonacci_letter.Tie as tie
+use Rattle.printed.proofs.fibonacci_letter.Statement.{statement}
+use Rattle.printed.proofs.fibonacci_letter.Tie as tie
 
 abbrev Inv-loop : tie.InvT-loop
 Inv-loop i k₀ k = k < 3000
