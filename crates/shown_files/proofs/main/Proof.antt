@@ -45,8 +45,8 @@ short-words-through-files-requires c κs = search needs
 loop-holds : tie.Need-loop-holds Inv-loop μ-loop
 loop-holds c = search needs
 
-long-requires : tie.Need-long-requires Inv-loop μ-loop
-long-requires c κs = search needs
+long-of-kind-requires : tie.Need-long-of-kind-requires Inv-loop μ-loop
+long-of-kind-requires c κs = search needs
 
 add-kind : tie.Need-add-kind Inv-loop μ-loop
 add-kind c = search needs
@@ -78,7 +78,7 @@ main-spec =
     searches-for-mirrors-requires
     short-words-through-files-requires
     loop-holds
-    long-requires
+    long-of-kind-requires
     add-kind
     loop-less
     loop-again
