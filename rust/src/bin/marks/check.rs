@@ -1,0 +1,37 @@
+//! `marks check`: whether mark files are good, and what they find.
+
+use crate::{
+    input,
+    output::Output,
+    trouble,
+    word::{counted, mirror, quoted},
+};
+use marks::{Mark, Refusal};
+use std::ffi::OsString;
+
+/// Whether all that could be read are good.
+pub fn check(files: &[OsString], output: &mut Output) -> bool {
+    let mut good = true;
+    for name in files {
+        match input::mark_file(name) {
+            Ok(bytes) => {
+                let loaded = Mark::from_file(&bytes);
+                good &= loaded.is_ok();
+                output.line_of(input::label(name), format_args!(": {}", verdict(loaded)));
+            }
+            Err(trouble) => output.complain(&trouble),
+        }
+    }
+    good
+}
+
+fn verdict(loaded: Result<Mark, Refusal>) -> String {
+    match loaded {
+        Ok(mark) => {
+            let (word, back) = (mark.word(), mirror(mark.word()));
+            let held = if back == word { String::new() } else { format!("; it holds the mirror, {}", quoted(&back)) };
+            format!("good, finds {} ({}{held})", quoted(word), counted(word.len(), "letter"))
+        }
+        Err(refusal) => format!("refused: {refusal}; {}", trouble::advice(refusal)),
+    }
+}

@@ -1,0 +1,73 @@
+//! What went wrong with one thing, and what to do about it.
+
+use marks::Refusal;
+use std::{
+    fmt,
+    io::{self, ErrorKind},
+};
+
+pub struct Trouble {
+    of: String,
+    happened: String,
+    advice: String,
+}
+
+impl Trouble {
+    pub fn new(of: impl Into<String>, happened: impl Into<String>, advice: impl Into<String>) -> Trouble {
+        Trouble { of: of.into(), happened: happened.into(), advice: advice.into() }
+    }
+
+    pub fn opening(of: String, error: &io::Error) -> Trouble {
+        match error.kind() {
+            ErrorKind::NotFound | ErrorKind::NotADirectory => Trouble::new(of, "there is no such file", "check its name"),
+            ErrorKind::PermissionDenied => Trouble::new(of, "you may not read it", "ask its owner, or chmod +r it"),
+            _ => Trouble::new(of, format!("it cannot be opened: {error}"), "check its name"),
+        }
+    }
+
+    /// A file that opened and cannot be read beyond its first `read` bytes.
+    pub fn reading(of: String, error: &io::Error, read: u64) -> Trouble {
+        match error.kind() {
+            ErrorKind::IsADirectory => Trouble::new(of, "it is a directory", "name the files in it"),
+            _ => Trouble::new(
+                of,
+                format!("reading stopped after {read} bytes: {error}"),
+                "copy what can be copied to a sound disk and try that",
+            ),
+        }
+    }
+
+    pub fn writing(of: String, error: &io::Error) -> Trouble {
+        match error.kind() {
+            ErrorKind::NotFound => Trouble::new(of, "its directory is not there", "make that first, or name another place"),
+            ErrorKind::PermissionDenied => Trouble::new(of, "you may not write it", "name another place"),
+            ErrorKind::IsADirectory => Trouble::new(of, "it is a directory", "name a file in it"),
+            ErrorKind::StorageFull => Trouble::new(of, "the disk is full", "make room and try again, what was written is not whole"),
+            _ => Trouble::new(of, format!("it cannot be written: {error}"), "name another place"),
+        }
+    }
+
+    pub fn refused(of: String, refusal: Refusal) -> Trouble {
+        Trouble::new(of, refusal.to_string(), advice(refusal))
+    }
+}
+
+impl fmt::Display for Trouble {
+    fn fmt(&self, f: &mut fmt::Formatter<'_>) -> fmt::Result {
+        write!(f, "{}: {}; {}", self.of, self.happened, self.advice)
+    }
+}
+
+/// What to do about a refusal.
+pub fn advice(refusal: Refusal) -> &'static str {
+    match refusal {
+        Refusal::EmptyWord | Refusal::LongWord => "give 1 to 1,024 bytes",
+        Refusal::CutFile => "it was cut: copy it again, or save the mark again",
+        Refusal::BadNumber => "it is damaged or no mark file: save the mark again; docs/FILE.md has the spelling",
+        Refusal::OtherEdition => "it is no mark file, or of a later edition: save the mark again",
+        Refusal::BadLength | Refusal::BadCount | Refusal::WrongArrow => "it is damaged or no mark file: save the mark again",
+        Refusal::Leftovers => "something was added to it: save the mark again",
+        // the program lends room enough for every word and every file, and texts in parts
+        Refusal::ShortRoom | Refusal::LongText | Refusal::ShortOutput => "this is a fault of the program: report it",
+    }
+}

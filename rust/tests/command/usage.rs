@@ -1,0 +1,68 @@
+//! Help, version, options, and command lines that ask for nothing that can be done.
+
+use crate::Folder;
+
+#[test]
+fn help_fits_a_screen() {
+    let here = Folder::new("help");
+    let said = here.marks(&["--help"]);
+    assert_eq!((said.status, said.err.as_str()), (Some(0), ""));
+    assert!(said.out.lines().count() <= 24 && said.out.lines().all(|line| line.chars().count() <= 80), "{}", said.out);
+    for word in ["find", "save", "check", "show", "-x", "-m", "-X", "-c", "-H", "-h", "--dot", "--help", "--version", "mirror"] {
+        assert!(said.out.contains(word), "{word}");
+    }
+    assert_eq!(here.marks(&["find", "--help"]), said);
+    assert_eq!(here.marks(&["check", "-x", "--help"]), said);
+    here.marks(&["--version"]).is(0, concat!("marks ", env!("CARGO_PKG_VERSION"), "\n"));
+}
+
+#[test]
+fn options_stand_anywhere_up_to_two_hyphens() {
+    let here = Folder::new("options").with("ride", "ababa").with("-c", "-aba");
+    here.marks(&["find", "aba", "ride", "-c"]).is(0, "2\n");
+    here.marks(&["-c", "find", "aba", "ride"]).is(0, "2\n");
+    here.marks(&["find", "616261", "-Hx", "ride", "-X"]).is(0, "ride:0x0\nride:0x2\n");
+    here.marks(&["find", "--", "aba", "-c"]).is(0, "1\n");
+    here.marks(&["find", "aba", "--", "ride", "-c"]).is(0, "ride:0\nride:2\n-c:1\n");
+    here.marks(&["find", "--", "-a", "-c"]).is(0, "0\n");
+    here.marks(&["find", "-H", "--", "aba", "--"]).is_with(2, "", "marks: --: there is no such file; check its name\n");
+}
+
+#[test]
+fn what_cannot_be_done_is_said_with_what_to_do() {
+    let here = Folder::new("usage").with("ride", "ababa");
+    let commands = "it is find, save, check or show; marks --help has more";
+    let options = "marks --help lists the options, and -- goes before a word that begins with - and is none";
+    let save = "it takes a WORD and the file to write; as in marks save -x 2e464954 fit.mark";
+    let show = "it takes one MARKFILE; name one that marks save wrote, or - for standard input";
+    let cases: [(&[&str], &str); 24] = [
+        (&[], &format!("command: none is given; {commands}")),
+        (&["-c"], &format!("command: none is given; {commands}")),
+        (&["fnid", "a", "ride"], &format!("fnid: there is no such command; {commands}")),
+        (&["find"], "find: no WORD is given; give the word to find, or a mark file with -m"),
+        (&["find", "a"], "find: no FILE is given; name the files to look in, or - for standard input"),
+        (&["find", "-m", "x"], "find: no FILE is given; name the files to look in, or - for standard input"),
+        (&["find", "a", "ride", "-m"], "-m: no mark file follows it; name one that marks save wrote"),
+        (&["find", "ride", "--mark"], "-m: no mark file follows it; name one that marks save wrote"),
+        (&["find", "-m", "x", "--mark=y", "ride"], "-m: it is given twice; look for one mark at a time"),
+        (&["find", "-x", "-m", "x", "ride"], "find: both -x and -m are given; give WORD in hex, or a mark file"),
+        (&["find", "-m", "-", "ride", "-"], "find: - is both the mark file and a FILE; name one of them"),
+        (&["find", "-z", "a", "ride"], &format!("-z: there is no such option; {options}")),
+        (&["find", "-cz", "a", "ride"], &format!("-z: there is no such option; {options}")),
+        (&["find", "--colour", "a", "ride"], &format!("--colour: there is no such option; {options}")),
+        (&["find", "--colour=red", "a", "ride"], &format!("--colour: there is no such option; {options}")),
+        (&["find", "--count=3", "a", "ride"], "--count: it takes no value; leave = and what follows out"),
+        (&["find", "--dot", "a", "ride"], "find: --dot is for show; leave it out"),
+        (&["check", "-x", "ride"], "check: --hex is for find and save; leave it out"),
+        (&["save", "-c", "a", "b"], "save: --count is for find; leave it out"),
+        (&["save", "a"], &format!("save: {save}")),
+        (&["save", "a", "b", "c"], &format!("save: {save}")),
+        (&["check"], "check: no MARKFILE is given; name the mark files to check, or - for standard input"),
+        (&["show"], &format!("show: {show}")),
+        (&["show", "--dot", "a", "b"], &format!("show: {show}")),
+    ];
+    for (words, said) in cases {
+        here.marks(words).is_with(2, "", &format!("marks: {said}\n"));
+    }
+    here.marks(&["show", "-m", "ride"]).is_with(2, "", "marks: show: --mark is for find; leave it out\n");
+}
