@@ -32,7 +32,7 @@ fn an_out_that_cannot_be_written() {
     here.marks(&["save", "ab", "/dev/full"]).is_with(
         2,
         "",
-        &complaint("/dev/full", "the disk is full; make room and try again, what was written is not whole"),
+        &complaint("/dev/full", "the disk is full; make room and run it again, for what was written is not whole"),
     );
     let long = "n".repeat(300);
     here.marks(&["save", "ab", &long]).is_with(

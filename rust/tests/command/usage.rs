@@ -35,7 +35,7 @@ fn what_cannot_be_done_is_said_with_what_to_do() {
     let options = "marks --help lists the options, and -- goes before a word that begins with - and is none";
     let save = "it takes a WORD and the file to write; as in marks save -x 2e464954 fit.mark";
     let show = "it takes one MARKFILE; name one that marks save wrote, or - for standard input";
-    let cases: [(&[&str], &str); 24] = [
+    let cases: [(&[&str], &str); 25] = [
         (&[], &format!("command: none is given; {commands}")),
         (&["-c"], &format!("command: none is given; {commands}")),
         (&["fnid", "a", "ride"], &format!("fnid: there is no such command; {commands}")),
@@ -51,6 +51,7 @@ fn what_cannot_be_done_is_said_with_what_to_do() {
         (&["find", "-cz", "a", "ride"], &format!("-z: there is no such option; {options}")),
         (&["find", "--colour", "a", "ride"], &format!("--colour: there is no such option; {options}")),
         (&["find", "--colour=red", "a", "ride"], &format!("--colour: there is no such option; {options}")),
+        (&["find", "--\u{1b}[2J", "a", "ride"], &format!("--\\u{{1b}}[2J: there is no such option; {options}")),
         (&["find", "--count=3", "a", "ride"], "--count: it takes no value; leave = and what follows out"),
         (&["find", "--dot", "a", "ride"], "find: --dot is for show; leave it out"),
         (&["check", "-x", "ride"], "check: --hex is for find and save; leave it out"),

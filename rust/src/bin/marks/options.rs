@@ -1,6 +1,6 @@
 //! The options of the command line, told from the other words: they stand anywhere, short ones may share a word, and `--` ends them.
 
-use crate::trouble::Trouble;
+use crate::{input, trouble::Trouble};
 use std::{
     ffi::{OsStr, OsString},
     os::unix::ffi::OsStrExt,
@@ -109,6 +109,6 @@ impl Words {
 }
 
 fn known(spelled: &[u8], is: impl Fn(&Known) -> bool) -> Result<&'static Known, Trouble> {
-    let unknown = || Trouble::new(String::from_utf8_lossy(spelled), "there is no such option", LISTED);
+    let unknown = || Trouble::new(input::shown(OsStr::from_bytes(spelled)), "there is no such option", LISTED);
     KNOWN.iter().find(|known| is(known)).ok_or_else(unknown)
 }

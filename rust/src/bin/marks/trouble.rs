@@ -42,7 +42,7 @@ impl Trouble {
             ErrorKind::NotFound => Trouble::new(of, "its directory is not there", "make that first, or name another place"),
             ErrorKind::PermissionDenied => Trouble::new(of, "you may not write it", "name another place"),
             ErrorKind::IsADirectory => Trouble::new(of, "it is a directory", "name a file in it"),
-            ErrorKind::StorageFull => Trouble::new(of, "the disk is full", "make room and try again, what was written is not whole"),
+            ErrorKind::StorageFull => Trouble::new(of, "the disk is full", "make room and run it again, for what was written is not whole"),
             _ => Trouble::new(of, format!("it cannot be written: {error}"), "name another place"),
         }
     }
