@@ -1,4 +1,5 @@
-// Loading a saved file: reading it field by field and comparing its arrows with the word's own. Nothing is written here. Serves the entries.
+// Loading a saved file: reading it field by field and comparing its arrows with the word's own. Nothing is written here. Serves the
+// entries.
 ghost use mathlib.Core.Path.{_≡_};
 ghost use Rattle.number.specs.Number.{numberAt};
 ghost use Rattle.saved.specs.File.{ownSteps};

@@ -1,5 +1,5 @@
-// The entries: any word, any text and any room may be handed to them. Each answers, or refuses with a number of the table in docs/PROMISES.md, and its one
-// promise fixes the answer and every entry of every lent buffer, for refusals too.
+// The entries: any word, any text and any room may be handed to them. Each answers, or refuses with a number of the table in
+// docs/PROMISES.md, and its one promise fixes the answer and every entry of every lent buffer, for refusals too.
 ghost use mathlib.Core.Path.{_≡_};
 ghost use Prim.Native.Nat.{_+_, _*_, _<_, _≤_};
 ghost use lib.ListN.{length, replicate};
@@ -53,7 +53,8 @@ pub enum Searched {
 
 // Every place where the word stands in the text. The list gets the first of them, as many as fit; the count is exact.
 pub fn search(word: &[u8], text: &[u8], tables: &mut [u16], finds: &mut [u32]) -> Searched
-    ensures { λ r. ⌜ searched r (now (tables .exit)) (now (finds .exit)) ≡ searchSays (now (word .entry)) (now (text .entry)) (now (tables .entry)) (now (finds .entry)) ⌝ }
+    ensures { λ r. ⌜ searched r (now (tables .exit)) (now (finds .exit))
+        ≡ searchSays (now (word .entry)) (now (text .entry)) (now (tables .entry)) (now (finds .entry)) ⌝ }
 {
     let m = word.len();
     if m < 1 {
@@ -84,7 +85,8 @@ pub enum Saved {
 
 // The file of a word, at the front of the output.
 pub fn save(word: &[u8], tables: &mut [u16], out: &mut [u8]) -> Saved
-    ensures { λ r. ⌜ savedAs r (now (tables .exit)) (now (out .exit)) ≡ saveSays (now (word .entry)) (now (tables .entry)) (now (out .entry)) ⌝ }
+    ensures { λ r. ⌜ savedAs r (now (tables .exit)) (now (out .exit))
+        ≡ saveSays (now (word .entry)) (now (tables .entry)) (now (out .entry)) ⌝ }
 {
     let m = word.len();
     if m < 1 {
@@ -124,11 +126,13 @@ pub enum Loaded {
     Refused(u8),
 }
 
-// The file's letters from a place on and their table, into rooms that are just long enough; or zeros there, and the number, where the arrows behind them are not the word's own.
+// The file's letters from a place on and their table, into rooms that are just long enough; or zeros there, and the number, where the
+// arrows behind them are not the word's own.
 fn take_word(file: &[u8], at: usize, room: &mut [u8], table: &mut [u16]) -> Loaded
     requires { do ⌜ (at + (← ⟦room.len()⟧) ≤ (← ⟦file.len()⟧)) × ((← ⟦table.len()⟧) ≡ 6 * ((← ⟦room.len()⟧) + 1)) ⌝ }
     requires { do ⌜ (1 ≤ (← ⟦room.len()⟧)) × ((← ⟦room.len()⟧) < 65535) ⌝ }
-    ensures { λ r. ⌜ loadedAs r (now (room .exit)) (now (table .exit)) ≡ judged (verdict (now (file .entry)) (at + length (now (room .entry))) (part (now (file .entry)) at (length (now (room .entry))))) (part (now (file .entry)) at (length (now (room .entry)))) ⌝ }
+    ensures { λ r. ⌜ loadedAs r (now (room .exit)) (now (table .exit))
+        ≡ judged (verdict (now (file .entry)) (at + length (now (room .entry))) (part (now (file .entry)) at (length (now (room .entry))))) (part (now (file .entry)) at (length (now (room .entry)))) ⌝ }
 {
     let m = room.len();
     let end = at + m;
@@ -147,7 +151,8 @@ fn take_word(file: &[u8], at: usize, room: &mut [u8], table: &mut [u16]) -> Load
 
 // The word and the oracle that a file holds, as its word and table, in the rooms.
 pub fn load(file: &[u8], room: &mut [u8], tables: &mut [u16]) -> Loaded
-    ensures { λ r. ⌜ loadedAs r (now (room .exit)) (now (tables .exit)) ≡ loadSays (now (file .entry)) (now (room .entry)) (now (tables .entry)) ⌝ }
+    ensures { λ r. ⌜ loadedAs r (now (room .exit)) (now (tables .exit))
+        ≡ loadSays (now (file .entry)) (now (room .entry)) (now (tables .entry)) ⌝ }
 {
     let head = loaded::read_front(file);
     match head {
@@ -180,7 +185,8 @@ pub fn search_file(
     tables: &mut [u16],
     finds: &mut [u32],
 ) -> FileSearched
-    ensures { λ r. ⌜ fileSearched r (now (room .exit)) (now (tables .exit)) (now (finds .exit)) ≡ searchFileSays (now (file .entry)) (now (text .entry)) (now (room .entry)) (now (tables .entry)) (now (finds .entry)) ⌝ }
+    ensures { λ r. ⌜ fileSearched r (now (room .exit)) (now (tables .exit)) (now (finds .exit))
+        ≡ searchFileSays (now (file .entry)) (now (text .entry)) (now (room .entry)) (now (tables .entry)) (now (finds .entry)) ⌝ }
 {
     if text.len() > words::TEXT_LIMIT {
         return FileSearched::Refused(LONG_TEXT);

@@ -1,11 +1,13 @@
-// The entries for C and Rust, by numbers and slices alone: a slice is a pointer and a length. Each returns 0 and writes its answers through the last pointers, or returns the
-// refusal's number and leaves those pointers alone. There is no state and no heap, so calls on buffers of their own may run at the same time.
+// The entries for C and Rust, by numbers and slices alone: a slice is a pointer and a length. Each returns 0 and writes its answers through
+// the last pointers, or returns the refusal's number and leaves those pointers alone. There is no state and no heap, so calls on buffers of
+// their own may run at the same time.
 ghost use mathlib.Core.Path.{_≡_};
 ghost use Rattle.marks_c.specs.Calls.{buildCall, buildCallSays, saveCall, saveCallSays, loadCall, loadCallSays, searchCall, searchCallSays, searchFileCall, searchFileCallSays};
 
 #[no_mangle]
 pub extern "C" fn marks_build(word: &[u8], tables: &mut [u16], m: &mut u64) -> u32
-    ensures { λ r. ⌜ buildCall r (now (tables .exit)) (now (m .exit)) ≡ buildCallSays (now (word .entry)) (now (tables .entry)) (now (m .entry)) ⌝ }
+    ensures { λ r. ⌜ buildCall r (now (tables .exit)) (now (m .exit))
+        ≡ buildCallSays (now (word .entry)) (now (tables .entry)) (now (m .entry)) ⌝ }
 {
     let built = marks::build(word, tables);
     match built {
@@ -26,7 +28,8 @@ pub extern "C" fn marks_save(
     out: &mut [u8],
     length: &mut u64,
 ) -> u32
-    ensures { λ r. ⌜ saveCall r (now (tables .exit)) (now (out .exit)) (now (length .exit)) ≡ saveCallSays (now (word .entry)) (now (tables .entry)) (now (out .entry)) (now (length .entry)) ⌝ }
+    ensures { λ r. ⌜ saveCall r (now (tables .exit)) (now (out .exit)) (now (length .exit))
+        ≡ saveCallSays (now (word .entry)) (now (tables .entry)) (now (out .entry)) (now (length .entry)) ⌝ }
 {
     let saved = marks::save(word, tables, out);
     match saved {
@@ -43,7 +46,8 @@ pub extern "C" fn marks_save(
 
 #[no_mangle]
 pub extern "C" fn marks_load(file: &[u8], room: &mut [u8], tables: &mut [u16], m: &mut u64) -> u32
-    ensures { λ r. ⌜ loadCall r (now (room .exit)) (now (tables .exit)) (now (m .exit)) ≡ loadCallSays (now (file .entry)) (now (room .entry)) (now (tables .entry)) (now (m .entry)) ⌝ }
+    ensures { λ r. ⌜ loadCall r (now (room .exit)) (now (tables .exit)) (now (m .exit))
+        ≡ loadCallSays (now (file .entry)) (now (room .entry)) (now (tables .entry)) (now (m .entry)) ⌝ }
 {
     let loaded = marks::load(file, room, tables);
     match loaded {
@@ -64,7 +68,8 @@ pub extern "C" fn marks_search(
     count: &mut u64,
     letters: &mut u64,
 ) -> u32
-    ensures { λ r. ⌜ searchCall r (now (tables .exit)) (now (finds .exit)) (now (count .exit)) (now (letters .exit)) ≡ searchCallSays (now (word .entry)) (now (text .entry)) (now (tables .entry)) (now (finds .entry)) (now (count .entry)) (now (letters .entry)) ⌝ }
+    ensures { λ r. ⌜ searchCall r (now (tables .exit)) (now (finds .exit)) (now (count .exit)) (now (letters .exit))
+        ≡ searchCallSays (now (word .entry)) (now (text .entry)) (now (tables .entry)) (now (finds .entry)) (now (count .entry)) (now (letters .entry)) ⌝ }
 {
     let searched = marks::search(word, text, tables, finds);
     match searched {
@@ -90,7 +95,8 @@ pub extern "C" fn marks_search_file(
     count: &mut u64,
     letters: &mut u64,
 ) -> u32
-    ensures { λ r. ⌜ searchFileCall r (now (room .exit)) (now (tables .exit)) (now (finds .exit)) (now (count .exit)) (now (letters .exit)) ≡ searchFileCallSays (now (file .entry)) (now (text .entry)) (now (room .entry)) (now (tables .entry)) (now (finds .entry)) (now (count .entry)) (now (letters .entry)) ⌝ }
+    ensures { λ r. ⌜ searchFileCall r (now (room .exit)) (now (tables .exit)) (now (finds .exit)) (now (count .exit)) (now (letters .exit))
+        ≡ searchFileCallSays (now (file .entry)) (now (text .entry)) (now (room .entry)) (now (tables .entry)) (now (finds .entry)) (now (count .entry)) (now (letters .entry)) ⌝ }
 {
     let searched = marks::search_file(file, text, room, tables, finds);
     match searched {

@@ -1,4 +1,5 @@
-// What the programs that run the entries share: how they write numbers and lent buffers, what buffers hold before a call, and the words that they make.
+// What the programs that run the entries share: how they write numbers and lent buffers, what buffers hold before a call, and the words
+// that they make.
 ghost use Prim.Native.Nat.{_<_, _≤_};
 ghost use mathlib.Core.Path.{_≡_};
 ghost use lib.ListN.{length};

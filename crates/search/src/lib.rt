@@ -1,4 +1,5 @@
-// The backward search over a table: a window is read from its end, and moved to behind the first letter that has no arrow. Serves the entries.
+// The backward search over a table: a window is read from its end, and moved to behind the first letter that has no arrow. Serves the
+// entries.
 ghost use mathlib.Core.Path.{_≡_};
 ghost use mathlib.Core.List.{List, [], _∷_, _++_};
 ghost use Prim.Native.Nat.{ℕ, _+_, _<_, _≤_};
@@ -54,7 +55,8 @@ fn step_after_find(word: &[u8]) -> usize
 // Writes the find that follows `count` others into the caller's list, where it fits; the answer is the number of finds.
 fn note(finds: &mut [u32], count: usize, s: words::Place) -> usize
     requires { ⌜ count < 4294967295 ⌝ }
-    ensures { λ r. ⌜ (r ≡ count + 1) × ((l f : List ℕ) → length l ≡ count → now (finds .entry) ≡ filled l f → now (finds .exit) ≡ filled (l ++ (s .0 ∷ [])) f) ⌝ }
+    ensures { λ r. ⌜ (r ≡ count + 1)
+        × ((l f : List ℕ) → length l ≡ count → now (finds .entry) ≡ filled l f → now (finds .exit) ≡ filled (l ++ (s .0 ∷ [])) f) ⌝ }
 {
     if finds.len() <= count {
         return count + 1;
@@ -67,7 +69,9 @@ fn note(finds: &mut [u32], count: usize, s: words::Place) -> usize
 pub fn scan(word: &[u8], table: &[u16], text: &[u8], finds: &mut [u32]) -> Tally
     requires { ⌜ (1 ≤ length (now word)) × (length (now text) < 4294967295) ⌝ }
     requires { ⌜ Formed (now table) (length (now word)) ⌝ }
-    ensures { λ r. ⌜ (r ≡ tallyOf (steps (readArrow (length (now (word .entry))) (now (table .entry))) (now (word .entry)) (now (text .entry)))) × (now (finds .exit) ≡ filled (steps (readArrow (length (now (word .entry))) (now (table .entry))) (now (word .entry)) (now (text .entry)) .starts) (now (finds .entry))) ⌝ }
+    ensures { λ r. ⌜ (r ≡ tallyOf (steps (readArrow (length (now (word .entry))) (now (table .entry))) (now (word .entry)) (now (text .entry))))
+        × (now (finds .exit) ≡ filled (steps (readArrow (length (now (word .entry))) (now (table .entry))) (now (word .entry)) (now (text .entry)) .starts)
+        (now (finds .entry))) ⌝ }
 {
     let m = word.len();
     let n = text.len();

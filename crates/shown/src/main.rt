@@ -1,5 +1,5 @@
-// Runs the entries on chosen words, texts, rooms and lists, and writes what they answer and leave. `tools/expect` computes the same lines another way, from 01
-// alone; the file `stdout` is what it writes.
+// Runs the entries on chosen words, texts, rooms and lists, and writes what they answer and leave. `tools/expect` computes the same lines
+// another way, from 01 alone; the file `stdout` is what it writes.
 ghost use Prim.Native.Nat.{_<_, _≤_};
 ghost use mathlib.Core.Path.{_≡_};
 ghost use lib.ListN.{length};
@@ -75,8 +75,8 @@ fn search_sizes(m: usize, n: usize, room: usize, fit: usize) {
     number(fit as u64);
 }
 
-// One search, in a room of so many entries that hold 7 and with a list of so many numbers that hold 9, one behind each that must stay. Answers the number of
-// finds.
+// One search, in a room of so many entries that hold 7 and with a list of so many numbers that hold 9, one behind each that must stay.
+// Answers the number of finds.
 fn search(word: &[u8], text: &[u8], room: usize, fit: usize) -> usize
     requires { ⌜ (room < 6200) × (fit < 3100) ⌝ }
     ensures { λ r. ⌜ r ≤ 3000 ⌝ }
@@ -185,8 +185,8 @@ fn searches_for_finds() {
     searches(b"abc", b"xxabcxabcabcc");
 }
 
-// The oracle of `abbbaab` accepts `aba`, and that of `abcacdace` accepts `cace`, which are no factors of them. They are read here from the end of a window, by
-// searches for the words' mirrors, so that one letter more is read than a test for factors would.
+// The oracle of `abbbaab` accepts `aba`, and that of `abcacdace` accepts `cace`, which are no factors of them. They are read here from the
+// end of a window, by searches for the words' mirrors, so that one letter more is read than a test for factors would.
 fn searches_past_factors() {
     searches(b"baabbba", b"xxxxaba");
     searches(b"ecadcacba", b"xxxxxecac");
@@ -203,7 +203,8 @@ fn searches_for_bytes() {
     searches(b"\xff\x00\xff", b"\x00\xff\x00\xff\x00\xff");
 }
 
-// Words that the text begins with and that stand inside it, the whole text, one letter longer than the text, too long, and the text's last letter.
+// Words that the text begins with and that stand inside it, the whole text, one letter longer than the text, too long, and the text's last
+// letter.
 fn long_searches(made: &[u8])
     requires { ⌜ length (now made) ≡ 3000 ⌝ }
 {

@@ -1,5 +1,6 @@
-// Runs the file entries on chosen words, files, texts, rooms and lists, and writes what they answer and leave. `tools/expect` computes the same lines another
-// way, from 01 alone; the file `stdout` is what it writes. Each lent buffer has one place more than the entry is lent, which must stay as it was.
+// Runs the file entries on chosen words, files, texts, rooms and lists, and writes what they answer and leave. `tools/expect` computes the
+// same lines another way, from 01 alone; the file `stdout` is what it writes. Each lent buffer has one place more than the entry is lent,
+// which must stay as it was.
 ghost use Prim.Native.Nat.{_<_, _≤_};
 ghost use mathlib.Core.Path.{_≡_};
 ghost use lib.ListN.{length};
@@ -267,7 +268,8 @@ fn arrows_too_many() {
     loads(b"\x01\x03aaa\x01\x00\x80\x00", 3);
 }
 
-// Arrows that are missing, differ in one number or in both, stand in another order or twice, and one that is wrong before it ends or is badly spelled.
+// Arrows that are missing, differ in one number or in both, stand in another order or twice, and one that is wrong before it ends or is
+// badly spelled.
 fn wrong_arrows() {
     loads(b"\x01\x02ab\x00", 2);
     loads(b"\x01\x02ab\x00\x00", 2);
@@ -284,7 +286,8 @@ fn wrong_arrows() {
     loads(b"\x01\x03abc\x02\x00\x00\x00\x01\x00", 3);
 }
 
-// A file that declares a number of letters in two bytes and goes on in letters `a`, up to n bytes in all; the byte behind the first 1,024 letters is chosen.
+// A file that declares a number of letters in two bytes and goes on in letters `a`, up to n bytes in all; the byte behind the first 1,024
+// letters is chosen.
 fn long_file(low: u8, high: u8, behind: u8, n: usize)
     requires { ⌜ n ≤ 1100 ⌝ }
 {

@@ -1,5 +1,6 @@
-// The table of a word's oracle: 6(m+1) entries of 16 bits, in rows. Filling it takes time linear in m: letters are added over chains, newest first, then
-// one pass over the states from the last to the first lays the chains out, which turns each one round. Serves the rooms above.
+// The table of a word's oracle: 6(m+1) entries of 16 bits, in rows. Filling it takes time linear in m: letters are added over chains,
+// newest first, then one pass over the states from the last to the first lays the chains out, which turns each one round. Serves the rooms
+// above.
 ghost use mathlib.Core.Path.{_≡_};
 ghost use Prim.Native.Nat.{_+_, _*_, _<_, _≤_};
 ghost use lib.ListN.{length, replicate};
@@ -45,7 +46,8 @@ fn put_mirror(word: &[u8], row: &mut [u16])
     }
 }
 
-// The targets of x, from its slots to those of row 3 that end before `end`; the answer is where they start, which takes the place of the first slot.
+// The targets of x, from its slots to those of row 3 that end before `end`; the answer is where they start, which takes the place of the
+// first slot.
 fn unchain(table: &mut [u16], n: usize, end: usize, x: words::State) -> usize
     requires { ⌜ (n ≤ 65536) × (x .0 < n) × (end < n) ⌝ }
     requires { ⌜ Fits (now table) n (x .0) end ⌝ }
