@@ -51,14 +51,20 @@ extern "C" {
     ) -> u32;
 }
 
+/// What an entry said: 0 and its answer, or the number of a refusal.
+fn told<T>(said: u32, answer: T) -> Result<T, Refusal> {
+    match said {
+        0 => Ok(answer),
+        number => Err(Refusal::of(number)),
+    }
+}
+
 /// The table of a word's oracle, in the first 6(m+1) entries of `tables`; the answer is m.
 pub fn build(word: &[u8], tables: &mut [u16]) -> Result<u64, Refusal> {
     let mut m = 0;
     // SAFETY: each pointer and length is of one slice, and `m` outlives the call.
-    match unsafe { marks_build(word.as_ptr(), word.len(), tables.as_mut_ptr(), tables.len(), &mut m) } {
-        0 => Ok(m),
-        number => Err(Refusal::of(number)),
-    }
+    let said = unsafe { marks_build(word.as_ptr(), word.len(), tables.as_mut_ptr(), tables.len(), &mut m) };
+    told(said, m)
 }
 
 /// The file of a word, at the front of `out`; the answer is its length.
@@ -67,10 +73,7 @@ pub fn save(word: &[u8], tables: &mut [u16], out: &mut [u8]) -> Result<u64, Refu
     // SAFETY: as above.
     let said =
         unsafe { marks_save(word.as_ptr(), word.len(), tables.as_mut_ptr(), tables.len(), out.as_mut_ptr(), out.len(), &mut length) };
-    match said {
-        0 => Ok(length),
-        number => Err(Refusal::of(number)),
-    }
+    told(said, length)
 }
 
 /// The file's word in the first m bytes of `room`, its table in the first 6(m+1) entries of `tables`; the answer is m.
@@ -78,10 +81,7 @@ pub fn load(file: &[u8], room: &mut [u8], tables: &mut [u16]) -> Result<u64, Ref
     let mut m = 0;
     // SAFETY: as above.
     let said = unsafe { marks_load(file.as_ptr(), file.len(), room.as_mut_ptr(), room.len(), tables.as_mut_ptr(), tables.len(), &mut m) };
-    match said {
-        0 => Ok(m),
-        number => Err(Refusal::of(number)),
-    }
+    told(said, m)
 }
 
 /// How often a word stands in a text, and how many letters were read to find out.
@@ -109,10 +109,7 @@ pub fn search(word: &[u8], text: &[u8], tables: &mut [u16], finds: &mut [u32]) -
             &mut tally.letters,
         )
     };
-    match said {
-        0 => Ok(tally),
-        number => Err(Refusal::of(number)),
-    }
+    told(said, tally)
 }
 
 /// Every place where the mirror of the file's word stands in the text; `room` and `tables` are left as `load` leaves them.
@@ -135,8 +132,5 @@ pub fn search_file(file: &[u8], text: &[u8], room: &mut [u8], tables: &mut [u16]
             &mut tally.letters,
         )
     };
-    match said {
-        0 => Ok(tally),
-        number => Err(Refusal::of(number)),
-    }
+    told(said, tally)
 }
