@@ -63,7 +63,8 @@ module _ (δ : Delta) (t : Word) (s : Place) where
   reading-induction P done fails goes zero x = rw (read-done x) (done x)
   reading-induction P done fails goes (suc k) x = by (δ x (letter t (s + k))) refl (λ y. reading-induction P done fails goes k y)
     where
-      by : (o : Option State) → δ x (letter t (s + k)) ≡ o → ((y : State) → P k y (readDown δ t s k y)) → P (suc k) x (readDown δ t s (suc k) x)
+      by : (o : Option State) → δ x (letter t (s + k)) ≡ o → ((y : State) → P k y (readDown δ t s k y))
+          → P (suc k) x (readDown δ t s (suc k) x)
       by none e rec = rw (read-fails k x e) (fails k x e)
       by (some y) e rec = rw (read-goes k x y e) (goes k x y (readDown δ t s k y) e (rec y))
 
@@ -84,7 +85,8 @@ module _ (δ : Delta) (t : Word) (s : Place) where
   letters-most k x = reading-induction (λ k x r. r .letters ≤ k) (λ x. le-refl 0) (λ k x d. omega arith) (λ k x y r d rec. omega arith) k x
 
   -- a reading that does not fail walks the window's mirror
-  pub whole-walked : (k : ℕ) (x : State) → s + k ≤ length t → readDown δ t s k x .failed ≡ none → (y : State) × (walk δ x (mirror (part t s k)) ≡ some y)
+  pub whole-walked : (k : ℕ) (x : State) → s + k ≤ length t → readDown δ t s k x .failed ≡ none
+      → (y : State) × (walk δ x (mirror (part t s k)) ≡ some y)
   unfolding walk
   whole-walked k x = reading-induction (λ k x r. s + k ≤ length t → r .failed ≡ none → (y : State) × (walk δ x (mirror (part t s k)) ≡ some y))
       (λ x h e. (x, refl))
@@ -93,7 +95,8 @@ module _ (δ : Delta) (t : Word) (s : Place) where
       k x
 
   -- a reading that fails does not walk the mirror of the letters from the failing one on
-  pub failed-walk : (k : ℕ) (x : State) (f : Place) → s + k ≤ length t → readDown δ t s k x .failed ≡ some f → walk δ x (mirror (part t f (s + k - f))) ≡ none
+  pub failed-walk : (k : ℕ) (x : State) (f : Place) → s + k ≤ length t → readDown δ t s k x .failed ≡ some f
+      → walk δ x (mirror (part t f (s + k - f))) ≡ none
   failed-walk k x f h e = let r = reading-induction Stuck done fails goes k x h e in let q : s + k - f ≡ suc (r .0) = omega (arith, r .1) in rw q (r .2)
     where
       -- d letters were walked before the failing one

@@ -47,11 +47,13 @@ module _ (w t : Word) where
   window-loses-none s f h e = failed-loses-none oracle-walker t s h f e
 
   -- it reads the letters from f to its end, f's own counted
-  pub window-letters : (s f : Place) → readDown (oracle (mirror w)) t s (length w) 0 .failed ≡ some f → readDown (oracle (mirror w)) t s (length w) 0 .letters ≡ s + length w - f
+  pub window-letters : (s f : Place) → readDown (oracle (mirror w)) t s (length w) 0 .failed ≡ some f
+      → readDown (oracle (mirror w)) t s (length w) 0 .letters ≡ s + length w - f
   window-letters s f e = let r = failed-place (oracle (mirror w)) t s (length w) 0 f e in omega (arith, r .counted)
 
   -- and all of its letters if none fails
-  pub find-letters : (s : Place) → readDown (oracle (mirror w)) t s (length w) 0 .failed ≡ none → readDown (oracle (mirror w)) t s (length w) 0 .letters ≡ length w
+  pub find-letters : (s : Place) → readDown (oracle (mirror w)) t s (length w) 0 .failed ≡ none
+      → readDown (oracle (mirror w)) t s (length w) 0 .letters ≡ length w
   find-letters s e = whole-letters (oracle (mirror w)) t s (length w) 0 e
 
   -- ── The letters read ─────────────────────────────────────────────────────

@@ -86,7 +86,8 @@ module _ {L : List ℕ} {n t u : ℕ} {k : State} (R : Ready L n t u k) where
       letters-kept : (y : State) → y < n → at L y ≡ at L′ y
       letters-kept y h = sym (push-elsewhere (R .chained) ready-slot (R .heads) k ready-state (suc t) y (omega arith) (omega arith) (omega arith))
 
-      by : (l : List State) → Chain L′ n (at L′ (2 * n + 0)) l → (l′ : List State) × Chain L n (at L (2 * n + 0)) l′ → r ≡ arrowTo (lookIn (at L′) t l 0 c)
+      by : (l : List State) → Chain L′ n (at L′ (2 * n + 0)) l → (l′ : List State) × Chain L n (at L (2 * n + 0)) l′
+          → r ≡ arrowTo (lookIn (at L′) t l 0 c)
       by l C (l′, D) =
           let q : l ≡ l′ = chain-one C (other-chain (R .chained) ready-slot (R .heads) k ready-state (suc t) 0 (omega (arith, R .inside)) (λ z. f (sym z)) D) in
           Z .says l′ D ∙ ap arrowTo (look-same (at L) (at L′) t l′ 0 c letters-kept (omega (arith, R .inside)) (λ y i. chain-states D i) ∙ ap (λ v. lookIn (at L′) t v 0 c) (sym q))
@@ -100,7 +101,8 @@ module _ {L L₁ : List ℕ} {n t u : ℕ} {k : State} (e : L₁ ≡ pushed L n 
   pub ready-again : Ready L n t u k → k ≢ 0 → {s : State} → s ≡ at L (n + k) → Ready L₁ n t (u + 1) s
   ready-again R f q = rw (e, q, add-one t, add-one u) (ready-next R f)
 
-  pub climb-again : {c : Letter} {s : State} {L′ : List ℕ} {u′ : ℕ} {y : State} → k ≢ 0 → s ≡ at L (n + k) → Looks L n t k c Missing → Climbs n t c L₁ (u + 1) s L′ u′ y → Climbs n t c L u k L′ u′ y
+  pub climb-again : {c : Letter} {s : State} {L′ : List ℕ} {u′ : ℕ} {y : State} → k ≢ 0 → s ≡ at L (n + k) → Looks L n t k c Missing
+      → Climbs n t c L₁ (u + 1) s L′ u′ y → Climbs n t c L u k L′ u′ y
   climb-again f q M C = let p : 0 < k = omega arith in goes-on p M (rw (e, q, add-one t, add-one u) at C)
 
   pub climb-out : {c : Letter} → k ≡ 0 → Looks L n t k c Missing → Climbs n t c L u k L₁ (u + 1) 0
@@ -128,7 +130,8 @@ module _ {L : List ℕ} {n t u : ℕ} (B : Begun L n t u) where
   pub begun-zero : {r : Arrow} → Looks L n t 0 (at L (t + 1)) r → Looks L n t 0 (at L (t + 1) % 256) r
   begun-zero Z = rw begun-letter (rw (add-one t) at Z)
 
-  pub letter-added : t ≢ 0 → {k : State} → k ≡ at L (n + t) → {L₁ : List ℕ} {u′ : ℕ} {y : State} → Climbs n t (at L (t + 1) % 256) L u k L₁ u′ y → Added n t L u (set L₁ (n + t + 1) y) u′
+  pub letter-added : t ≢ 0 → {k : State} → k ≡ at L (n + t) → {L₁ : List ℕ} {u′ : ℕ} {y : State}
+      → Climbs n t (at L (t + 1) % 256) L u k L₁ u′ y → Added n t L u (set L₁ (n + t + 1) y) u′
   letter-added f q {L₁} {u′} {y} C =
       let p : 0 < t = omega arith in
       let e : n + t + 1 ≡ n + suc t = omega arith in

@@ -199,7 +199,8 @@ module _ {B : List ℕ} {m : ℕ} (K : Blank B m) where
     unfolding extraTargets
     in-file-order x = rw size (only-same (λ y. leadsTo (oracle p x (letter p (pred y))) y) (λ y. leadsTo (δ x (at B y)) y) (suc (suc x)) (m - suc x) test) ∙ sym (G .in-order x)
       where
-        test : (y : ℕ) → suc (suc x) ≤ y → y < suc (suc x) + (m - suc x) → leadsTo (oracle p x (letter p (pred y))) y ≡ leadsTo (δ x (at B y)) y
+        test : (y : ℕ) → suc (suc x) ≤ y → y < suc (suc x) + (m - suc x)
+            → leadsTo (oracle p x (letter p (pred y))) y ≡ leadsTo (δ x (at B y)) y
         test zero h b = absurd (omega arith)
         test (suc y) h b = ap (λ o. leadsTo o (suc y)) (suffix-rule-arrows p supplied x (letter p y) ∙ ap (δ x) (letter-in y (omega arith)))
 
@@ -227,7 +228,8 @@ module _ {B : List ℕ} {m : ℕ} (K : Blank B m) where
 pub code-begun : {B L : List ℕ} {m t u : ℕ} → Blank B m → Grown B m L t u → t < m → Begun L (m + 1) t u
 code-begun {m = m} K G h = rw (add-one m) (grown-begun K G h)
 
-pub code-letter : {B L L′ : List ℕ} {m t u u′ : ℕ} → Blank B m → Grown B m L t u → t < m → Added (m + 1) t L u L′ u′ → Grown B m L′ (t + 1) u′
+pub code-letter : {B L L′ : List ℕ} {m t u u′ : ℕ} → Blank B m → Grown B m L t u → t < m → Added (m + 1) t L u L′ u′
+    → Grown B m L′ (t + 1) u′
 code-letter {m = m} {t = t} K G h A = rw (add-one t) (grown-letter K G h (rw (add-one m) at A))
 
 pub code-end : {B L : List ℕ} {m t u : ℕ} → Blank B m → Grown B m L t u → m ≤ t → ChainsOf B m L u

@@ -64,7 +64,8 @@ unfolding first
 first-same P Q [] h = refl
 first-same P Q (y ∷ l) h = rw (h y (List·Memᴰ·head refl), first-same P Q l (λ z m. h z (List·Memᴰ·tail m)))
 
-pub look-same : (a b : State → Letter) {n : ℕ} (t : ℕ) (l : List State) (x : State) (c : Letter) → ((y : State) → y < n → a y ≡ b y) → suc x < n → ((y : State) → List·Memᴰ y l → y < n) → lookIn a t l x c ≡ lookIn b t l x c
+pub look-same : (a b : State → Letter) {n : ℕ} (t : ℕ) (l : List State) (x : State) (c : Letter) → ((y : State) → y < n → a y ≡ b y)
+    → suc x < n → ((y : State) → List·Memᴰ y l → y < n) → lookIn a t l x c ≡ lookIn b t l x c
 unfolding lookIn
 look-same a b t l x c same h inside = rw (same (suc x) h, first-same (λ y. eqb (a y) c) (λ y. eqb (b y) c) l (λ y m. ap (λ d. eqb d c) (same y (inside y m))))
 
@@ -94,7 +95,8 @@ module _ {L : List ℕ} {n t : ℕ} {x : State} {c : Letter} where
   unfolding first
   chase-end {j} R z = record { says = λ l C. by l (R .chain) (R .same l C) }
     where
-      by : (l : List State) {r : List State} → Chain L n j r → lookIn (at L) t l x c ≡ first (λ y. eqb (at L y) c) r → Missing ≡ arrowTo (lookIn (at L) t l x c)
+      by : (l : List State) {r : List State} → Chain L n j r → lookIn (at L) t l x c ≡ first (λ y. eqb (at L y) c) r
+          → Missing ≡ arrowTo (lookIn (at L) t l x c)
       by l (ends e) s = ap arrowTo (sym s)
       by l (links p h y g o r) s = absurd (omega arith)
 
@@ -123,7 +125,9 @@ module _ {L : List ℕ} {n t : ℕ} {x : State} {c : Letter} {j : ℕ} (R : Chas
   pub chase-next : at L (at L (5 * n + j)) ≢ c → Chasing L n t x c (at L (4 * n + j))
   chase-next e = by (R .chain) (R .same)
     where
-      by : {r : List State} → Chain L n j r → ((l : List State) → Chain L n (at L (2 * n + x)) l → lookIn (at L) t l x c ≡ first (λ y. eqb (at L y) c) r) → Chasing L n t x c (at L (4 * n + j))
+      by : {r : List State} → Chain L n j r
+          → ((l : List State) → Chain L n (at L (2 * n + x)) l → lookIn (at L) t l x c ≡ first (λ y. eqb (at L y) c) r)
+          → Chasing L n t x c (at L (4 * n + j))
       by (ends z) s = absurd (f z)
       by (links {y = y} {l = r} p h q g o C′) s =
           record { rest = r; chain = C′; same = λ l C. s l C ∙ first-not (λ y. eqb (at L y) c) y r (ne-eqb (at L y) c (rw (← q) at e)) }

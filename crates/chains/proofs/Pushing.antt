@@ -13,7 +13,8 @@ use Rattle.oracle.specs.Arrows.{State}
 use Rattle.chains.specs.Chains.{Chain, ends, links, Chained, pushed}
 
 -- a chain of slots up to u is kept where those slots are
-pub chain-kept : {L L′ : List ℕ} {n u : ℕ} → ((j : ℕ) → 0 < j → j ≤ u → (at L′ (4 * n + j) ≡ at L (4 * n + j)) × (at L′ (5 * n + j) ≡ at L (5 * n + j)))
+pub chain-kept : {L L′ : List ℕ} {n u : ℕ}
+    → ((j : ℕ) → 0 < j → j ≤ u → (at L′ (4 * n + j) ≡ at L (4 * n + j)) × (at L′ (5 * n + j) ≡ at L (5 * n + j)))
     → {j : ℕ} {l : List State} → j ≤ u → Chain L n j l → Chain L′ n j l
 chain-kept same h (ends e) = ends e
 chain-kept {L} {L′} {n} same {j} h (links {l = l} p b y g o r) =

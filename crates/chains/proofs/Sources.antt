@@ -52,7 +52,8 @@ unfolding total
 total-put T k y zero h = absurd (omega arith)
 total-put T k y (suc n) h = by (ℕ-discrete n k) (total-put T k y n)
   where
-    by : Dec (n ≡ k) → (k < n → total (put T k y) n ≡ suc (total T n)) → total (put T k y) n + length (put T k y n) ≡ suc (total T n + length (T n))
+    by : Dec (n ≡ k) → (k < n → total (put T k y) n ≡ suc (total T n))
+        → total (put T k y) n + length (put T k y n) ≡ suc (total T n + length (T n))
     by (yes e) rec =
         let s = total-same T (put T k y) n (λ x l. put-other T k y x (omega arith)) in
         let l : length (put T k y n) ≡ suc (length (T n)) = rw e (ap length (put-here T k y)) in
@@ -69,7 +70,8 @@ pub record Held (L : List ℕ) (n u : ℕ) (T : Targets) : Type 0 where
 pub held-chained : {L : List ℕ} {n u : ℕ} {T : Targets} → Held L n u T → Chained L n
 held-chained {T = T} H = record { size = H .size; chain = λ x h. (T x, H .chain x h) }
 
-push-held : {L : List ℕ} {n u : ℕ} {T : Targets} → Held L n u T → suc u < n → (k : State) → k < n → (y : State) → y < n → Held (pushed L n u k y) n (suc u) (put T k y)
+push-held : {L : List ℕ} {n u : ℕ} {T : Targets} → Held L n u T → suc u < n → (k : State) → k < n → (y : State) → y < n
+    → Held (pushed L n u k y) n (suc u) (put T k y)
 push-held {L} {n} {u} {T} H more k b y g = record {
   size = push-size (held-chained H) more (H .heads) k b y;
   heads = push-heads (held-chained H) more (H .heads) k b y;
@@ -84,7 +86,8 @@ push-held {L} {n} {u} {T} H more k b y g = record {
 
 -- two automata and supplies that agree up to k have the same climb from k
 climb-agree : {δ δ′ : Delta} {S S′ : State → State} {c : Letter} {k y : State} {xs : List State}
-    → ((x : State) → x ≤ k → δ′ x c ≡ δ x c) → ((x : State) → x ≤ k → S′ x ≡ S x) → ((x : State) → x ≤ k → S x ≤ x) → Climb δ′ S′ c k xs y → Climb δ S c k xs y
+    → ((x : State) → x ≤ k → δ′ x c ≡ δ x c) → ((x : State) → x ≤ k → S′ x ≡ S x) → ((x : State) → x ≤ k → S x ≤ x) → Climb δ′ S′ c k xs y
+    → Climb δ S c k xs y
 climb-agree {k = k} a b d (stop e) = stop (sym (a k (le-refl k)) ∙ e)
 climb-agree {k = k} a b d (out z q e) = out z q (sym (a k (le-refl k)) ∙ e)
 climb-agree {δ} {δ′} {S} {S′} {c} {k = k} a b d (go p e r) =
@@ -141,12 +144,14 @@ module _ {L : List ℕ} {n t u : ℕ} {T : Targets} {k : State} (R : Ready L n t
 -- ── All of them ────────────────────────────────────────────────────────────
 
 -- the lookup of the code is that of the targets held
-pub look-held : (a : State → Letter) {L : List ℕ} {n u : ℕ} (t : ℕ) (c : Letter) {T : Targets} {k : State} → Held L n u T → ((y : State) → y < n → at L y ≡ a y) → suc k < n
+pub look-held : (a : State → Letter) {L : List ℕ} {n u : ℕ} (t : ℕ) (c : Letter) {T : Targets} {k : State} → Held L n u T
+    → ((y : State) → y < n → at L y ≡ a y) → suc k < n
     → lookIn (at L) t (T k) k c ≡ arrowsOf a t T k c
 look-held a {L} t c {T = T} {k = k} H same b = look-same (at L) a t (T k) k c same b (λ y m. chain-states (H .chain k (omega arith)) m)
 
 module _ (a : State → Letter) {n t : ℕ} {c : Letter} where
-  pub climbed : {L L′ : List ℕ} {u u′ : ℕ} {T : Targets} {k y : State} → Climbs n t c L u k L′ u′ y → Ready L n t u k → Held L n u T → ((z : State) → z < n → at L z ≡ a z) → Climbed a n t c L u T k L′ u′ y
+  pub climbed : {L L′ : List ℕ} {u u′ : ℕ} {T : Targets} {k y : State} → Climbs n t c L u k L′ u′ y → Ready L n t u k → Held L n u T
+      → ((z : State) → z < n → at L z ≡ a z) → Climbed a n t c L u T k L′ u′ y
   climbed {L} {u = u} {T = T} {k = k} {y = y} (finds s e q) R H same = rw (e, q) (record {
     xs = [];
     T′ = T;

@@ -29,7 +29,8 @@ edition-small = omega arith
 -- ── Read where they stand ──────────────────────────────────────────────────
 
 -- arrows that stand at the end of a file, in its spelling, are read
-arrows-spelled : (s : List ℕ) (i : Place) (x : State) (l : List Extra) → ((a : Extra) → List·Memᴰ a l → (a .source ≤ greatest) × (a .to ≤ greatest))
+arrows-spelled : (s : List ℕ) (i : Place) (x : State) (l : List Extra)
+    → ((a : Extra) → List·Memᴰ a l → (a .source ≤ greatest) × (a .to ≤ greatest))
     → drop i s ≡ spellSteps (stepsFrom x l) → ArrowsCase s i (length (stepsFrom x l)) (stepsFrom x l) right
 unfolding stepsFrom spellSteps
 arrows-spelled s i x [] small e = all-read {i = i} (omega (arith, length-drop i s, ap {B = ℕ} length e))

@@ -71,7 +71,8 @@ module _ (s : List ℕ) (b : ℕ) (x : List ℕ) where
       let l : i < length longer = omega (arith, length-append s (b ∷ x)) in
       inr (rw (← e) (leftovers l))
 
-  verdict-longer : {i : Place} {w : Word} {v : Verdict} → VerdictCase s i w v → (v ≡ wrong 5 (length s)) ⊎ VerdictCase longer i w (followed (length s) v)
+  verdict-longer : {i : Place} {w : Word} {v : Verdict} → VerdictCase s i w v
+      → (v ≡ wrong 5 (length s)) ⊎ VerdictCase longer i w (followed (length s) v)
   unfolding followed
   verdict-longer {i} (count-unread u) = cut-or wrong i u (λ u. count-unread u)
   verdict-longer {i} (count-too-large h g) = inr (count-too-large (still i h) g)
@@ -100,7 +101,8 @@ module _ (s : List ℕ) (b : ℕ) (x : List ℕ) where
         never right e = let z : _≡_ {A = ℕ} 0 1 = cc in omega arith
         never (wrong r p) e = let z : _≡_ {A = ℕ} 0 1 = cc in omega arith
 
-        cut : (v : Verdict) → (v ≡ wrong 5 (length s)) ⊎ VerdictCase longer (a .place + length w) w (followed (length s) v) → v ≡ wrong 5 (length s)
+        cut : (v : Verdict) → (v ≡ wrong 5 (length s)) ⊎ VerdictCase longer (a .place + length w) w (followed (length s) v)
+            → v ≡ wrong 5 (length s)
         cut v (inl e) = e
         cut v (inr c) = absurd (never v (sym (case-verdict longer c) ∙ a .judged))
 

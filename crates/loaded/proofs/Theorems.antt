@@ -52,7 +52,8 @@ one-word {s} {w} {w′} a b =
     a .word ∙ rw (size, place) (sym (b .word))
 
 -- words with the same file are the same
-pub spell-injective : (w w′ : Word) → 1 ≤ length w → length w ≤ longestWord → 1 ≤ length w′ → length w′ ≤ longestWord → spell w ≡ spell w′ → w ≡ w′
+pub spell-injective : (w w′ : Word) → 1 ≤ length w → length w ≤ longestWord → 1 ≤ length w′ → length w′ ≤ longestWord → spell w ≡ spell w′
+    → w ≡ w′
 spell-injective w w′ least most least′ most′ e = one-word (file-accepted w least most) (spelled-accepted w′ least′ most′ (spell w) e)
 
 -- ── 3. Beginnings and longer files ─────────────────────────────────────────

@@ -121,5 +121,6 @@ answer-one ShortRoom LongWord e = cc
 answer-one ShortRoom ShortRoom e = refl
 
 -- two outcomes that the promise of build allows are equal
-pub build-one : (word : Word) (T : List ℕ) (r s : Built) (A B : List ℕ) → built r A ≡ buildSays word T → built s B ≡ buildSays word T → (r ≡ s) × (A ≡ B)
+pub build-one : (word : Word) (T : List ℕ) (r s : Built) (A B : List ℕ) → built r A ≡ buildSays word T → built s B ≡ buildSays word T
+    → (r ≡ s) × (A ≡ B)
 build-one word T r s A B e f = let g : built r A ≡ built s B = e ∙ sym f in (answer-one r s (ap (λ o. o .answer) g), ap (λ o. o .tables) g)

@@ -90,7 +90,8 @@ module _ (file R T : List ℕ) where
       by-verdict f h t right v = rw (says-right f h t v) (LoadCase.accepted f h t v)
       by-verdict f h t (wrong n p) v = rw (says-wrong f h t v) (LoadCase.arrows-refused f h t v)
 
-      by-room : {m i : ℕ} → FrontCase file (letters m i) → Dec (length R < m) → Dec (length T < room m) → LoadCase file R T (loadSays file R T)
+      by-room : {m i : ℕ} → FrontCase file (letters m i) → Dec (length R < m) → Dec (length T < room m)
+          → LoadCase file R T (loadSays file R T)
       by-room {m} {i} f (yes h) t = rw (says-short-word m i (front-is file _ .1 f) h) (LoadCase.short-room f (inl h))
       by-room {m} {i} f (no h) (yes t) = rw (says-short-tables m i (front-is file _ .1 f) t) (LoadCase.short-room f (inr t))
       by-room {m} {i} f (no h) (no t) = by-verdict f (omega arith) (omega arith) _ (verdict-is file (i + m) (part file i m) _ .0 refl)
@@ -111,10 +112,12 @@ module _ (file R T : List ℕ) where
   load-is o = (λ e. rw e at case, given)
 
   -- so each answer, and each number among them, is given exactly when a case that has it applies
-  pub load-answers : (a : Answer ℕ) → (loadSays file R T .answer ≡ a) ↔ ((R′ : List ℕ) × (T′ : List ℕ) × LoadCase file R T (outcome a R′ T′))
+  pub load-answers : (a : Answer ℕ)
+      → (loadSays file R T .answer ≡ a) ↔ ((R′ : List ℕ) × (T′ : List ℕ) × LoadCase file R T (outcome a R′ T′))
   load-answers a = (λ e. (_, _, rw e at (load-is _ .0 refl)), λ c. ap (λ o. o .answer) (given (c .2)))
 
-  pub refusal-leaves : {n : ℕ} → loadSays file R T .answer ≡ refused n → AfterRefusal R T (loadSays file R T .word) (loadSays file R T .tables)
+  pub refusal-leaves : {n : ℕ} → loadSays file R T .answer ≡ refused n
+      → AfterRefusal R T (loadSays file R T .word) (loadSays file R T .tables)
   refusal-leaves {n} = by case
     where
       by : {o : Outcome} → LoadCase file R T o → o .answer ≡ refused n → AfterRefusal R T (o .word) (o .tables)
@@ -189,7 +192,8 @@ loaded-stands file R T (LoadCase.accepted {m = m} {i = i} f h t v) =
       table = take-at (tableOf w) (drop (room m) T) (room m) table-sized ∙ ap tableOf (sym (take-at w (drop m R) m size));
     }
 
-pub told-stands : (file R T : List ℕ) {said : Loaded} {R′ T′ : List ℕ} → loadedAs said R′ T′ ≡ loadSays file R T → {m : ℕ} → said ≡ Done m → Standing m R′ T′
+pub told-stands : (file R T : List ℕ) {said : Loaded} {R′ T′ : List ℕ} → loadedAs said R′ T′ ≡ loadSays file R T → {m : ℕ} → said ≡ Done m
+    → Standing m R′ T′
 told-stands file R T {said} {R′} {T′} told e =
     loaded-stands file R T (load-is file R T _ .0 (sym told ∙ ap (λ (s : Loaded). loadedAs s R′ T′) e))
 
@@ -203,7 +207,8 @@ answer-one (Refused a) (Done b) e = cc
 answer-one (Refused a) (Refused b) e = cc
 
 -- two outcomes that the promise of load allows are equal
-pub load-one : (file R T : List ℕ) (r s : Loaded) (A B C D : List ℕ) → loadedAs r A C ≡ loadSays file R T → loadedAs s B D ≡ loadSays file R T → (r ≡ s) × (A ≡ B) × (C ≡ D)
+pub load-one : (file R T : List ℕ) (r s : Loaded) (A B C D : List ℕ) → loadedAs r A C ≡ loadSays file R T
+    → loadedAs s B D ≡ loadSays file R T → (r ≡ s) × (A ≡ B) × (C ≡ D)
 load-one file R T r s A B C D e f =
     let g : loadedAs r A C ≡ loadedAs s B D = e ∙ sym f in
     (answer-one r s (ap (λ o. o .answer) g), ap (λ o. o .word) g, ap (λ o. o .tables) g)

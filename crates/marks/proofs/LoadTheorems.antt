@@ -38,7 +38,8 @@ pub record Handed (s : List ℕ) (o : Outcome) (m : ℕ) : Type 0 where
 
 module _ (R T : List ℕ) where
   -- a file that shows the word w, and then v on its arrows, where there is room for w
-  pub says-shown : {s : List ℕ} {w : Word} {v : Verdict} → Judged s w v → length w ≤ length R → room (length w) ≤ length T → loadSays s R T ≡ put s R T (length w) (judged v w)
+  pub says-shown : {s : List ℕ} {w : Word} {v : Verdict} → Judged s w v → length w ≤ length R → room (length w) ≤ length T
+      → loadSays s R T ≡ put s R T (length w) (judged v w)
   says-shown {s} {w} {v} J h t =
       let i = J .place in
       let m = length w in
@@ -68,7 +69,8 @@ module _ (R T : List ℕ) where
     pub cut-refused : (n : ℕ) → n < length (spell w) → loadSays (take n (spell w)) R T .answer ≡ refused 5
     cut-refused n b = by (beginning-refused w least most n b)
       where
-        by : (front (take n (spell w)) ≡ stop 5 n) ⊎ Judged (take n (spell w)) w (wrong 5 n) → loadSays (take n (spell w)) R T .answer ≡ refused 5
+        by : (front (take n (spell w)) ≡ stop 5 n) ⊎ Judged (take n (spell w)) w (wrong 5 n)
+            → loadSays (take n (spell w)) R T .answer ≡ refused 5
         by (inl e) = ap (λ o. o .answer) (says-stop (take n (spell w)) R T 5 n e)
         by (inr J) = ap (λ o. o .answer) (says-shown J h t)
 
@@ -96,13 +98,15 @@ module _ (R T : List ℕ) where
       → ((m : ℕ) × (loadSays s R T .answer ≡ done m)) ↔ ((f : Saved s) × (length (f .word) ≤ length R) × (room (length (f .word)) ≤ length T))
   accepted-exactly s bytes = (there, back)
     where
-      there : (m : ℕ) × (loadSays s R T .answer ≡ done m) → (f : Saved s) × (length (f .word) ≤ length R) × (room (length (f .word)) ≤ length T)
+      there : (m : ℕ) × (loadSays s R T .answer ≡ done m)
+          → (f : Saved s) × (length (f .word) ≤ length R) × (room (length (f .word)) ≤ length T)
       there a =
           let r = loaded-files s bytes (a .1) in
           let f = r .1 in
           (record { word = r .0; bytes = f .bytes; least = f .least; most = f .most; file = f .file }, r .3, r .4)
 
-      back : (f : Saved s) × (length (f .word) ≤ length R) × (room (length (f .word)) ≤ length T) → (m : ℕ) × (loadSays s R T .answer ≡ done m)
+      back : (f : Saved s) × (length (f .word) ≤ length R) × (room (length (f .word)) ≤ length T)
+          → (m : ℕ) × (loadSays s R T .answer ≡ done m)
       back a =
           let f = a .0 in
           let loads = file-loads (f .word) (f .least) (f .most) (a .1) (a .2) in
@@ -139,7 +143,8 @@ module _ (R T : List ℕ) where
   -- ── Any bad number ───────────────────────────────────────────────────────
 
   -- 8: the outcome is one, whichever length that no word may have was declared, and whatever follows
-  pub bad-length-one : (s : List ℕ) {i m j : ℕ} → Reads s 0 edition i → Reads s i m j → BadLength m → loadSays s R T ≡ outcome (refused 8) R T
+  pub bad-length-one : (s : List ℕ) {i m j : ℕ} → Reads s 0 edition i → Reads s i m j → BadLength m
+      → loadSays s R T ≡ outcome (refused 8) R T
   bad-length-one s a b c = load-is s R T _ .1 (LoadCase.head-refused (length-bad a b c))
 
   -- so any two files that declare one have the same outcome

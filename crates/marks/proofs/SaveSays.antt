@@ -132,10 +132,12 @@ module _ (word : Word) (T O : List ℕ) where
     pub lent-tabled : 1 ≤ m → m ≤ longestWord → Tabled word (take (room m) (P ++ R))
     lent-tabled h l = record { table = lent; least = h; most = omega (arith, words-fit) }
 
-    pub wiped : {C : List ℕ} → C ≡ replicate (length (take (room m) (P ++ R))) 0 → outcome (refused shortOutput) (C ++ drop (room m) (P ++ R)) O ≡ outcome (refused shortOutput) (replicate (room m) 0 ++ R) O
+    pub wiped : {C : List ℕ} → C ≡ replicate (length (take (room m) (P ++ R))) 0
+        → outcome (refused shortOutput) (C ++ drop (room m) (P ++ R)) O ≡ outcome (refused shortOutput) (replicate (room m) 0 ++ R) O
     wiped c = rw (c, ← lent-size, drop-at P R (room m) sized)
 
-    pub put-out : {n : ℕ} {O′ : List ℕ} → n ≡ size → O′ ≡ spell word ++ drop size O → outcome (done n) (P ++ R) O′ ≡ outcome (done size) (tableOf word ++ R) (spell word ++ drop size O)
+    pub put-out : {n : ℕ} {O′ : List ℕ} → n ≡ size → O′ ≡ spell word ++ drop size O
+        → outcome (done n) (P ++ R) O′ ≡ outcome (done size) (tableOf word ++ R) (spell word ++ drop size O)
     put-out n o = rw (n, o, filled-in)
 
 -- ── One outcome ────────────────────────────────────────────────────────────
@@ -169,7 +171,8 @@ answer-one ShortOutput ShortRoom e = cc
 answer-one ShortOutput ShortOutput e = refl
 
 -- two outcomes that the promise of save allows are equal
-pub save-one : (word : Word) (T O : List ℕ) (r s : Saved) (A B C D : List ℕ) → savedAs r A C ≡ saveSays word T O → savedAs s B D ≡ saveSays word T O → (r ≡ s) × (A ≡ B) × (C ≡ D)
+pub save-one : (word : Word) (T O : List ℕ) (r s : Saved) (A B C D : List ℕ) → savedAs r A C ≡ saveSays word T O
+    → savedAs s B D ≡ saveSays word T O → (r ≡ s) × (A ≡ B) × (C ≡ D)
 save-one word T O r s A B C D e f =
     let g : savedAs r A C ≡ savedAs s B D = e ∙ sym f in
     (answer-one r s (ap (λ o. o .answer) g), ap (λ o. o .tables) g, ap (λ o. o .output) g)

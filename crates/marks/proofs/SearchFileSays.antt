@@ -92,7 +92,8 @@ module _ (file : List ℕ) (text : Word) (R T : List ℕ) (F : List Place) where
       loaded : {k : ℕ} {R′ T′ : List ℕ} → LoadCase file R T (Load.outcome (refused k) R′ T′) → AfterRefusal R T R′ T′
       loaded c = let e = load-is file R T _ .1 c in rw e at (LoadSays.refusal-leaves file R T (ap (λ o. o .answer) e))
 
-      by : {o : Outcome} → SearchFileCase file text R T F o → o .answer ≡ refused n → (o .finds ≡ F) × AfterRefusal R T (o .word) (o .tables)
+      by : {o : Outcome} → SearchFileCase file text R T F o → o .answer ≡ refused n
+          → (o .finds ≡ F) × AfterRefusal R T (o .word) (o .tables)
       by (SearchFileCase.long-text h) e = (refl, AfterRefusal.unchanged)
       by (SearchFileCase.load-refused k c) e = (refl, loaded c)
       by (SearchFileCase.accepted k c) e = let z : _≡_ {A = ℕ} 0 1 = cc in absurd (omega arith)
@@ -126,8 +127,10 @@ module _ (file : List ℕ) (text : Word) (R T : List ℕ) (F : List Place) where
           let few : length (take m R′) < 65535 = omega (arith, size, stood .most, words-fit) in
           ((omega (arith, size, stood .least), omega (arith, texts-fit)), rw (stood .table) (table-formed (take m R′) few))
 
-      pub scan-counts : {t : Tally} {F′ : List Place} → t ≡ tallyOf (steps (readArrow (length (take m R′)) (take (room m) T′)) (take m R′) text)
-          → F′ ≡ filled (steps (readArrow (length (take m R′)) (take (room m) T′)) (take m R′) text .starts) F → fileSearched (Done t) R′ T′ F′ ≡ searchFileSays file text R T F
+      pub scan-counts : {t : Tally} {F′ : List Place}
+          → t ≡ tallyOf (steps (readArrow (length (take m R′)) (take (room m) T′)) (take m R′) text)
+          → F′ ≡ filled (steps (readArrow (length (take m R′)) (take (room m) T′)) (take m R′) text .starts) F
+          → fileSearched (Done t) R′ T′ F′ ≡ searchFileSays file text R T F
       scan-counts t f =
           rw (t, f, stood .table, own-table-steps (take m R′) text, search-lists-occurrences (mirror (take m R′)) text)
           (sym (says-loaded ∙ ap (λ (s : Loaded). afterLoad (loadedAnswer s) text R′ T′ F) e))
@@ -135,7 +138,8 @@ module _ (file : List ℕ) (text : Word) (R T : List ℕ) (F : List Place) where
   -- ── What is found with a word's file ─────────────────────────────────────
 
   -- every occurrence of the mirror of the file's word is counted, the first of them are listed, and the letters are the published steps' own
-  pub file-searched : (w : Word) → 1 ≤ length w → length w ≤ longestWord → file ≡ spell w → length text ≤ longestText → length w ≤ length R → room (length w) ≤ length T
+  pub file-searched : (w : Word) → 1 ≤ length w → length w ≤ longestWord → file ≡ spell w → length text ≤ longestText → length w ≤ length R
+      → room (length w) ≤ length T
       → searchFileSays file text R T F
       ≡ outcome (done (found (mirror w) text)) (w ++ drop (length w) R) (tableOf w ++ drop (room (length w)) T)
       (filled (occurrences (mirror w) text) F)
@@ -153,7 +157,8 @@ answer-one (Refused n) (Refused k) e = cc
 
 -- two outcomes that the promise of a search with a file allows are equal
 pub search-file-one : (file : List ℕ) (text : Word) (R T : List ℕ) (F : List Place) (r s : FileSearched) (A B C D : List ℕ) (G H : List Place)
-    → fileSearched r A C G ≡ searchFileSays file text R T F → fileSearched s B D H ≡ searchFileSays file text R T F → (r ≡ s) × (A ≡ B) × (C ≡ D) × (G ≡ H)
+    → fileSearched r A C G ≡ searchFileSays file text R T F → fileSearched s B D H ≡ searchFileSays file text R T F
+    → (r ≡ s) × (A ≡ B) × (C ≡ D) × (G ≡ H)
 search-file-one file text R T F r s A B C D G H e f =
     let g : fileSearched r A C G ≡ fileSearched s B D H = e ∙ sym f in
     (answer-one r s (ap (λ o. o .answer) g), ap (λ o. o .word) g, ap (λ o. o .tables) g, ap (λ o. o .finds) g)

@@ -79,7 +79,8 @@ module _ (word text : Word) (T : List ℕ) (F : List Place) where
   unfolding searchSays
   says-long-text h l k = rw (le-ltb m 1 h, le-ltb longestWord m l, lt-ltb longestText (length text) k)
 
-  pub says-short : 1 ≤ m → m ≤ longestWord → length text ≤ longestText → length T < room m → searchSays word text T F ≡ outcome (refused shortRoom) T F
+  pub says-short : 1 ≤ m → m ≤ longestWord → length text ≤ longestText → length T < room m
+      → searchSays word text T F ≡ outcome (refused shortRoom) T F
   unfolding searchSays
   says-short h l k s = rw (le-ltb m 1 h, le-ltb longestWord m l, le-ltb longestText (length text) k, lt-ltb (length T) (room m) s)
 
@@ -178,7 +179,8 @@ module _ (word text : Word) (T : List ℕ) (F : List Place) where
     lent-formed h = rw (lent, ← length-reverse word) (table-formed (mirror word) (rw (length-reverse word) h))
 
     pub scan-counts : {t : Tally} {F′ : List Place} → t ≡ tallyOf (steps (readArrow m (take (room m) (P ++ R))) word text)
-        → F′ ≡ filled (steps (readArrow m (take (room m) (P ++ R))) word text .starts) F → searched (Done t) (P ++ drop (room m) T) F′ ≡ counted
+        → F′ ≡ filled (steps (readArrow m (take (room m) (P ++ R))) word text .starts) F
+        → searched (Done t) (P ++ drop (room m) T) F′ ≡ counted
     scan-counts t f = rw (t, f, lent, filled-in, table-steps, search-lists-occurrences word text)
 
 -- ── One outcome ────────────────────────────────────────────────────────────

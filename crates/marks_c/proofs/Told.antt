@@ -41,7 +41,8 @@ load-told file R T m {r} {W} {L} e k q =
     ap (λ o. loadCall (resultOf (o .answer)) (o .word) (o .tables) (answered m (o .answer) (λ size. size))) (sym (ap (λ a. loadedAs a W L) q) ∙ e)
 
 -- the entry answered r, which is k, and left the room as L and the list as G
-pub search-told : (word text : Word) (T : List ℕ) (F : List Place) (c l : ℕ) {r : Searched} {L : List ℕ} {G : List Place} → searched r L G ≡ searchSays word text T F → (k : Searched) → r ≡ k
+pub search-told : (word text : Word) (T : List ℕ) (F : List Place) (c l : ℕ) {r : Searched} {L : List ℕ} {G : List Place}
+    → searched r L G ≡ searchSays word text T F → (k : Searched) → r ≡ k
     → searchCall (resultOf (Search.answerOf k)) L G (answered c (Search.answerOf k) (λ f. f .count)) (answered l (Search.answerOf k) (λ f. f .letters)) ≡ searchCallSays word text T F c l
 unfolding searchCallSays
 search-told word text T F c l {r} {L} {G} e k q =
@@ -59,16 +60,19 @@ search-file-told file text R T F c l {r} {W} {L} {G} e k q =
 
 -- ── One outcome ────────────────────────────────────────────────────────────
 
-pub build-call-one : (word : Word) (T : List ℕ) (m : ℕ) (o o′ : BuildCall) → o ≡ buildCallSays word T m → o′ ≡ buildCallSays word T m → o ≡ o′
+pub build-call-one : (word : Word) (T : List ℕ) (m : ℕ) (o o′ : BuildCall) → o ≡ buildCallSays word T m → o′ ≡ buildCallSays word T m
+    → o ≡ o′
 build-call-one word T m o o′ e f = e ∙ sym f
 
-pub save-call-one : (word : Word) (T O : List ℕ) (n : ℕ) (o o′ : SaveCall) → o ≡ saveCallSays word T O n → o′ ≡ saveCallSays word T O n → o ≡ o′
+pub save-call-one : (word : Word) (T O : List ℕ) (n : ℕ) (o o′ : SaveCall) → o ≡ saveCallSays word T O n → o′ ≡ saveCallSays word T O n
+    → o ≡ o′
 save-call-one word T O n o o′ e f = e ∙ sym f
 
 pub load-call-one : (file R T : List ℕ) (m : ℕ) (o o′ : LoadCall) → o ≡ loadCallSays file R T m → o′ ≡ loadCallSays file R T m → o ≡ o′
 load-call-one file R T m o o′ e f = e ∙ sym f
 
-pub search-call-one : (word text : Word) (T : List ℕ) (F : List Place) (c l : ℕ) (o o′ : SearchCall) → o ≡ searchCallSays word text T F c l → o′ ≡ searchCallSays word text T F c l → o ≡ o′
+pub search-call-one : (word text : Word) (T : List ℕ) (F : List Place) (c l : ℕ) (o o′ : SearchCall) → o ≡ searchCallSays word text T F c l
+    → o′ ≡ searchCallSays word text T F c l → o ≡ o′
 search-call-one word text T F c l o o′ e f = e ∙ sym f
 
 pub search-file-call-one : (file : List ℕ) (text : Word) (R T : List ℕ) (F : List Place) (c l : ℕ) (o o′ : SearchFileCall)

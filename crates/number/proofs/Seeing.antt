@@ -233,7 +233,8 @@ unfolding see
 see-append n [] r = inl refl
 see-append n (b ∷ l) r = by (kind-of n b) (see-append (suc n) l r)
   where
-    by : Kind n b → (see (suc n) l ≡ ends) ⊎ (see (suc n) (l ++ r) ≡ see (suc n) l) → (see n (b ∷ l) ≡ ends) ⊎ (see n (b ∷ l ++ r) ≡ see n (b ∷ l))
+    by : Kind n b → (see (suc n) l ≡ ends) ⊎ (see (suc n) (l ++ r) ≡ see (suc n) l)
+        → (see n (b ∷ l) ≡ ends) ⊎ (see n (b ∷ l ++ r) ≡ see n (b ∷ l))
     by (is-refused e) o = inr (see-refused n b (l ++ r) e ∙ sym (see-refused n b l e))
     by (is-last p h) o = inr (see-last (l ++ r) p h ∙ sym (see-last l p h))
     by (is-followed p h) (inl e) = inl (see-follows l p h ∙ ap (behind (b % 128)) e)

@@ -47,7 +47,8 @@ read-stood {l} {v} {n} bytes e = by (see-stood l bytes (omega arith) e)
         record { spelled = whole ∙ ap (λ y. spellNumber v ++ y) (sym behind); size = size; small = small }
 
 -- no spelling begins another
-pub spelling-prefix-free : {u v : ℕ} {k l : List ℕ} → u ≤ greatest → v ≤ greatest → spellNumber u ++ k ≡ spellNumber v ++ l → (u ≡ v) × (k ≡ l)
+pub spelling-prefix-free : {u v : ℕ} {k l : List ℕ} → u ≤ greatest → v ≤ greatest → spellNumber u ++ k ≡ spellNumber v ++ l
+    → (u ≡ v) × (k ≡ l)
 spelling-prefix-free {u} {v} {k} {l} h g e =
     let seen : number u (length (spellNumber u)) ≡ number v (length (spellNumber v)) = sym (read-spelled u k h) ∙ ap seeNumber e ∙ read-spelled v l g in
     let same : u ≡ v = cc in
@@ -158,7 +159,8 @@ module _ (s : List ℕ) (i : ℕ) where
       }
 
   -- one that the file's end cuts off, with or without a beginning, is 5 at that end
-  pub number-at-cut : {v n : ℕ} → v ≤ greatest → n < length (spellNumber v) → drop i s ≡ take n (spellNumber v) → numberAt s i ≡ Refused 5 (length s)
+  pub number-at-cut : {v n : ℕ} → v ≤ greatest → n < length (spellNumber v) → drop i s ≡ take n (spellNumber v)
+      → numberAt s i ≡ Refused 5 (length s)
   unfolding numberAt
   number-at-cut {v} {n} h l e = rw (e, beginning-cut v n h l)
 
@@ -167,7 +169,8 @@ module _ (s : List ℕ) (i : ℕ) where
   unfolding numberAt seeNumber
   number-at-refused {e} {p} q = by (see 0 (drop i s)) (see-within 0 (drop i s)) q
     where
-      by : (g : Seen) → Within 0 (length (drop i s)) g → placed s i g ≡ Refused e p → ((e ≡ 5) × (p ≡ length s)) ⊎ ((e ≡ 6) × (i ≤ p) × (p < length s))
+      by : (g : Seen) → Within 0 (length (drop i s)) g → placed s i g ≡ Refused e p
+          → ((e ≡ 5) × (p ≡ length s)) ⊎ ((e ≡ 6) × (i ≤ p) × (p < length s))
       by (number v n) w q = let z : _≡_ {A = ℕ} 0 1 = cc in absurd (omega arith)
       by ends w q = inl (cc, cc)
       by (refused n) w q = let r : p ≡ i + n = cc in inr (cc, omega arith, omega (arith, length-drop i s))

@@ -83,7 +83,8 @@ module _ {m : ℕ} {w : ℕ → Letter} {δ : Delta} {S : State → State} (O : 
   chain-arrow {y} c x′ (here e) d = (x′, rw e d, here refl)
   chain-arrow {y} c x′ (next {x = x} r) d = by (λ z e. chain-arrow c z r e) (near-arrow x (S x) c x′ (inr refl) d)
     where
-      by : ((z : State) → δ (S x) c ≡ some z → (y′ : State) × (δ y c ≡ some y′) × On S y′ z) → (z : State) × (δ (S x) c ≡ some z) × Near z x′
+      by : ((z : State) → δ (S x) c ≡ some z → (y′ : State) × (δ y c ≡ some y′) × On S y′ z)
+          → (z : State) × (δ (S x) c ≡ some z) × Near z x′
           → (y′ : State) × (δ y c ≡ some y′) × On S y′ x′
       by rec t = let r′ = rec (t .0) (t .1) in (r′ .0, r′ .1, on-near (t .2) (r′ .2))
 

@@ -60,7 +60,8 @@ module _ {m : ℕ} {w : ℕ → Letter} {δ : Delta} {S : State → State} (O : 
   path-within zero x h b = let e : x ≡ 0 = omega arith in ([], ended e)
   path-within (suc f) x h b = by x h b (λ y l g. path-within f y l g)
     where
-      by : (x : State) → x ≤ suc f → x ≤ m → ((y : State) → y ≤ f → y ≤ m → (l : List State) × SuffixPath S y l) → (l : List State) × SuffixPath S x l
+      by : (x : State) → x ≤ suc f → x ≤ m → ((y : State) → y ≤ f → y ≤ m → (l : List State) × SuffixPath S y l)
+          → (l : List State) × SuffixPath S x l
       by zero h b rec = ([], ended refl)
       by (suc x) h b rec =
           let d = O .down x b in
@@ -69,31 +70,37 @@ module _ {m : ℕ} {w : ℕ → Letter} {δ : Delta} {S : State → State} (O : 
           (S (suc x) ∷ r .0, falls p refl (r .1))
 
   -- an arrow leads to a path longer by one at most
-  arrow-path : {k : State} {l : List State} {c : Letter} {y : State} {l′ : List State} → SuffixPath S k l → δ k c ≡ some y → SuffixPath S y l′ → length l′ ≤ suc (length l)
+  arrow-path : {k : State} {l : List State} {c : Letter} {y : State} {l′ : List State} → SuffixPath S k l → δ k c ≡ some y
+      → SuffixPath S y l′ → length l′ ≤ suc (length l)
   arrow-path (ended q) e (ended r) = omega arith
   arrow-path (falls p q d) e (ended r) = omega arith
   arrow-path {c = c} {y = y} (ended q) e (falls p r d) = let z : S y ≡ 0 = O .bottom c y (rw q at e) in omega (arith, path-of-zero (r ∙ z) d)
   arrow-path {c = c} {y = y} (falls {x = k} {y = k′} {l = l} p q d) e (falls {y = y′} {l = l′} p′ q′ d′) =
       by (O .answers k c y e) (λ f. arrow-path d (rw (← q) at f) (falls p′ q′ d′)) (λ f. arrow-path d (rw (← q) at f) (rw q′ at d′))
     where
-      by : (δ (S k) c ≡ some y) ⊎ (δ (S k) c ≡ some (S y)) → (δ (S k) c ≡ some y → suc (length l′) ≤ suc (length l)) → (δ (S k) c ≡ some (S y) → length l′ ≤ suc (length l))
+      by : (δ (S k) c ≡ some y) ⊎ (δ (S k) c ≡ some (S y)) → (δ (S k) c ≡ some y → suc (length l′) ≤ suc (length l))
+          → (δ (S k) c ≡ some (S y) → length l′ ≤ suc (length l))
           → suc (length l′) ≤ suc (suc (length l))
       by (inl f) r r′ = omega (arith, r f)
       by (inr f) r r′ = omega (arith, r′ f)
 
   -- the sources of a climb and the path of where it lands
-  climb-path : {c : Letter} {k : State} {l : List State} {y : State} {l′ xs : List State} → Climb δ S c k xs y → SuffixPath S k l → SuffixPath S y l′ → length xs + length l′ ≤ suc (length l)
+  climb-path : {c : Letter} {k : State} {l : List State} {y : State} {l′ xs : List State} → Climb δ S c k xs y → SuffixPath S k l
+      → SuffixPath S y l′ → length xs + length l′ ≤ suc (length l)
   climb-path (stop e) d d′ = omega (arith, arrow-path d e d′)
   climb-path (out z y e) d d′ = omega (arith, path-of-zero z d, path-of-zero y d′)
   climb-path (go p e r) (ended q) d′ = absurd (omega arith)
   climb-path (go p e r) (falls p′ q d) d′ = omega (arith, climb-path r (rw q at d) d′)
 
   -- one letter more: arrows so far and path at most 2 m, arrows then and path at most 2 (m + 1)
-  pub path-grows : (arrows : ℕ) {y : State} {l xs : List State} (S′ : State → State) → Climb δ S (w m) m xs y → SuffixPath S m l → arrows + length l ≤ m + m
-      → ((x : State) → x ≤ m → S′ x ≡ S x) → S′ (suc m) ≡ y → (l′ : List State) × SuffixPath S′ (suc m) (y ∷ l′) × (length xs + arrows + suc (length l′) ≤ suc m + suc m)
+  pub path-grows : (arrows : ℕ) {y : State} {l xs : List State} (S′ : State → State) → Climb δ S (w m) m xs y → SuffixPath S m l
+      → arrows + length l ≤ m + m
+      → ((x : State) → x ≤ m → S′ x ≡ S x) → S′ (suc m) ≡ y
+      → (l′ : List State) × SuffixPath S′ (suc m) (y ∷ l′) × (length xs + arrows + suc (length l′) ≤ suc m + suc m)
   path-grows arrows {y} {l} {xs} S′ C D b kept given = by (path-within y y (le-refl y) (climb-below O C))
     where
-      by : (l′ : List State) × SuffixPath S y l′ → (l′ : List State) × SuffixPath S′ (suc m) (y ∷ l′) × (length xs + arrows + suc (length l′) ≤ suc m + suc m)
+      by : (l′ : List State) × SuffixPath S y l′
+          → (l′ : List State) × SuffixPath S′ (suc m) (y ∷ l′) × (length xs + arrows + suc (length l′) ≤ suc m + suc m)
       by r =
           let p : 0 < suc m = omega arith in
           let d : SuffixPath S′ y (r .0) = path-agree S S′ (λ x h. omega (arith, supply-below O x h)) kept (climb-below O C) (r .1) in
@@ -131,7 +138,8 @@ module _ (p : Word) where
   pub arrows-few : (t : ℕ) → arrowsAt (suc t) ≤ t + suc t
   arrows-few t = let s = counted (suc t) in by (s .1) (s .2)
     where
-      by : {l : List State} → SuffixPath (supplies (builtUpTo p (suc t))) (suc t) l → arrowsAt (suc t) + length l ≤ suc t + suc t → arrowsAt (suc t) ≤ t + suc t
+      by : {l : List State} → SuffixPath (supplies (builtUpTo p (suc t))) (suc t) l → arrowsAt (suc t) + length l ≤ suc t + suc t
+          → arrowsAt (suc t) ≤ t + suc t
       by (ended q) h = absurd (omega arith)
       by (falls q r d) h = omega arith
 

@@ -53,7 +53,8 @@ module _ (δ : Delta) (p : Word) where
   -- ── The extra targets of a state ─────────────────────────────────────────
 
   -- each is the target of an extra arrow
-  pub extra-target : (x : State) {y : State} → List·Memᴰ y (extraTargets δ p x) → (x + 2 ≤ y) × (y ≤ length p) × (δ x (letter p (pred y)) ≡ some y)
+  pub extra-target : (x : State) {y : State} → List·Memᴰ y (extraTargets δ p x)
+      → (x + 2 ≤ y) × (y ≤ length p) × (δ x (letter p (pred y)) ≡ some y)
   unfolding extraTargets
   extra-target x {y} m =
       let r = only-in _ _ m in
@@ -78,7 +79,8 @@ module _ (δ : Delta) (p : Word) where
   before-length x = length-append (targetsBefore δ p x) (extraTargets δ p x)
 
   -- the targets of x stand behind those of the states before x
-  pub before-grows : (x k : State) → x < k → (rest : List State) × (targetsBefore δ p k ≡ targetsBefore δ p x ++ (extraTargets δ p x ++ rest))
+  pub before-grows : (x k : State) → x < k
+      → (rest : List State) × (targetsBefore δ p k ≡ targetsBefore δ p x ++ (extraTargets δ p x ++ rest))
   unfolding targetsBefore
   before-grows x zero h = absurd (omega arith)
   before-grows x (suc k) h = by (ℕ-discrete x k) (before-grows x k)
@@ -100,7 +102,8 @@ module _ (δ : Delta) (p : Word) where
   before-bound zero m = absurd (elim m [ ])
   before-bound (suc x) {y} m = by (List·Memᴰ·append-cases (targetsBefore δ p x) m) (before-bound x)
     where
-      by : List·Memᴰ y (targetsBefore δ p x) ⊎ List·Memᴰ y (extraTargets δ p x) → (List·Memᴰ y (targetsBefore δ p x) → y ≤ length p) → y ≤ length p
+      by : List·Memᴰ y (targetsBefore δ p x) ⊎ List·Memᴰ y (extraTargets δ p x) → (List·Memᴰ y (targetsBefore δ p x) → y ≤ length p)
+          → y ≤ length p
       by (inl n) rec = rec n
       by (inr n) rec = extra-target x n .1
 
@@ -122,7 +125,8 @@ module _ (δ : Delta) (p : Word) where
   extras-length (suc x) = simp (length-append, length-map, extras-length x)
 
   -- each leaves a state before k and leads to one of its extra targets
-  pub extra-before : (k : State) {a : Extra} → List·Memᴰ a (extrasBefore δ p k) → (a .source < k) × List·Memᴰ (a .to) (extraTargets δ p (a .source))
+  pub extra-before : (k : State) {a : Extra} → List·Memᴰ a (extrasBefore δ p k)
+      → (a .source < k) × List·Memᴰ (a .to) (extraTargets δ p (a .source))
   unfolding extrasBefore
   extra-before zero m = absurd (elim m [ ])
   extra-before (suc k) {a} m = by (List·Memᴰ·append-cases (extrasBefore δ p k) m) (extra-before k)
@@ -130,7 +134,8 @@ module _ (δ : Delta) (p : Word) where
       Found : State → Type 0
       Found k = (a .source < k) × List·Memᴰ (a .to) (extraTargets δ p (a .source))
 
-      by : List·Memᴰ a (extrasBefore δ p k) ⊎ List·Memᴰ a (map (extra k) (extraTargets δ p k)) → (List·Memᴰ a (extrasBefore δ p k) → Found k) → Found (suc k)
+      by : List·Memᴰ a (extrasBefore δ p k) ⊎ List·Memᴰ a (map (extra k) (extraTargets δ p k))
+          → (List·Memᴰ a (extrasBefore δ p k) → Found k) → Found (suc k)
       by (inl n) rec = let r = rec n in (omega (arith, r .0), r .1)
       by (inr n) rec = let r = Memᴰ·of-map (extra k) (extraTargets δ p k) n in rw (← r .2) (omega arith, r .1)
 
@@ -238,7 +243,8 @@ module _ (δ : Delta) (p : Word) where
           omega (arith, extra-before δ p x m .0)
 
   -- where E has every extra arrow, the list of all targets is no longer than E
-  pub extras-fit : (E : List Arrow) → ((x y : State) → x + 2 ≤ y → y ≤ length p → δ x (letter p (pred y)) ≡ some y → List·Memᴰ (arrow x (letter p (pred y)) y) E)
+  pub extras-fit : (E : List Arrow)
+      → ((x y : State) → x + 2 ≤ y → y ≤ length p → δ x (letter p (pred y)) ≡ some y → List·Memᴰ (arrow x (letter p (pred y)) y) E)
       → (k : State) → length (targetsBefore δ p k) ≤ length E
   extras-fit E f k = omega (arith, extras-length δ p k, length-map E ends, pigeonhole (extras-distinct k) (map ends E) inside)
     where
@@ -255,7 +261,8 @@ module _ (δ : Delta) (p : Word) where
 
 module _ (p : Word) where
   -- each arrow of the spine leads one up, on the letter between
-  pub spine-member : {a : Arrow} → List·Memᴰ a (spine p) → (a .source < length p) × (a .on ≡ letter p (a .source)) × (a .to ≡ suc (a .source))
+  pub spine-member : {a : Arrow} → List·Memᴰ a (spine p)
+      → (a .source < length p) × (a .on ≡ letter p (a .source)) × (a .to ≡ suc (a .source))
   unfolding spine
   spine-member {a} m = let r = Memᴰ·of-map _ _ m in let b = from-in 0 (length p) (r .1) in rw (← r .2) (omega (arith, b .1), refl, refl)
 
@@ -272,5 +279,6 @@ module _ (p : Word) where
   unfolding suffixRule
   oracle-extras-fit k = omega (arith, extra-arrows-few p, extras-fit (oracle p) p (extraArrows p) extra k)
     where
-      extra : (x y : State) → x + 2 ≤ y → y ≤ length p → oracle p x (letter p (pred y)) ≡ some y → List·Memᴰ (arrow x (letter p (pred y)) y) (extraArrows p)
+      extra : (x y : State) → x + 2 ≤ y → y ≤ length p → oracle p x (letter p (pred y)) ≡ some y
+          → List·Memᴰ (arrow x (letter p (pred y)) y) (extraArrows p)
       extra x y h b e = climbing-extra (extraArrows p) (target-member (suffixRule p) x (letter p (pred y)) y e) h

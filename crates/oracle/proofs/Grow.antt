@@ -66,7 +66,8 @@ module _ {δ : Delta} {S : State → State} {c : Letter} where
 -- ── What it needs of the states so far ─────────────────────────────────────
 
 -- chains below t are the same under supplies that agree up to t
-on-agree : {t : State} (S S′ : State → State) → ((x : State) → x ≤ t → S x ≤ x) → ((x : State) → x ≤ t → S′ x ≡ S x) → {y x : State} → x ≤ t → On S y x → On S′ y x
+on-agree : {t : State} (S S′ : State → State) → ((x : State) → x ≤ t → S x ≤ x) → ((x : State) → x ≤ t → S′ x ≡ S x) → {y x : State}
+    → x ≤ t → On S y x → On S′ y x
 on-agree S S′ d a h (here e) = here e
 on-agree S S′ d a h (next {x = x} r) = next {x = x} (rw (a x h) (on-agree S S′ d a (omega (arith, d x h)) r))
 

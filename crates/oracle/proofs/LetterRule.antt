@@ -41,7 +41,8 @@ climb-at : {δ : Delta} {S : State → State} {c : Letter} {j k y : State} {xs :
 climb-at e C = rw e at C
 
 -- the climb over a list is the climb along the chain
-climb-is : {δ : Delta} {S : State → State} {k : State} {l : List State} (c : Letter) → δ k c ≡ none → SuffixPath S k l → Climb δ S c k (k ∷ climb δ c l .sources) (climb δ c l .supply)
+climb-is : {δ : Delta} {S : State → State} {k : State} {l : List State} (c : Letter) → δ k c ≡ none → SuffixPath S k l
+    → Climb δ S c k (k ∷ climb δ c l .sources) (climb δ c l .supply)
 unfolding climb
 climb-is c e (ended z) = out z refl e
 climb-is {δ} {S} {k} c e (falls {y = y} {l = l} p q r) = go p e (climb-at q (by (δ y c) refl (λ f. climb-is c f r)))
@@ -96,7 +97,8 @@ module _ {t : State} {w : ℕ → Letter} {b : Built} (G : Sound t w b) where
   pub supply-new : supplies b′ (suc t) ≡ r .supply
   supply-new = rw path-new
 
-  pub old-arrows : (x : State) (c : Letter) → (target (b′ .arrows) x c ≡ target (b .arrows) x c) ⊎ ((c ≡ w t) × List·Memᴰ x (t ∷ r .sources))
+  pub old-arrows : (x : State) (c : Letter)
+      → (target (b′ .arrows) x c ≡ target (b .arrows) x c) ⊎ ((c ≡ w t) × List·Memᴰ x (t ∷ r .sources))
   unfolding addLetter
   old-arrows x c = target-old (b .arrows) (w t) (suc t) (t ∷ r .sources) x c
 
@@ -168,9 +170,11 @@ module _ (p : Word) where
       by (inr d) = absurd (omega (arith, d .1))
 
   -- the arrows made of the first t letters are those of every later build that lead up to state t
-  pub built-restricts : (t d : ℕ) (x : State) (c : Letter) (y : State) → (arrowsOf t x c ≡ some y) ↔ ((arrowsOf (t + d) x c ≡ some y) × (y ≤ t))
+  pub built-restricts : (t d : ℕ) (x : State) (c : Letter) (y : State)
+      → (arrowsOf t x c ≡ some y) ↔ ((arrowsOf (t + d) x c ≡ some y) × (y ≤ t))
   built-restricts t zero x c y = rw (add-zero t) (λ e. (e, arrow-up (built-sound p t .supplied) x c y e .1), λ r. r .0)
   built-restricts t (suc d) x c y = rw (add-suc t d) (by (built-restricts t d x c y))
     where
-      by : (arrowsOf t x c ≡ some y) ↔ ((arrowsOf (t + d) x c ≡ some y) × (y ≤ t)) → (arrowsOf t x c ≡ some y) ↔ ((arrowsOf (suc (t + d)) x c ≡ some y) × (y ≤ t))
+      by : (arrowsOf t x c ≡ some y) ↔ ((arrowsOf (t + d) x c ≡ some y) × (y ≤ t))
+          → (arrowsOf t x c ≡ some y) ↔ ((arrowsOf (suc (t + d)) x c ≡ some y) × (y ≤ t))
       by rec = (λ e. (arrow-keeps (t + d) x c y (rec .0 e .0), rec .0 e .1), λ r. rec .1 (arrow-before (t + d) x c y (omega (arith, r .1)) (r .0), r .1))

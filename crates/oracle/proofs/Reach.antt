@@ -31,7 +31,8 @@ module _ {m : ℕ} {w : ℕ → Letter} {δ : Delta} {S : State → State} (O : 
 
   -- ── Every factor is walked ───────────────────────────────────────────────
 
-  one-more : (i n : ℕ) → i + n < m → On S (to i n) (i + n) → (δ (to i n) (w (i + n)) ≡ some (to i (suc n))) × On S (to i (suc n)) (suc (i + n))
+  one-more : (i n : ℕ) → i + n < m → On S (to i n) (i + n)
+      → (δ (to i n) (w (i + n)) ≡ some (to i (suc n))) × On S (to i (suc n)) (suc (i + n))
   one-more i n h r =
       let f = chain-arrow O (w (i + n)) (suc (i + n)) r (O .spine (i + n) h) in
       let e : f .0 ≡ to i (suc n) = sym (reach-next w δ i n (f .1)) in
@@ -68,7 +69,8 @@ module _ {m : ℕ} {w : ℕ → Letter} {δ : Delta} {S : State → State} (O : 
   reach-near i zero h = inr (sym (O .bottom (w (i + 0)) (to i 1) (reach-arrow i 0 (omega arith))))
   reach-near i (suc n) h = by (near-arrow O (to i (suc n)) (to (suc i) n) (w (i + suc n)) (to i (suc (suc n))) (reach-near i n (omega arith)) (reach-arrow i (suc n) (omega arith)))
     where
-      by : (y : State) × (δ (to (suc i) n) (w (i + suc n)) ≡ some y) × Near O y (to i (suc (suc n))) → Near O (to (suc i) (suc n)) (to i (suc (suc n)))
+      by : (y : State) × (δ (to (suc i) n) (w (i + suc n)) ≡ some y) × Near O y (to i (suc (suc n)))
+          → Near O (to (suc i) (suc n)) (to i (suc (suc n)))
       by t = let e : i + suc n ≡ suc i + n = omega arith in rw (reach-next w δ (suc i) n (rw e at (t .1))) (t .2)
 
   pub reach-chain : (d i n : ℕ) → i + (d + n) ≤ m → On S (to (i + d) n) (to i (d + n))

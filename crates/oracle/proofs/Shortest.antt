@@ -41,7 +41,8 @@ last-letter c [] = ([], c, refl)
 last-letter c (a ∷ v) = let r = last-letter a v in (c ∷ r .0, r .1, ap {B = Word} (λ l. c ∷ l) (r .2))
 
 -- where a part is u and then v, v stands in the word behind u
-pub end-of-part : (p : Word) (a n : ℕ) (u v : Word) → a + n ≤ length p → part p a n ≡ u ++ v → (length u + length v ≡ n) × (part p (a + length u) (length v) ≡ v)
+pub end-of-part : (p : Word) (a n : ℕ) (u v : Word) → a + n ≤ length p → part p a n ≡ u ++ v
+    → (length u + length v ≡ n) × (part p (a + length u) (length v) ≡ v)
 end-of-part p a n u v h e = (size, sym (drop-at front back (length u) (part-length p a (length u) (omega (arith, size)))) ∙ ap (drop (length u)) split ∙ drop-at u v (length u) refl)
   where
     size : length u + length v ≡ n
@@ -129,7 +130,8 @@ module _ (p : Word) {δ : Delta} {S : State → State} (O : Supplied (length p) 
             rw (q, ← same, append-assoc u (part p a n) (w z ∷ []), k, g, append-assoc u (part p a (E - a)) (part p E N))
 
     -- the source y of the last arrow is on z's chain, so some factor up to z is walked to y, and holds y's shortest word at its end
-    last-arrow : (v : Word) (y : State) (d : Letter) → walk δ 0 v ≡ some y → δ y d ≡ some (suc z) → (u : Word) × (v ++ (d ∷ []) ≡ u ++ part p E N)
+    last-arrow : (v : Word) (y : State) (d : Letter) → walk δ 0 v ≡ some y → δ y d ≡ some (suc z)
+        → (u : Word) × (v ++ (d ∷ []) ≡ u ++ part p E N)
     last-arrow v y d e a = by (O .into y d (suc z) a)
       where
         from-chain : On S y z → d ≡ w z → (u : Word) × (v ++ (d ∷ []) ≡ u ++ part p E N)
@@ -167,5 +169,6 @@ module _ (p : Word) {δ : Delta} {S : State → State} (O : Supplied (length p) 
   shortest x b = shortest-within x x (le-refl x) b
 
   -- wherever it stands, it ends at x or later
-  pub shortest-first : (x : State) (U : Shortest x) (f : ℕ) → x ≤ length p → f + U .len ≤ length p → part p f (U .len) ≡ part p (U .start) (U .len) → x ≤ f + U .len
+  pub shortest-first : (x : State) (U : Shortest x) (f : ℕ) → x ≤ length p → f + U .len ≤ length p
+      → part p f (U .len) ≡ part p (U .start) (U .len) → x ≤ f + U .len
   shortest-first x U f b h e = omega (arith, reach-same f (U .start) (U .len) h (omega (arith, U .place)) e ∙ U .walked, reach-below O f (U .len) h)

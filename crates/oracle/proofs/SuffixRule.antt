@@ -39,13 +39,16 @@ module _ (p : Word) where
   spine-arrow zero i x h l = absurd (omega arith)
   spine-arrow (suc n) i x h l = by (ℕ-discrete x i) (target-pass (spineFrom (suc i) n) (arrow i (letter p i) (suc i)) x (letter p x)) (spine-arrow n (suc i) x)
     where
-      by : Dec (x ≡ i) → (target (spineFrom i (suc n)) x (letter p x) ≡ target (spineFrom (suc i) n) x (letter p x)) ⊎ ((x ≡ i) × (letter p x ≡ letter p i))
-          → (suc i ≤ x → x < suc i + n → target (spineFrom (suc i) n) x (letter p x) ≡ some (suc x)) → target (spineFrom i (suc n)) x (letter p x) ≡ some (suc x)
+      by : Dec (x ≡ i)
+          → (target (spineFrom i (suc n)) x (letter p x) ≡ target (spineFrom (suc i) n) x (letter p x)) ⊎ ((x ≡ i) × (letter p x ≡ letter p i))
+          → (suc i ≤ x → x < suc i + n → target (spineFrom (suc i) n) x (letter p x) ≡ some (suc x))
+          → target (spineFrom i (suc n)) x (letter p x) ≡ some (suc x)
       by (yes e) d rec = rw e (target-hit (spineFrom (suc i) n) i (letter p i) (suc i))
       by (no e) (inl d) rec = d ∙ rec (omega arith) (omega arith)
       by (no e) (inr d) rec = absurd (e (d .0))
 
-  spine-only : (n i : ℕ) (x : State) (c : Letter) (y : State) → target (spineFrom i n) x c ≡ some y → (i ≤ x) × (x < i + n) × (c ≡ letter p x) × (y ≡ suc x)
+  spine-only : (n i : ℕ) (x : State) (c : Letter) (y : State) → target (spineFrom i n) x c ≡ some y
+      → (i ≤ x) × (x < i + n) × (c ≡ letter p x) × (y ≡ suc x)
   unfolding from target
   spine-only zero i x c y e = never refl e
   spine-only (suc n) i x c y e = by (target-pass (spineFrom (suc i) n) (arrow i (letter p i) (suc i)) x c) (spine-only n (suc i) x c y)
@@ -145,7 +148,8 @@ module _ (p : Word) {δ : Delta} {S : State → State} (O : Supplied (length p) 
       by j n h l (no b) = let e : j ≡ i = omega arith in rw e (f n (omega arith))
 
   -- the lacking arrow is added
-  mended : (A : List Arrow) (i len : ℕ) → 0 < i → Part (target A) i → i + len < m → ((n : ℕ) → n < len → Uses (target A) i n) → target A (to i len) (w (i + len)) ≡ none
+  mended : (A : List Arrow) (i len : ℕ) → 0 < i → Part (target A) i → i + len < m → ((n : ℕ) → n < len → Uses (target A) i n)
+      → target A (to i len) (w (i + len)) ≡ none
       → Part (target (arrow (to i len) (w (i + len)) (suc (i + len)) ∷ A)) (suc i)
   mended A i len pos P inside followed lacks = whole B i (record { within = within; has = λ j n h l. stays _ _ _ (P .has j n h l) }) uses
     where
@@ -192,7 +196,8 @@ module _ (p : Word) {δ : Delta} {S : State → State} (O : Supplied (length p) 
           by (no l) (no e) = let q : suc len + (n - suc len) ≡ n = omega arith in rw q at (beyond (n - suc len) (omega arith))
 
   -- one suffix
-  suffix-part : (A : List Arrow) (i : ℕ) → 0 < i → i ≤ m → Part (target A) i → OneEach A → Part (target (missing p A i ++ A)) (suc i) × OneEach (missing p A i ++ A)
+  suffix-part : (A : List Arrow) (i : ℕ) → 0 < i → i ≤ m → Part (target A) i → OneEach A
+      → Part (target (missing p A i ++ A)) (suc i) × OneEach (missing p A i ++ A)
   unfolding missing mend OneEach
   suffix-part A i pos b P one =
       let H = far-halts (target A) i (P .within) (drop i p) 0 i (sym (add-zero i)) refl b (λ n h. absurd (omega arith)) in

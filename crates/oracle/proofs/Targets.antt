@@ -23,11 +23,13 @@ pub target-hit : (A : List Arrow) (x : State) (c : Letter) (y : State) → targe
 unfolding target
 target-hit A x c y = rw (eq-eqb x x refl, eq-eqb c c refl)
 
-pub target-pass : (A : List Arrow) (a : Arrow) (x : State) (c : Letter) → (target (a ∷ A) x c ≡ target A x c) ⊎ ((x ≡ a .source) × (c ≡ a .on))
+pub target-pass : (A : List Arrow) (a : Arrow) (x : State) (c : Letter)
+    → (target (a ∷ A) x c ≡ target A x c) ⊎ ((x ≡ a .source) × (c ≡ a .on))
 unfolding target
 target-pass A a x c = by (eqb (a .source) x && eqb (a .on) c) refl
   where
-    by : (b : Bool) → eqb (a .source) x && eqb (a .on) c ≡ b → (cond b (some (a .to)) (target A x c) ≡ target A x c) ⊎ ((x ≡ a .source) × (c ≡ a .on))
+    by : (b : Bool) → eqb (a .source) x && eqb (a .on) c ≡ b
+        → (cond b (some (a .to)) (target A x c) ≡ target A x c) ⊎ ((x ≡ a .source) × (c ≡ a .on))
     by true e = let r = and-true {a = eqb (a .source) x} {b = eqb (a .on) c} e in inr (sym (eqb-true (a .source) x (r .0)), sym (eqb-true (a .on) c (r .1)))
     by false e = inl refl
 
@@ -68,7 +70,8 @@ unfolding target
 target-member [] x c y e = never {X = List·Memᴰ (arrow x c y) []} refl e
 target-member (a ∷ A) x c y e = by (target-pass A a x c) (target-member A x c y)
   where
-    by : (target (a ∷ A) x c ≡ target A x c) ⊎ ((x ≡ a .source) × (c ≡ a .on)) → (target A x c ≡ some y → List·Memᴰ (arrow x c y) A) → List·Memᴰ (arrow x c y) (a ∷ A)
+    by : (target (a ∷ A) x c ≡ target A x c) ⊎ ((x ≡ a .source) × (c ≡ a .on)) → (target A x c ≡ some y → List·Memᴰ (arrow x c y) A)
+        → List·Memᴰ (arrow x c y) (a ∷ A)
     by (inl d) rec = List·Memᴰ·tail (rec (sym d ∙ e))
     by (inr d) rec =
         let t : some y ≡ some (a .to) = sym e ∙ rw (d .0, d .1) (target-hit A (a .source) (a .on) (a .to)) in
@@ -91,7 +94,8 @@ none-behind : (A B : List Arrow) (x : State) (c : Letter) → target (A ++ B) x 
 none-behind [] B x c e = e
 none-behind (a ∷ A) B x c e = by (target-pass (A ++ B) a x c) (none-behind A B x c)
   where
-    by : (target (a ∷ A ++ B) x c ≡ target (A ++ B) x c) ⊎ ((x ≡ a .source) × (c ≡ a .on)) → (target (A ++ B) x c ≡ none → target B x c ≡ none) → target B x c ≡ none
+    by : (target (a ∷ A ++ B) x c ≡ target (A ++ B) x c) ⊎ ((x ≡ a .source) × (c ≡ a .on))
+        → (target (A ++ B) x c ≡ none → target B x c ≡ none) → target B x c ≡ none
     by (inl d) rec = rec (sym d ∙ e)
     by (inr d) rec = never (rw (d .0, d .1) at e) (target-hit (A ++ B) (a .source) (a .on) (a .to))
 

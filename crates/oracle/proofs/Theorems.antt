@@ -27,7 +27,8 @@ use Rattle.oracle.proofs.Supply.{supply-0, supply-is-defined}
 use Rattle.oracle.proofs.Count.{spine-length, extra-arrows-few}
 
 -- the record depends on the first m letters alone
-pub same-letters : {m : ℕ} {δ : Delta} {S : State → State} (w w′ : ℕ → Letter) → ((i : ℕ) → i < m → w′ i ≡ w i) → Supplied m w δ S → Supplied m w′ δ S
+pub same-letters : {m : ℕ} {δ : Delta} {S : State → State} (w w′ : ℕ → Letter) → ((i : ℕ) → i < m → w′ i ≡ w i) → Supplied m w δ S
+    → Supplied m w′ δ S
 same-letters {m} {δ} {S} w w′ e O = record {
   spine = λ i h. rw (e i h) (O .spine i h);
   into = λ x c y d. by x c y (O .into x c y d);
@@ -74,7 +75,8 @@ module _ (p : Word) where
   oracle-supplied = rw (fun-ext (λ x. fun-ext (λ c. same-arrows x c))) (made .supplied)
 
   -- the oracle of the first t letters is the part of the whole one that leads up to state t
-  pub prefix-oracle : (t : ℕ) → t ≤ length p → (x : State) (c : Letter) (y : State) → (oracle (take t p) x c ≡ some y) ↔ ((oracle p x c ≡ some y) × (y ≤ t))
+  pub prefix-oracle : (t : ℕ) → t ≤ length p → (x : State) (c : Letter) (y : State)
+      → (oracle (take t p) x c ≡ some y) ↔ ((oracle p x c ≡ some y) × (y ≤ t))
   unfolding letterRule
   prefix-oracle t h x c y =
       let n : length (take t p) ≡ t = length-take-le t p h in

@@ -22,7 +22,8 @@ module _ (δ : Delta) where
   walk-step c v x y e = rw (e, walk)
 
   -- a walk that gets anywhere takes its first arrow
-  pub walk-first : (c : Letter) (v : Word) (x z : State) → walk δ x (c ∷ v) ≡ some z → (y : State) × (δ x c ≡ some y) × (walk δ y v ≡ some z)
+  pub walk-first : (c : Letter) (v : Word) (x z : State) → walk δ x (c ∷ v) ≡ some z
+      → (y : State) × (δ x c ≡ some y) × (walk δ y v ≡ some z)
   unfolding walk
   walk-first c v x z e = by (δ x c) refl
     where
@@ -77,7 +78,8 @@ module _ (p : Word) {δ : Delta} {S : State → State} (O : Supplied (length p) 
   full-walk [] x y e q = let f : x ≡ length p = omega arith in rw (f, drop-length p)
   full-walk (c ∷ v) x y e q = by (walk-first δ c v x y e) (λ x′ f g. full-walk v x′ y f g)
     where
-      by : (z : State) × (δ x c ≡ some z) × (walk δ z v ≡ some y) → ((x′ : State) → walk δ x′ v ≡ some y → length v + x′ ≡ length p → v ≡ drop x′ p) → c ∷ v ≡ drop x p
+      by : (z : State) × (δ x c ≡ some z) × (walk δ z v ≡ some y)
+          → ((x′ : State) → walk δ x′ v ≡ some y → length v + x′ ≡ length p → v ≡ drop x′ p) → c ∷ v ≡ drop x p
       by f rec =
           let u = O .into x c (f .0) (f .1) in
           let a = arrow-up O x c (f .0) (f .1) in

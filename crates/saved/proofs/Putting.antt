@@ -50,7 +50,8 @@ module _ {final t : List ℕ} {at : ℕ} {ahead : List ℕ} (P : Putting final t
     })
 
   -- a number is put
-  put-number : (v : ℕ) (rest : List ℕ) → ahead ≡ spellNumber v ++ rest → {t′ : List ℕ} {next : ℕ} → Wrote t at v t′ next → Putting final t′ next rest
+  put-number : (v : ℕ) (rest : List ℕ) → ahead ≡ spellNumber v ++ rest → {t′ : List ℕ} {next : ℕ} → Wrote t at v t′ next
+      → Putting final t′ next rest
   unfolding written
   put-number v rest e W = rw (W .0, W .1) (put-piece (spellNumber v) rest e)
 

@@ -19,7 +19,8 @@ pub record Sizing (p : Word) (size : ℕ) (x : State) (s : ℕ) : Type 0 where
   pub stands : Standing p x s
 
 -- all but the steps
-pub size-start : {p : Word} {e a b count : ℕ} → 1 ≤ length p → e ≡ length (spellNumber 1) → a ≡ length (spellNumber (length p)) → count ≡ length (ownSteps p)
+pub size-start : {p : Word} {e a b count : ℕ} → 1 ≤ length p → e ≡ length (spellNumber 1) → a ≡ length (spellNumber (length p))
+    → count ≡ length (ownSteps p)
     → b ≡ length (spellNumber count) → Sizing p (e + a + length p + b) 0 0
 unfolding ownSteps
 size-start {p} h e a count b =

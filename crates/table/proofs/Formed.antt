@@ -131,7 +131,8 @@ module _ (A R : List ℕ) (m : ℕ) (F : Formed A m) where
       spine : x < m → at (A ++ R) (x + 1) ≡ at A (x + 1)
       spine h = at-more (x + 1) (omega arith)
 
-      slots : end ≤ m + 1 → Dec (start < end) → firstOf (A ++ R) c (3 * (m + 1) + start) (end - start) ≡ firstOf A c (3 * (m + 1) + start) (end - start)
+      slots : end ≤ m + 1 → Dec (start < end)
+          → firstOf (A ++ R) c (3 * (m + 1) + start) (end - start) ≡ firstOf A c (3 * (m + 1) + start) (end - start)
       slots b (yes l) = slots-more c (end - start) start (omega arith)
       slots b (no l) = slot-end (A ++ R) c (3 * (m + 1)) start end (omega arith) ∙ sym (slot-end A c (3 * (m + 1)) start end (omega arith))
 

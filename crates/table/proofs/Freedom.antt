@@ -37,7 +37,8 @@ module _ (p : Word) (E : List Arrow) (X : ExtraSet p E) where
           (pred y, omega arith, omega arith, X .letters _ m, omega arith)
       into x c y (inr m) = let r = spine-member p m in (x, r .2, r .0, r .1, le-refl x)
 
-      extra : (x y : State) → x + 2 ≤ y → y ≤ length p → target A x (letter p (pred y)) ≡ some y → List·Memᴰ (arrow x (letter p (pred y)) y) E
+      extra : (x y : State) → x + 2 ≤ y → y ≤ length p → target A x (letter p (pred y)) ≡ some y
+          → List·Memᴰ (arrow x (letter p (pred y)) y) E
       extra x y h b e = climbing-extra p E (target-member A x (letter p (pred y)) y e) h
 
       fits : length (targetsBefore (target A) p (suc (length p))) ≤ suc (length p)

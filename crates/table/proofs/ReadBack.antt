@@ -30,7 +30,8 @@ unfolding readWord tableFrom
 reads-word p δ S = take-append-seam p _
 
 -- and so is the supply of each state above 0
-pub reads-supply : (p : Word) (δ : Delta) (S : State → State) (x : State) → 0 < x → x ≤ length p → readSupply (length p) (tableFrom p δ S) x ≡ some (S x)
+pub reads-supply : (p : Word) (δ : Delta) (S : State → State) (x : State) → 0 < x → x ≤ length p
+    → readSupply (length p) (tableFrom p δ S) x ≡ some (S x)
 unfolding readSupply
 reads-supply p δ S zero h b = absurd (omega arith)
 reads-supply p δ S (suc x) h b = rw (le-leb (suc x) (length p) b, row-1 p δ S x b, ne-eqb (suc x) 0 (λ e. omega arith))

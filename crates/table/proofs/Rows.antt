@@ -121,7 +121,8 @@ module _ (p : Word) (δ : Delta) (S : State → State) where
   -- ── All entries ──────────────────────────────────────────────────────────
 
   -- what holds row by row holds of every entry
-  rows : (P : ℕ → Type 0) → ((i : ℕ) → i < n → P i) → P n → ((x : ℕ) → x < m → P (n + suc x)) → ((i : ℕ) → i < n → P (2 * n + i)) → ((i : ℕ) → i < n → P (3 * n + i))
+  rows : (P : ℕ → Type 0) → ((i : ℕ) → i < n → P i) → P n → ((x : ℕ) → x < m → P (n + suc x)) → ((i : ℕ) → i < n → P (2 * n + i))
+      → ((i : ℕ) → i < n → P (3 * n + i))
       → ((i : ℕ) → i < 2 * n → P (4 * n + i)) → (i : ℕ) → i < 6 * n → P i
   rows P row0 row1-first row1 row2 row3 row4 i h = by (decLt i n) (ℕ-discrete i n) (decLt i (2 * n)) (decLt i (3 * n)) (decLt i (4 * n))
     where
@@ -134,8 +135,10 @@ module _ (p : Word) (δ : Delta) (S : State → State) where
       by (no a) (no f) (no b) (no c) (no d) = let e : 4 * n + (i - 4 * n) ≡ i = omega arith in rw e at (row4 (i - 4 * n) (omega arith))
 
   -- a list of six rows with these entries is the table
-  pub from-ext : (K : List ℕ) → length K ≡ 6 * n → ((i : ℕ) → i < n → at K i ≡ getD (0 ∷ p) i 0) → at K n ≡ 0 → ((x : ℕ) → x < m → at K (n + suc x) ≡ S (suc x))
-      → ((i : ℕ) → i < n → at K (2 * n + i) ≡ length (targetsBefore δ p i)) → ((i : ℕ) → i < n → at K (3 * n + i) ≡ getD (targetsBefore δ p n) i 0)
+  pub from-ext : (K : List ℕ) → length K ≡ 6 * n → ((i : ℕ) → i < n → at K i ≡ getD (0 ∷ p) i 0) → at K n ≡ 0
+      → ((x : ℕ) → x < m → at K (n + suc x) ≡ S (suc x))
+      → ((i : ℕ) → i < n → at K (2 * n + i) ≡ length (targetsBefore δ p i))
+      → ((i : ℕ) → i < n → at K (3 * n + i) ≡ getD (targetsBefore δ p n) i 0)
       → ((i : ℕ) → i < 2 * n → at K (4 * n + i) ≡ 0) → K ≡ tableFrom p δ S
   from-ext K size r0 r1-first r1 r2 r3 r4 = ext-getD 0 K L (omega (arith, from-size)) (λ i h. same i (omega arith))
     where

@@ -28,7 +28,8 @@ module _ (p : Word) where
       O : Supplied (length p) (letter p) (oracle p) (supplies (letterRule p))
       O = oracle-supplied p
 
-      into : (x : State) (c : Letter) (y : State) → oracle p x c ≡ some y → (z : State) × (y ≡ suc z) × (z < length p) × (c ≡ letter p z) × (x ≤ z)
+      into : (x : State) (c : Letter) (y : State) → oracle p x c ≡ some y
+          → (z : State) × (y ≡ suc z) × (z < length p) × (c ≡ letter p z) × (x ≤ z)
       into x c y e = let v = O .into x c y e in (v .z, v .to, v .inside, v .letter, on-below O (omega (arith, v .inside)) (v .on))
 
   -- 6(m+1) entries

@@ -78,7 +78,8 @@ module _ {L : List ℕ} {n : ℕ} {x : State} {e : ℕ} where
         K′ : List ℕ
         K′ = set K (3 * n + (s - 1)) y
 
-        by : {r : List State} → Chain L n j r → length r ≤ s → ((l : List State) → Chain L n (at L (2 * n + x)) l → reverse l ≡ reverseAux r (U .gone))
+        by : {r : List State} → Chain L n j r → length r ≤ s
+            → ((l : List State) → Chain L n (at L (2 * n + x)) l → reverse l ≡ reverseAux r (U .gone))
             → Unchaining L n x e K′ (s - 1) (at K (4 * n + j))
         by (ends z) h w = absurd (f z)
         by (links {l = r} p i q g o C) h w = record {
@@ -110,7 +111,8 @@ module _ {L : List ℕ} {n : ℕ} {x : State} {e : ℕ} where
         other : (i : ℕ) → i ≢ 2 * n + x → at (set K (2 * n + x) s) i ≡ at K i
         other i f = getD-set-other K (2 * n + x) i s 0 f
 
-        by : (l : List State) {r : List State} → Chain L n j r → reverse l ≡ reverseAux r (U .gone) → Moved L (set K (2 * n + x) s) n x e s l
+        by : (l : List State) {r : List State} → Chain L n j r → reverse l ≡ reverseAux r (U .gone)
+            → Moved L (set K (2 * n + x) s) n x e s l
         by l (links p i q g o C) w = absurd (omega arith)
         by l (ends q) w = record {
           size = simp length-set (U .size) ∙ sym size;

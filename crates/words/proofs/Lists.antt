@@ -78,7 +78,8 @@ module _ {A : Type 0} (P : A → Bool) where
   only-in [] m = absurd (elim m [ ])
   only-in (x ∷ l) {a} m = by (P x) refl m (only-in l)
     where
-      by : (b : Bool) → P x ≡ b → List·Memᴰ a (cond b (x ∷ only P l) (only P l)) → (List·Memᴰ a (only P l) → List·Memᴰ a l × (P a ≡ true)) → List·Memᴰ a (x ∷ l) × (P a ≡ true)
+      by : (b : Bool) → P x ≡ b → List·Memᴰ a (cond b (x ∷ only P l) (only P l)) → (List·Memᴰ a (only P l) → List·Memᴰ a l × (P a ≡ true))
+          → List·Memᴰ a (x ∷ l) × (P a ≡ true)
       by true e (List·Memᴰ·head q) rec = (List·Memᴰ·head q, rw q e)
       by true e (List·Memᴰ·tail n) rec = let r = rec n in (List·Memᴰ·tail (r .0), r .1)
       by false e n rec = let r = rec n in (List·Memᴰ·tail (r .0), r .1)
