@@ -1,4 +1,4 @@
-/* What only a caller in C can hand over, a null pointer with length 0 for each buffer, and the deepest calls there are, on eight threads at once: 128 KiB of
+/* What only a caller in C can hand over, a null pointer with length 0 for each buffer, and the deepest calls there are, on eight threads at once: 64 KiB of
  * stack for the call, and 16 KiB for what a thread needs of its own. */
 #define _POSIX_C_SOURCE 200809L
 #include <inttypes.h>
@@ -8,7 +8,7 @@
 
 #include "marks.h"
 
-enum { THREADS = 8, STACK = (128 + 16) * 1024, TEXT = 65536 };
+enum { THREADS = 8, STACK = (64 + 16) * 1024, TEXT = 65536 };
 
 static uint16_t tables[MARKS_TABLES(1)];
 static uint8_t room[1], out[4];

@@ -14,13 +14,15 @@ use Rattle.words.specs.Answers.{arrowTo, supplyOf}
 use Rattle.words.specs.declared.State.{State as Stated}
 use Rattle.words.specs.declared.Supply.{Supply}
 use Rattle.words.specs.declared.Supply.the-variants.{Of, Without}
-use Rattle.words.specs.declared.Arrow.{Arrow}
-use Rattle.words.specs.declared.Arrow.the-variants.{Missing}
+use Rattle.words.specs.declared.Leads.{Leads}
+use Rattle.words.specs.declared.Leads.the-variants.{Missing}
 use Rattle.oracle.specs.Arrows.{State}
 use Rattle.oracle.specs.SuffixPath.{SuffixPath, ended, falls}
 use Rattle.oracle.proofs.LetterRule.{path-agree}
 use Rattle.chains.specs.Chains.{supplyIn, Chain, lookIn, Looks, pushed}
-use Rattle.chains.specs.Letters.{Ready, Climbs, runs-out, goes-on, Begun, Added, later-letter}
+use Rattle.chains.specs.Letters.{Ready, Climbs, runs-out, goes-on, Steps, no-step, one-more, ClimbSays, Begun, Added, later-letter}
+use Rattle.chains.specs.declared.Climbed.{Climbed}
+use Rattle.chains.specs.declared.Climbed.the-variants.{Ended, Rests}
 use Rattle.chains.proofs.Looking.{chain-one, supply-none, supply-some, chain-states, look-same}
 use Rattle.chains.proofs.Pushing.{push-elsewhere, other-chain, push-heads, push-chained}
 
@@ -77,7 +79,7 @@ module _ {L : List ℕ} {n t u : ℕ} {k : State} (R : Ready L n t u k) where
       }
 
   -- and so is the arrow of state 0
-  pub zero-kept : {c : Letter} {r : Arrow} → k ≢ 0 → Looks L n t 0 c r → Looks (pushed L n u k (suc t)) n t 0 c r
+  pub zero-kept : {c : Letter} {r : Leads} → k ≢ 0 → Looks L n t 0 c r → Looks (pushed L n u k (suc t)) n t 0 c r
   zero-kept {c} {r} f Z = record { says = λ l C. by l C (R .chained .chain 0 (omega (arith, R .inside))) }
     where
       L′ : List ℕ
@@ -92,10 +94,35 @@ module _ {L : List ℕ} {n t u : ℕ} {k : State} (R : Ready L n t u k) where
           let q : l ≡ l′ = chain-one C (other-chain (R .chained) ready-slot (R .heads) k ready-state (suc t) 0 (omega (arith, R .inside)) (λ z. f (sym z)) D) in
           Z .says l′ D ∙ ap arrowTo (look-same (at L) (at L′) t l′ 0 c letters-kept (omega (arith, R .inside)) (λ y i. chain-states D i) ∙ ap (λ v. lookIn (at L′) t v 0 c) (sym q))
 
+-- ── A climb in parts ───────────────────────────────────────────────────────
+
+-- from L, u, k on it has come to L₁, u₁, k₁: it can go on there, and where it ends from there it ends from k
+pub record Resting (n t : ℕ) (c : Letter) (z : Leads) (L : List ℕ) (u : ℕ) (k : State) (L₁ : List ℕ) (u₁ : ℕ) (k₁ : State) : Type 0 where
+  pub ready : Ready L₁ n t u₁ k₁
+  pub zero : Looks L₁ n t 0 c z
+  pub onward : {L′ : List ℕ} {u′ : ℕ} {y : State} → Climbs n t c L₁ u₁ k₁ L′ u′ y → Climbs n t c L u k L′ u′ y
+
+pub rest-start : {n t : ℕ} {c : Letter} {z : Leads} {L : List ℕ} {u : ℕ} {k : State} → Ready L n t u k → Looks L n t 0 c z
+    → Resting n t c z L u k L u k
+rest-start R Z = record { ready = R; zero = Z; onward = λ C. C }
+
+pub rest-on : {n t : ℕ} {c : Letter} {z : Leads} {L : List ℕ} {u : ℕ} {k : State} {d : ℕ} {L₁ L₂ : List ℕ} {u₁ u₂ : ℕ} {k₁ k₂ : State}
+    → Resting n t c z L u k L₁ u₁ k₁ → Steps n t c d L₁ u₁ k₁ L₂ u₂ k₂ → Resting n t c z L u k L₂ u₂ k₂
+rest-on R (no-step a e q p) = rw (e, q, p) R
+rest-on {k₁ = k₁} R (one-more a p M S) =
+    let f : k₁ ≢ 0 = λ z. omega arith in
+    rest-on (record { ready = ready-next (R .ready) f; zero = zero-kept (R .ready) f (R .zero); onward = λ C. R .onward (goes-on p M C) }) S
+
+pub rest-falls : {n t : ℕ} {c : Letter} {d : ℕ} {L L′ : List ℕ} {u u′ : ℕ} {k k′ : State} → Ready L n t u k
+    → Steps n t c d L u k L′ u′ k′ → d + k′ ≤ k
+rest-falls R (no-step a e q p) = omega arith
+rest-falls {k = k} R (one-more a p M S) =
+    omega (arith, rest-falls (ready-next R (λ z. omega arith)) S, R .down k (omega (arith, R .below)))
+
 -- ── In the code's sums ─────────────────────────────────────────────────────
 
 module _ {L L₁ : List ℕ} {n t u : ℕ} {k : State} (e : L₁ ≡ pushed L n u k (t + 1)) where
-  pub zero-again : {c : Letter} {r : Arrow} → Ready L n t u k → k ≢ 0 → Looks L n t 0 c r → Looks L₁ n t 0 c r
+  pub zero-again : {c : Letter} {r : Leads} → Ready L n t u k → k ≢ 0 → Looks L n t 0 c r → Looks L₁ n t 0 c r
   zero-again R f Z = rw (e, add-one t) (zero-kept R f Z)
 
   pub ready-again : Ready L n t u k → k ≢ 0 → {s : State} → s ≡ at L (n + k) → Ready L₁ n t (u + 1) s
@@ -105,8 +132,20 @@ module _ {L L₁ : List ℕ} {n t u : ℕ} {k : State} (e : L₁ ≡ pushed L n 
       → Climbs n t c L₁ (u + 1) s L′ u′ y → Climbs n t c L u k L′ u′ y
   climb-again f q M C = let p : 0 < k = omega arith in goes-on p M (rw (e, q, add-one t, add-one u) at C)
 
+  pub steps-again : {c : Letter} {s : State} {left : ℕ} {L′ : List ℕ} {u′ : ℕ} {k′ : State} → k ≢ 0 → left ≢ 0 → s ≡ at L (n + k)
+      → Looks L n t k c Missing → Steps n t c (left - 1) L₁ (u + 1) s L′ u′ k′ → Steps n t c left L u k L′ u′ k′
+  steps-again {left = left} f g q M S =
+      let p : 0 < k = omega arith in let a : left ≡ suc (left - 1) = omega arith in one-more a p M (rw (e, q, add-one t, add-one u) at S)
+
   pub climb-out : {c : Letter} → k ≡ 0 → Looks L n t k c Missing → Climbs n t c L u k L₁ (u + 1) 0
   climb-out z M = runs-out z refl M (rw (add-one t) at e) (add-one u)
+
+-- whatever the rest of a climb says, so does the climb
+pub says-again : (n t : ℕ) (c : Letter) (left : ℕ) (L : List ℕ) (u : ℕ) (k : State) (L′ : List ℕ) {L₁ : List ℕ} {s : State}
+    → L₁ ≡ pushed L n u k (t + 1) → k ≢ 0 → left ≢ 0 → s ≡ at L (n + k) → Looks L n t k c Missing
+    → (r : Climbed) → ClimbSays n t c (left - 1) L₁ (u + 1) s L′ r → ClimbSays n t c left L u k L′ r
+says-again n t c left L u k L′ e f g q M (Ended u′ y) C = climb-again e f q M C
+says-again n t c left L u k L′ e f g q M (Rests u′ k′) S = steps-again e f g q M S
 
 -- ── One letter ─────────────────────────────────────────────────────────────
 
@@ -127,7 +166,7 @@ module _ {L : List ℕ} {n t u : ℕ} (B : Begun L n t u) where
   pub begun-letter : at L (t + 1) % 256 ≡ at L (suc t)
   begun-letter = rw (add-one t) (mod-eq-of-lt (B .letter))
 
-  pub begun-zero : {r : Arrow} → Looks L n t 0 (at L (t + 1)) r → Looks L n t 0 (at L (t + 1) % 256) r
+  pub begun-zero : {r : Leads} → Looks L n t 0 (at L (t + 1)) r → Looks L n t 0 (at L (t + 1) % 256) r
   begun-zero Z = rw begun-letter (rw (add-one t) at Z)
 
   pub letter-added : t ≢ 0 → {k : State} → k ≡ at L (n + t) → {L₁ : List ℕ} {u′ : ℕ} {y : State}

@@ -14,7 +14,7 @@ use borrow.Author.Tests.{eq-eqb, ne-eqb}
 use Rattle.words.specs.Lists.{at}
 use Rattle.words.specs.Words.{Letter}
 use Rattle.words.specs.Answers.{arrowTo}
-use Rattle.words.specs.declared.Arrow.the-variants.{To, Missing}
+use Rattle.words.specs.declared.Leads.the-variants.{To, Missing}
 use Rattle.oracle.specs.Arrows.{State}
 use Rattle.oracle.proofs.Chain.{zero-first, zero-none}
 use Rattle.chains.specs.Chains.{Chain, lookIn, Looks}

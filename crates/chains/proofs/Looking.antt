@@ -12,8 +12,8 @@ use borrow.Author.Tests.{lt-ltb, le-ltb, eq-eqb, ne-eqb}
 use Rattle.words.specs.Lists.{at, first}
 use Rattle.words.specs.Words.{Letter}
 use Rattle.words.specs.Answers.{arrowTo, supplyOf}
-use Rattle.words.specs.declared.Arrow.{Arrow}
-use Rattle.words.specs.declared.Arrow.the-variants.{To, Missing}
+use Rattle.words.specs.declared.Leads.{Leads}
+use Rattle.words.specs.declared.Leads.the-variants.{To, Missing}
 use Rattle.words.specs.declared.Supply.the-variants.{Of, Without}
 use Rattle.words.proofs.Lists.{first-yes, first-not}
 use Rattle.oracle.specs.Arrows.{State}
@@ -77,7 +77,7 @@ pub record Chasing (L : List ℕ) (n t : ℕ) (x : State) (c : Letter) (j : ℕ)
   pub same : (l : List State) → Chain L n (at L (2 * n + x)) l → lookIn (at L) t l x c ≡ first (λ y. eqb (at L y) c) rest
 
 module _ {L : List ℕ} {n t : ℕ} {x : State} {c : Letter} where
-  pub looks-zero : {r : Arrow} → x ≡ 0 → Looks L n t 0 c r → Looks L n t x c r
+  pub looks-zero : {r : Leads} → x ≡ 0 → Looks L n t 0 c r → Looks L n t x c r
   looks-zero e R = rw e R
 
   pub looks-far : t ≤ x → Looks L n t x c Missing

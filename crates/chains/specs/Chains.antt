@@ -17,7 +17,7 @@ use lib.Dec.{eqb, ltb}
 use Rattle.words.specs.Lists.{at, first}
 use Rattle.words.specs.Words.{Letter}
 use Rattle.words.specs.Answers.{arrowTo}
-use Rattle.words.specs.declared.Arrow.{Arrow}
+use Rattle.words.specs.declared.Leads.{Leads}
 use Rattle.oracle.specs.Arrows.{State}
 
 unfoldable pub supplyIn : List ℕ → ℕ → State → Option State
@@ -36,7 +36,7 @@ pub record Chained (L : List ℕ) (n : ℕ) : Type 0 where
 unfoldable pub lookIn : (State → Letter) → ℕ → List State → State → Letter → Option State
 lookIn a t l x c = cond (ltb x t) (cond (eqb (a (suc x)) c) (some (suc x)) (first (λ y. eqb (a y) c) l)) none
 
-pub record Looks (L : List ℕ) (n t : ℕ) (x : State) (c : Letter) (r : Arrow) : Type 0 where
+pub record Looks (L : List ℕ) (n t : ℕ) (x : State) (c : Letter) (r : Leads) : Type 0 where
   pub says : (l : List State) → Chain L n (at L (2 * n + x)) l → r ≡ arrowTo (lookIn (at L) t l x c)
 
 unfoldable pub pushed : List ℕ → ℕ → ℕ → State → State → List ℕ

@@ -3,6 +3,8 @@
 --
 --   Ready L n t u k     a climb from k can go all its way: its states have chains, and slots enough are free
 --   Climbs ..           what a climb does, a case for each way in which it goes on or ends
+--   Steps ..            what a climb has done that took so many states and has not ended
+--   ClimbSays .. r      what the answer r says of a climb that takes so many states at most
 --   Begun L n t u       letter t + 1 can be added
 --   Added ..            what adding it does, a case for state 0 and one for the others
 --   zeroArrow y         the arrow from state 0 on a letter whose first state is y, 0 standing for none
@@ -21,14 +23,16 @@ use lib.Dec.{eqb}
 use Rattle.words.specs.Lists.{at}
 use Rattle.words.specs.Words.{Letter, Word, part}
 use Rattle.words.specs.Answers.{arrowTo}
-use Rattle.words.specs.declared.Arrow.{Arrow}
-use Rattle.words.specs.declared.Arrow.the-variants.{To, Missing}
+use Rattle.words.specs.declared.Leads.{Leads}
+use Rattle.words.specs.declared.Leads.the-variants.{To, Missing}
 use Rattle.oracle.specs.Arrows.{State}
 use Rattle.oracle.specs.SuffixPath.{SuffixPath}
 use Rattle.oracle.specs.SuffixRule.{oracle}
 use Rattle.oracle.specs.Supply.{supply}
 use Rattle.oracle.specs.FileOrder.{extraTargets, targetsBefore}
 use Rattle.chains.specs.Chains.{Chain, Chained, Looks, pushed}
+use Rattle.chains.specs.declared.Climbed.{Climbed}
+use Rattle.chains.specs.declared.Climbed.the-variants.{Ended, Rests}
 
 pub record Ready (L : List ℕ) (n t u : ℕ) (k : State) : Type 0 where
   pub chained : Chained L n
@@ -48,6 +52,16 @@ pub data Climbs (n t : ℕ) (c : Letter) : List ℕ → ℕ → State → List �
   goes-on : {L L′ : List ℕ} {u u′ : ℕ} {k y : State} → 0 < k → Looks L n t k c Missing
       → Climbs n t c (pushed L n u k (suc t)) (suc u) (at L (n + k)) L′ u′ y → Climbs n t c L u k L′ u′ y
 
+-- so many states taken, from L with u slots used, at k, to L′ with u′ slots used, at k′
+pub data Steps (n t : ℕ) (c : Letter) : ℕ → List ℕ → ℕ → State → List ℕ → ℕ → State → Type 0 where
+  no-step : {d : ℕ} {L L′ : List ℕ} {u u′ : ℕ} {k k′ : State} → d ≡ 0 → L′ ≡ L → u′ ≡ u → k′ ≡ k → Steps n t c d L u k L′ u′ k′
+  one-more : {d e : ℕ} {L L′ : List ℕ} {u u′ : ℕ} {k k′ : State} → d ≡ suc e → 0 < k → Looks L n t k c Missing
+      → Steps n t c e (pushed L n u k (suc t)) (suc u) (at L (n + k)) L′ u′ k′ → Steps n t c d L u k L′ u′ k′
+
+abbrev pub ClimbSays : ℕ → ℕ → Letter → ℕ → List ℕ → ℕ → State → List ℕ → Climbed → Type 0
+ClimbSays n t c left L u k L′ (Ended u′ y) = Climbs n t c L u k L′ u′ (y .0)
+ClimbSays n t c left L u k L′ (Rests u′ k′) = Steps n t c left L u k L′ u′ (k′ .0)
+
 pub record Begun (L : List ℕ) (n t u : ℕ) : Type 0 where
   pub chained : Chained L n
   pub inside : suc t < n
@@ -63,7 +77,7 @@ pub data Added (n t : ℕ) (L : List ℕ) (u : ℕ) (L′ : List ℕ) (u′ : �
   later-letter : (L₁ : List ℕ) (y : State) → 0 < t → Climbs n t (at L (suc t)) L u (at L (n + t)) L₁ u′ y → L′ ≡ set L₁ (n + suc t) y
       → Added n t L u L′ u′
 
-unfoldable pub zeroArrow : ℕ → Arrow
+unfoldable pub zeroArrow : ℕ → Leads
 zeroArrow y = arrowTo (cond (eqb y 0) none (some y))
 
 pub data FirstState (a : State → Letter) (t : ℕ) (c : Letter) (y : ℕ) : Type 0 where

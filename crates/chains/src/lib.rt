@@ -6,12 +6,15 @@ ghost use Prim.Native.Nat.{_+_, _*_, _<_, _≤_};
 ghost use Rattle.words.specs.Lists.{at};
 ghost use Rattle.words.specs.Answers.{supplyOf};
 ghost use Rattle.chains.specs.Chains.{supplyIn, Chained, Looks, pushed};
-ghost use Rattle.chains.specs.Letters.{Ready, Climbs, Begun, Added, Blank, ChainsOf, zeroArrow};
+ghost use Rattle.chains.specs.Letters.{Ready, ClimbSays, Begun, Added, Blank, ChainsOf, zeroArrow};
 
-// How many slots are used, and the new state's supply.
-pub struct Climbed {
-    pub used: usize,
-    pub supply: words::State,
+// A walk takes so many states at most in one go: its stack does not grow with the word.
+const STATES_IN_ONE_GO: usize = 64;
+
+// How many slots are used, and the new state's supply; or the state where the walk rests.
+pub enum Climbed {
+    Ended(usize, words::State),
+    Rests(usize, words::State),
 }
 
 fn supply_at(table: &[u16], n: usize, x: words::State) -> words::Supply
@@ -26,13 +29,13 @@ fn supply_at(table: &[u16], n: usize, x: words::State) -> words::Supply
 }
 
 // State 0 may have an arrow on every letter, so its arrows are told by the first state that has the letter, which is 0 where none has.
-fn zero_arrow(first: u16) -> words::Arrow
+fn zero_arrow(first: u16) -> words::Leads
     ensures { λ r. ⌜ r ≡ zeroArrow first ⌝ }
 {
     if first == 0 {
-        return words::Arrow::Missing;
+        return words::Leads::Missing;
     }
-    words::Arrow::To(words::State(first))
+    words::Leads::To(words::State(first))
 }
 
 // The arrow from x on c, over t letters; that from state 0 is known.
@@ -40,10 +43,10 @@ fn look(
     table: &[u16],
     n: usize,
     t: usize,
-    zero: words::Arrow,
+    zero: words::Leads,
     x: words::State,
     c: words::Letter,
-) -> words::Arrow
+) -> words::Leads
     requires { ⌜ (n ≤ 65536) × (t < n) × (x .0 < n) ⌝ }
     requires { ⌜ Chained (now table) n × Looks (now table) n t 0 (c .0) zero ⌝ }
     ensures { λ r. ⌜ Looks (now (table .entry)) n t (x .0) (c .0) r ⌝ }
@@ -54,21 +57,21 @@ fn look(
         return zero;
     }
     if from >= t {
-        return words::Arrow::Missing;
+        return words::Leads::Missing;
     }
     if table[from + 1] == on {
-        return words::Arrow::To(words::State((from + 1) as u16));
+        return words::Leads::To(words::State((from + 1) as u16));
     }
     let mut slot = table[2 * n + from] as usize;
     while slot != 0 {
         let y = table[5 * n + slot];
         let at = y as usize;
         if table[at] == on {
-            return words::Arrow::To(words::State(y));
+            return words::Leads::To(words::State(y));
         }
         slot = table[4 * n + slot] as usize;
     }
-    words::Arrow::Missing
+    words::Leads::Missing
 }
 
 // An extra arrow from x to y, in the slot behind the used ones.
@@ -85,40 +88,39 @@ fn push(table: &mut [u16], n: usize, used: usize, x: words::State, y: words::Sta
     table[2 * n + from] = slot as u16;
 }
 
-// From k down the suffix path, to the first state with an arrow on c or past its end: each state without one gets an arrow to t + 1.
+// From k down the suffix path, to the first state with an arrow on c or past its end: each state without one gets an arrow to t + 1. Rests
+// where `left` states are done and the end is not reached.
 fn climb(
     table: &mut [u16],
     n: usize,
     t: usize,
     used: usize,
-    zero: words::Arrow,
+    zero: words::Leads,
     c: words::Letter,
     k: words::State,
+    left: usize,
 ) -> Climbed
     requires { ⌜ n ≤ 65536 ⌝ }
     requires { ⌜ Ready (now table) n t used (k .0) × Looks (now table) n t 0 (c .0) zero ⌝ }
-    ensures { λ r. ⌜ Climbs n t (c .0) (now (table .entry)) used (k .0) (now (table .exit)) (r .used) (r .supply .0) ⌝ }
+    ensures { λ r. ⌜ ClimbSays n t (c .0) left (now (table .entry)) used (k .0) (now (table .exit)) r ⌝ }
 {
+    if left == 0 {
+        return Climbed::Rests(used, k);
+    }
     let found = look(table, n, t, zero, k, c);
-    let words::Arrow::To(y) = found else {
+    let words::Leads::To(y) = found else {
         let next = supply_at(table, n, k);
         push(table, n, used, k, words::State((t + 1) as u16));
         let words::Supply::Of(s) = next else {
-            return Climbed {
-                used: used + 1,
-                supply: words::State(0),
-            };
+            return Climbed::Ended(used + 1, words::State(0));
         };
-        return climb(table, n, t, used + 1, zero, c, s);
+        return climb(table, n, t, used + 1, zero, c, s, left - 1);
     };
-    Climbed {
-        used: used,
-        supply: y,
-    }
+    Climbed::Ended(used, y)
 }
 
 // State t + 1, with the letter that stands in row 0; the arrow from state 0 on it is known.
-fn add_letter(table: &mut [u16], n: usize, t: usize, used: usize, zero: words::Arrow) -> usize
+fn add_letter(table: &mut [u16], n: usize, t: usize, used: usize, zero: words::Leads) -> usize
     requires { ⌜ n ≤ 65536 ⌝ }
     requires { ⌜ Begun (now table) n t used × Looks (now table) n t 0 (at (now table) (t + 1)) zero ⌝ }
     ensures { λ r. ⌜ Added n t (now (table .entry)) used (now (table .exit)) r ⌝ }
@@ -128,10 +130,21 @@ fn add_letter(table: &mut [u16], n: usize, t: usize, used: usize, zero: words::A
         return used;
     };
     let c = words::Letter((table[t + 1] % 256) as u8);
-    let climbed = climb(table, n, t, used, zero, c, k);
-    let s = climbed.supply;
-    table[n + t + 1] = s.0;
-    climbed.used
+    let mut from = k;
+    let mut so_far = used;
+    loop {
+        let climbed = climb(table, n, t, so_far, zero, c, from, STATES_IN_ONE_GO);
+        match climbed {
+            Climbed::Ended(all, s) => {
+                table[n + t + 1] = s.0;
+                return all;
+            }
+            Climbed::Rests(some, there) => {
+                so_far = some;
+                from = there;
+            }
+        }
+    }
 }
 
 // The chains and supplies of the word in row 0; the answer is how many slots are used.

@@ -10,7 +10,7 @@ use Rattle.words.specs.Limits.{longestWord, longestText}
 use Rattle.table.specs.Table.{room}
 use Rattle.saved.specs.File.{edition, spell}
 use Rattle.loaded.specs.Load.{letters}
-use Rattle.loaded.specs.Cases.{Reads, BadLength, FrontCase}
+use Rattle.loaded.specs.Cases.{Reads, BadLength, FrontCase, letters-missing}
 use Rattle.marks.specs.declared.Built.{Built}
 use Rattle.marks.specs.declared.Saved.{Saved}
 use Rattle.marks.specs.declared.Searched.{Searched}
@@ -173,7 +173,7 @@ module _ (word text : Word) (file R T O : List ℕ) (F : List Place) where
   -- letters that are missing are refused with 5, however short the rooms are: 3 comes behind them
   pub letters-before-rooms : {i m j : ℕ} → Reads file 0 edition i → Reads file i m j → 1 ≤ m → m ≤ longestWord → length file < j + m
       → loadSays file R T ≡ Load.outcome (refused 5) R T
-  letters-before-rooms e r least most cut = load-exactly _ .1 (LoadCase.head-refused (FrontCase.letters-missing e r least most cut))
+  letters-before-rooms e r least most cut = load-exactly _ .1 (LoadCase.head-refused (letters-missing e r least most cut))
 
   -- ── Shut out: an entry that refuses everything ───────────────────────────
 

@@ -19,7 +19,7 @@ use Rattle.backward.specs.Steps.{backward}
 use Rattle.table.specs.Table.{room, tableOf, readWord, readArrow, readSupply}
 use Rattle.table.specs.Freedom.{ExtraSet, Lower, ReadAs}
 use Rattle.table.proofs.Freedom
-use Rattle.search.specs.Finds.{filled}
+use Rattle.finds.specs.Finds.{filled}
 use Rattle.saved.specs.File.{spell}
 use Rattle.marks.specs.Answers.{done}
 use Rattle.marks.specs.Build.{buildSays}

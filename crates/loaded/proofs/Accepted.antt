@@ -1,24 +1,32 @@
--- The file of a word within the limit is accepted: its numbers are all small enough to be spelled, and each is read where it stands.
+-- The file of a word within the limit is read wherever it stands, to its end: its numbers are all small enough to be spelled, and each is
+-- read where it stands. So it is accepted where nothing follows, and shows 11 where bytes do.
 use mathlib.Core.Path.{_≡_, refl, sym, ap, _∙_}
-use mathlib.Core.List.{List, [], _∷_, List·Memᴰ, List·Memᴰ·head, List·Memᴰ·tail}
+use mathlib.Core.List.{List, [], _∷_, _++_, append-assoc, append-nil, List·Memᴰ, List·Memᴰ·head, List·Memᴰ·tail}
 use Prim.Native.Nat.{ℕ, _+_, _-_, _≤_}
+use native.Mathlib.Nat.{zero-add}
 use native.Mathlib.Omega.{arith}
 use lib.ListN.{length, take, drop, length-drop, length-append}
 use lib.Seq.{take-append-seam, drop-append-seam, drop-drop}
+use borrow.Author.Tests.{lt-ltb, le-ltb}
 use Rattle.words.specs.Words.{Word, Place}
 use Rattle.words.specs.Limits.{longestWord}
 use Rattle.words.proofs.Limits.{words-fit}
 use Rattle.oracle.specs.Arrows.{State}
 use Rattle.oracle.specs.FileOrder.{Extra, fileArrows}
 use Rattle.oracle.proofs.FileArrows.{file-arrow-climbs}
-use Rattle.number.specs.Number.{greatest}
+use Rattle.number.specs.Number.{greatest, spellNumber}
 use Rattle.saved.specs.File.{edition, stepsFrom, spellSteps, ownSteps, spell}
 use Rattle.saved.proofs.Slots.{own-few}
-use Rattle.loaded.specs.Load.{right}
-use Rattle.loaded.specs.Accepts.{Accepts}
-use Rattle.loaded.specs.Cases.{letters-there, ArrowsCase, arrow-agrees, all-read, count-fits}
-use Rattle.loaded.proofs.Cases.{case-front, case-verdict}
+use Rattle.loaded.specs.Load.{Ending, behind, Verdict, wrong, closed, verdict}
+use Rattle.loaded.specs.Accepts.{ShownAt, Judged, Accepts}
+use Rattle.loaded.specs.Cases.{letters-there, ArrowsCase, arrow-agrees, all-agree, count-fits}
+use Rattle.loaded.proofs.Cases.{case-front, case-ending}
 use Rattle.loaded.proofs.Fields.{reads-spelled}
+
+-- a file that is all of s is judged by its ending
+shown-judged : {s : List ℕ} {w : Word} {e : Ending} → ShownAt s 0 w e → Judged s w (closed s e)
+unfolding verdict
+shown-judged {s} A = record { place = A .place; shown = A .shown; word = A .word; judged = ap (closed s) (A .judged) }
 
 -- ── Small numbers ──────────────────────────────────────────────────────────
 
@@ -28,36 +36,66 @@ edition-small = omega arith
 
 -- ── Read where they stand ──────────────────────────────────────────────────
 
--- arrows that stand at the end of a file, in its spelling, are read
-arrows-spelled : (s : List ℕ) (i : Place) (x : State) (l : List Extra)
+-- arrows that stand from place i on and end before place p, in their spelling, are read up to there
+arrows-spelled : (s : List ℕ) (i : Place) (x : State) (l : List Extra) (p : Place) (r : List ℕ)
     → ((a : Extra) → List·Memᴰ a l → (a .source ≤ greatest) × (a .to ≤ greatest))
-    → drop i s ≡ spellSteps (stepsFrom x l) → ArrowsCase s i (length (stepsFrom x l)) (stepsFrom x l) right
+    → drop i s ≡ spellSteps (stepsFrom x l) ++ r → p ≡ i + length (spellSteps (stepsFrom x l))
+    → ArrowsCase s i (length (stepsFrom x l)) (stepsFrom x l) (behind p)
 unfolding stepsFrom spellSteps
-arrows-spelled s i x [] small e = all-read {i = i} (omega (arith, length-drop i s, ap {B = ℕ} length e))
-arrows-spelled s i x (a ∷ l) small e =
+arrows-spelled s i x [] p r small e size = let q : p ≡ i = omega arith in rw q all-agree
+arrows-spelled s i x (a ∷ l) p r small e size =
     let h = small a (List·Memᴰ·head refl) in
-    let first = reads-spelled s i (a .source - x) (omega (arith, h .0)) e in
+    let up = spellNumber (a .source - x) in
+    let over = spellNumber (a .to - a .source - 2) in
+    let more = spellSteps (stepsFrom (a .source) l) in
+    let split = e ∙ append-assoc up (over ++ more) r ∙ ap (λ z. up ++ z) (append-assoc over more r) in
+    let first = reads-spelled s i (a .source - x) (omega (arith, h .0)) split in
     let second = reads-spelled s (first .next) (a .to - a .source - 2) (omega (arith, h .1)) (first .rest) in
-    arrow-agrees (first .read) (second .read) (arrows-spelled s (second .next) (a .source) l (λ b m. small b (List·Memᴰ·tail m)) (second .rest))
+    let sum : p ≡ second .next + length more = omega (arith, size, first .size, second .size, length-append up (over ++ more), length-append over more) in
+    arrow-agrees (first .read) (second .read) (arrows-spelled s (second .next) (a .source) l p r (λ b m. small b (List·Memᴰ·tail m)) (second .rest) sum)
+
+-- a word's file with l behind it
+pub spell-append : (w : Word) (l : List ℕ)
+    → spell w ++ l ≡ spellNumber edition ++ (spellNumber (length w) ++ (w ++ (spellNumber (length (ownSteps w)) ++ (spellSteps (ownSteps w) ++ l))))
+unfolding spell
+spell-append w l =
+    let a = spellNumber edition in
+    let b = spellNumber (length w) in
+    let c = spellNumber (length (ownSteps w)) in
+    let d = spellSteps (ownSteps w) in
+    append-assoc a (b ++ (w ++ (c ++ d))) l
+    ∙ ap (λ (z : List ℕ). a ++ z) (append-assoc b (w ++ (c ++ d)) l ∙ ap (λ (z : List ℕ). b ++ z) (append-assoc w (c ++ d) l ∙ ap (λ (z : List ℕ). w ++ z) (append-assoc c d l)))
 
 module _ (w : Word) (least : 1 ≤ length w) (most : length w ≤ longestWord) where
   arrows-small : (a : Extra) → List·Memᴰ a (fileArrows w) → (a .source ≤ greatest) × (a .to ≤ greatest)
   arrows-small a m = let r = file-arrow-climbs w m in (omega (arith, words-fit, r .climbs, r .inside), omega (arith, words-fit, r .inside))
 
-  -- the word's file is read to its end
-  pub spelled-accepted : (s : List ℕ) → s ≡ spell w → Accepts s w
+  -- the word's file, from place o on and with l behind it, is read to its end
+  pub spelled-shown : (s : List ℕ) (o : Place) (l : List ℕ) → drop o s ≡ spell w ++ l → ShownAt s o w (behind (o + length (spell w)))
   unfolding spell ownSteps
-  spelled-accepted s e =
-      let first = reads-spelled s 0 edition edition-small e in
+  spelled-shown s o l e =
+      let first = reads-spelled s o edition edition-small (e ∙ spell-append w l) in
       let second = reads-spelled s (first .next) (length w) (omega (arith, words-fit)) (first .rest) in
       let i = second .next in
       let there : i + length w ≤ length s = omega (arith, simp (length-drop, length-append) at (ap {B = ℕ} length (second .rest))) in
-      let behind = sym (drop-drop (length w) i s) ∙ ap (drop (length w)) (second .rest) ∙ drop-append-seam w _ in
+      let after = sym (drop-drop (length w) i s) ∙ ap (drop (length w)) (second .rest) ∙ drop-append-seam w _ in
       let few = own-few w in
-      let count = reads-spelled s (i + length w) (length (ownSteps w)) (omega (arith, words-fit)) behind in
+      let counted = reads-spelled s (i + length w) (length (ownSteps w)) (omega (arith, words-fit)) after in
+      let end = o + length (spell w) in
+      let size : end ≡ counted .next + length (spellSteps (ownSteps w)) = simp length-append (omega (arith, first .size, second .size, counted .size)) in
       record {
         place = i;
         shown = case-front s (letters-there (first .read) (second .read) least most there);
         word = sym (ap (take (length w)) (second .rest) ∙ take-append-seam w _);
-        judged = case-verdict s (count-fits (count .read) few (arrows-spelled s (count .next) 0 (fileArrows w) arrows-small (count .rest)));
+        judged = case-ending s (count-fits (counted .read) few (arrows-spelled s (counted .next) 0 (fileArrows w) end l arrows-small (counted .rest) size));
       }
+
+  -- and where nothing follows it is accepted
+  pub spelled-accepted : (s : List ℕ) → s ≡ spell w → Accepts s w
+  spelled-accepted s e = rw (le-ltb (0 + length (spell w)) (length s) (omega (arith, ap {B = ℕ} length e))) at (shown-judged (spelled-shown s 0 [] (e ∙ sym (append-nil (spell w)))))
+
+  -- with bytes behind it, 11 shows where it ends
+  pub spelled-left : (b : ℕ) (l : List ℕ) → Judged (spell w ++ b ∷ l) w (wrong 11 (length (spell w)))
+  spelled-left b l =
+      let s = spell w ++ b ∷ l in
+      rw (lt-ltb (0 + length (spell w)) (length s) (omega (arith, length-append (spell w) (b ∷ l))), zero-add (length (spell w))) at (shown-judged (spelled-shown s 0 (b ∷ l) refl))

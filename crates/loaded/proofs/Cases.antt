@@ -1,4 +1,4 @@
--- The ways of `specs/Cases` are those that `front`, `arrowsAt` and `verdict` go: for each, first that some way leads to what it shows, then
+-- The ways of `specs/Cases` are those that `frontAt`, `arrowsAt`, `ending` and `verdict` go: for each, first that some way leads to what it shows, then
 -- that every way that applies leads there.
 use mathlib.Core.Path.{_≡_, refl}
 use mathlib.Core.Bool.{Bool, true, false, _&&_, cond}
@@ -17,11 +17,13 @@ use Rattle.number.specs.declared.Number.the-variants.{Value, Refused}
 use Rattle.number.specs.Number.{numberAt}
 use Rattle.number.proofs.Theorems.{number-at-refused}
 use Rattle.saved.specs.File.{edition, Step, ownSteps}
-use Rattle.loaded.specs.Load.{taking, field, Front, stop, front, neither, twoAt, Verdict, wrong, nextIs, compared, arrowsAt, verdict}
+use Rattle.loaded.specs.Load.{taking, field, Front, stop, frontAt, neither, twoAt, nextIs, compared}
+use Rattle.loaded.specs.Load.{Ending, behind, broken, arrowsAt, ending, Verdict, closed, verdict}
 use Rattle.loaded.specs.Cases.{Reads, Unread, cut-off, bad-byte}
-use Rattle.loaded.specs.Cases.{BadLength, FrontCase, edition-unread, edition-other, length-unread, length-bad, letters-missing, letters-there}
-use Rattle.loaded.specs.Cases.{ArrowsCase, arrow-agrees, up-unread, over-unread, arrow-differs, no-arrow-left, arrows-missing, leftovers, all-read}
-use Rattle.loaded.specs.Cases.{VerdictCase, count-unread, count-too-large, count-fits}
+use Rattle.loaded.specs.Cases.{BadLength, FrontCaseAt, edition-unread, edition-other, length-unread, length-bad, letters-missing, letters-there}
+use Rattle.loaded.specs.Cases.{ArrowsCase, arrow-agrees, up-unread, over-unread, arrow-differs, no-arrow-left, arrows-missing, all-agree}
+use Rattle.loaded.specs.Cases.{EndingCase, count-unread, count-too-large, count-fits}
+use Rattle.loaded.specs.Cases.{VerdictCase, arrows-wrong, leftovers, all-read}
 
 -- ── A number ───────────────────────────────────────────────────────────────
 
@@ -76,20 +78,20 @@ module _ (s : List ℕ) where
   -- ── Up to the letters ────────────────────────────────────────────────────
 
   -- some way leads to what is shown
-  pub front-case : FrontCase s (front s)
-  unfolding front
-  front-case =
-      field-case (FrontCase s) s 0 stop _ (λ r p u. edition-unread u) (λ e i h.
-      test-case (FrontCase s) (eqb e edition) (λ t. let g : Reads s 0 edition i = rw (eqb-true e edition t) at h in
-      field-case (FrontCase s) s i stop _ (λ r p u. length-unread g u) (λ m j k.
-      length-case (FrontCase s) m (λ least most.
-      most-case (FrontCase s) (j + m) (length s) (λ d. letters-there g k least most d) (λ d. letters-missing g k least most d))
+  pub front-case : (o : Place) → FrontCaseAt s o (frontAt s o)
+  unfolding frontAt
+  front-case o =
+      field-case (FrontCaseAt s o) s o stop _ (λ r p u. edition-unread u) (λ e i h.
+      test-case (FrontCaseAt s o) (eqb e edition) (λ t. let g : Reads s o edition i = rw (eqb-true e edition t) at h in
+      field-case (FrontCaseAt s o) s i stop _ (λ r p u. length-unread g u) (λ m j k.
+      length-case (FrontCaseAt s o) m (λ least most.
+      most-case (FrontCaseAt s o) (j + m) (length s) (λ d. letters-there g k least most d) (λ d. letters-missing g k least most d))
       (λ d. length-bad g k d)))
       (λ t. edition-other h (eqb-false e edition t)))
 
   -- and every way that applies leads there
-  pub case-front : {f : Front} → FrontCase s f → front s ≡ f
-  unfolding front
+  pub case-front : {o : Place} {f : Front} → FrontCaseAt s o f → frontAt s o ≡ f
+  unfolding frontAt
   case-front (edition-unread u) = rw (unread u)
   case-front (edition-other {e = e} h d) = rw (h, ne-eqb e edition d)
   case-front (length-unread h u) = rw (h, eq-eqb edition edition refl, unread u)
@@ -114,19 +116,18 @@ module _ (s : List ℕ) where
   -- some way leads to what is shown
   pub arrows-case : (i : Place) (n : ℕ) (l : List Step) → ArrowsCase s i n l (arrowsAt s i n l)
   unfolding arrowsAt
-  arrows-case i zero [] =
-      test-case (ArrowsCase s i zero []) (ltb i (length s)) (λ t. leftovers (ltb-true i (length s) t)) (λ t. all-read (ltb-false i (length s) t))
+  arrows-case i zero [] = all-agree
   arrows-case i zero (t ∷ l) = arrows-missing
   arrows-case i (suc n) [] =
-      two-case (ArrowsCase s i (suc n) []) i wrong _ (λ r p u. up-unread u) (λ a j r p h u. over-unread h u) (λ a j b k h g. no-arrow-left h g)
+      two-case (ArrowsCase s i (suc n) []) i broken _ (λ r p u. up-unread u) (λ a j r p h u. over-unread h u) (λ a j b k h g. no-arrow-left h g)
   arrows-case i (suc n) (t ∷ l) =
-      two-case (ArrowsCase s i (suc n) (t ∷ l)) i wrong _ (λ r p u. up-unread u) (λ a j r p h u. over-unread h u) (λ a j b k h g.
+      two-case (ArrowsCase s i (suc n) (t ∷ l)) i broken _ (λ r p u. up-unread u) (λ a j r p h u. over-unread h u) (λ a j b k h g.
       test-case (ArrowsCase s i (suc n) (t ∷ l)) (nextIs a b (t ∷ l)) (λ e. let q = and-true {a = eqb a (t .up)} e in
       arrow-agrees (rw (eqb-true a (t .up) (q .0)) at h) (rw (eqb-true b (t .over) (q .1)) at g) (arrows-case k n l))
       (λ e. arrow-differs h g (next-differs a b t e)))
 
   -- and every way that applies leads there
-  pub case-arrows : {i : Place} {n : ℕ} {l : List Step} {v : Verdict} → ArrowsCase s i n l v → arrowsAt s i n l ≡ v
+  pub case-arrows : {i : Place} {n : ℕ} {l : List Step} {e : Ending} → ArrowsCase s i n l e → arrowsAt s i n l ≡ e
   unfolding arrowsAt twoAt
   case-arrows (arrow-agrees {t = t} h g c) = rw (h, g, eq-eqb (t .up) (t .up) refl, eq-eqb (t .over) (t .over) refl) (case-arrows c)
   case-arrows (up-unread u) = rw (unread u)
@@ -134,21 +135,39 @@ module _ (s : List ℕ) where
   case-arrows (arrow-differs {a = a} {b = b} {t = t} h g d) = rw (h, g, differs-next a b t d)
   case-arrows (no-arrow-left h g) = rw (h, g)
   case-arrows arrows-missing = refl
-  case-arrows (leftovers {i = i} h) = rw (lt-ltb i (length s) h)
-  case-arrows (all-read {i = i} h) = rw (le-ltb i (length s) h)
+  case-arrows all-agree = refl
+
+  -- ── The ending ───────────────────────────────────────────────────────────
+
+  -- some way leads to what is shown
+  pub ending-case : (i : Place) (w : Word) → EndingCase s i w (ending s i w)
+  unfolding ending
+  ending-case i w =
+      field-case (EndingCase s i w) s i broken _ (λ r p u. count-unread u) (λ n j h.
+      most-case (EndingCase s i w) n (length w - 1) (λ d. count-fits h d (arrows-case j n (ownSteps w))) (λ d. count-too-large h d))
+
+  -- and every way that applies leads there
+  pub case-ending : {i : Place} {w : Word} {e : Ending} → EndingCase s i w e → ending s i w ≡ e
+  unfolding ending
+  case-ending (count-unread u) = rw (unread u)
+  case-ending {w = w} (count-too-large {n = n} h g) = rw (h, lt-leb n (length w - 1) g)
+  case-ending {w = w} (count-fits {n = n} h g c) = rw (h, le-leb n (length w - 1) g) (case-arrows c)
 
   -- ── The verdict ──────────────────────────────────────────────────────────
 
   -- some way leads to what is shown
   pub verdict-case : (i : Place) (w : Word) → VerdictCase s i w (verdict s i w)
   unfolding verdict
-  verdict-case i w =
-      field-case (VerdictCase s i w) s i wrong _ (λ r p u. count-unread u) (λ n j h.
-      most-case (VerdictCase s i w) n (length w - 1) (λ d. count-fits h d (arrows-case j n (ownSteps w))) (λ d. count-too-large h d))
+  verdict-case i w = by (ending s i w) (ending-case i w)
+    where
+      by : (e : Ending) → EndingCase s i w e → VerdictCase s i w (closed s e)
+      by (behind p) c =
+          test-case (VerdictCase s i w) (ltb p (length s)) (λ t. leftovers c (ltb-true p (length s) t)) (λ t. all-read c (ltb-false p (length s) t))
+      by (broken r p) c = arrows-wrong c
 
   -- and every way that applies leads there
   pub case-verdict : {i : Place} {w : Word} {v : Verdict} → VerdictCase s i w v → verdict s i w ≡ v
   unfolding verdict
-  case-verdict (count-unread u) = rw (unread u)
-  case-verdict {w = w} (count-too-large {n = n} h g) = rw (h, lt-leb n (length w - 1) g)
-  case-verdict {w = w} (count-fits {n = n} h g c) = rw (h, le-leb n (length w - 1) g) (case-arrows c)
+  case-verdict (arrows-wrong c) = rw (case-ending c)
+  case-verdict (leftovers {p = p} c h) = rw (case-ending c, lt-ltb p (length s) h)
+  case-verdict (all-read {p = p} c h) = rw (case-ending c, le-ltb p (length s) h)

@@ -7,8 +7,7 @@ use Prim.Native.Nat.{ℕ, zero, suc, _+_, _-_, _≤_, _<_}
 use native.Mathlib.Omega.{arith}
 use lib.ListN.{length, drop-of-length-le}
 use lib.Seq.{drop-cons}
-use lib.Dec.{eqb, ltb}
-use borrow.Author.Tests.{lt-ltb, le-ltb}
+use lib.Dec.{eqb}
 use Rattle.words.specs.Words.{Word}
 use Rattle.oracle.specs.Arrows.{State}
 use Rattle.oracle.specs.FileOrder.{extra, fileArrows}
@@ -16,20 +15,20 @@ use Rattle.saved.specs.File.{Step, stepsFrom, ownSteps}
 use Rattle.saved.specs.Stepping.{stepsAhead, Standing, Leapt}
 use Rattle.saved.specs.declared.Leap.{Leap}
 use Rattle.saved.proofs.Slots.{steps-length, stand-start}
-use Rattle.loaded.specs.Load.{both, neither, twoAt, Verdict, right, wrong, nextIs, later, none-left, compared, arrowsAt}
+use Rattle.loaded.specs.Load.{both, neither, twoAt, Ending, behind, broken, nextIs, later, none-left, compared, arrowsAt}
 
 -- ── One arrow ──────────────────────────────────────────────────────────────
 
 module _ (s : List ℕ) (i : ℕ) (l : List Step) where
   -- none is declared any more
-  arrows-none : (n : ℕ) → n ≤ 0 → arrowsAt s i n l ≡ cond (none-left l) (cond (ltb i (length s)) (wrong 11 i) right) (wrong 10 i)
+  arrows-none : (n : ℕ) → n ≤ 0 → arrowsAt s i n l ≡ cond (none-left l) (behind i) (broken 10 i)
   unfolding arrowsAt
   arrows-none zero h = refl
   arrows-none (suc n) h = absurd (omega arith)
 
   -- one is
   arrows-some : (n : ℕ) → 0 < n
-      → arrowsAt s i n l ≡ compared (twoAt s i) wrong (λ a b k. cond (nextIs a b l) (arrowsAt s k (n - 1) (later l)) (wrong 10 i))
+      → arrowsAt s i n l ≡ compared (twoAt s i) broken (λ a b k. cond (nextIs a b l) (arrowsAt s k (n - 1) (later l)) (broken 10 i))
   unfolding arrowsAt
   arrows-some zero h = absurd (omega arith)
   arrows-some (suc n) h = let e : suc n - 1 ≡ n = omega arith in simp e
@@ -58,43 +57,38 @@ unfolding ownSteps
 compare-start w s i n h = record { same = refl; stands = stand-start w h }
 
 module _ {w : Word} {s : List ℕ} {i n j left slot : ℕ} {x : State} (C : Comparing w s i n j left slot x) where
-  abbrev Shown : Verdict → Type 0
+  abbrev Shown : Ending → Type 0
   Shown v = v ≡ arrowsAt s i n (ownSteps w)
 
-  shown : {v : Verdict} → arrowsAt s j left (stepsAhead w x slot) ≡ v → Shown v
+  shown : {v : Ending} → arrowsAt s j left (stepsAhead w x slot) ≡ v → Shown v
   shown e = sym e ∙ C .same
 
   module _ (none : left ≤ 0) where
     -- arrows are missing
-    pub shows-missing : slot < length (ownSteps w) → Shown (wrong 10 j)
+    pub shows-missing : slot < length (ownSteps w) → Shown (broken 10 j)
     shows-missing h = shown (arrows-none s j _ left none ∙ simp (some-ahead w x slot h))
 
-    module _ (all : length (ownSteps w) ≤ slot) where
-      -- bytes are left
-      pub shows-leftovers : j < length s → Shown (wrong 11 j)
-      shows-leftovers h = shown (arrows-none s j _ left none ∙ simp (none-ahead w x slot all, lt-ltb j (length s) h))
-
-      -- nothing is
-      pub shows-right : length s ≤ j → Shown right
-      shows-right h = shown (arrows-none s j _ left none ∙ simp (none-ahead w x slot all, le-ltb j (length s) h))
+    -- none is
+    pub shows-behind : length (ownSteps w) ≤ slot → Shown (behind j)
+    shows-behind all = shown (arrows-none s j _ left none ∙ simp (none-ahead w x slot all))
 
   module _ (some : 0 < left) where
     -- a number is refused
-    pub shows-refused : {e p : ℕ} → neither e p ≡ twoAt s j → Shown (wrong e p)
+    pub shows-refused : {e p : ℕ} → neither e p ≡ twoAt s j → Shown (broken e p)
     shows-refused r = shown (arrows-some s j _ left some ∙ simp (sym r))
 
     module _ {a b k : ℕ} (read : both a b k ≡ twoAt s j) where
       turn : arrowsAt s j left (stepsAhead w x slot)
-          ≡ cond (nextIs a b (stepsAhead w x slot)) (arrowsAt s k (left - 1) (later (stepsAhead w x slot))) (wrong 10 j)
+          ≡ cond (nextIs a b (stepsAhead w x slot)) (arrowsAt s k (left - 1) (later (stepsAhead w x slot))) (broken 10 j)
       turn = arrows-some s j _ left some ∙ simp (sym read)
 
       -- the word has no more
-      pub shows-too-many : length (ownSteps w) ≤ slot → Shown (wrong 10 j)
+      pub shows-too-many : length (ownSteps w) ≤ slot → Shown (broken 10 j)
       shows-too-many h = shown (turn ∙ simp (none-ahead w x slot h))
 
       module _ {r : Leap} (L : Leapt w x slot r) where
         -- the word's own is another
-        pub shows-other : eqb a (r .up) && eqb b (r .over) ≡ false → Shown (wrong 10 j)
+        pub shows-other : eqb a (r .up) && eqb b (r .over) ≡ false → Shown (broken 10 j)
         shows-other off = shown (turn ∙ simp (L .next, off))
 
         -- it is the same

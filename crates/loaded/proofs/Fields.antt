@@ -23,6 +23,7 @@ pub record ReadsBefore (s : List ℕ) (i v : ℕ) (l : List ℕ) : Type 0 where
   pub next : Place
   pub read : Reads s i v next
   pub rest : drop next s ≡ l
+  pub size : next ≡ i + length (spellNumber v)
 
 -- a number that stands there is read
 pub reads-spelled : (s : List ℕ) (i v : ℕ) {l : List ℕ} → v ≤ greatest → drop i s ≡ spellNumber v ++ l → ReadsBefore s i v l
@@ -30,6 +31,7 @@ reads-spelled s i v {l} h e = record {
   next = i + length (spellNumber v);
   read = number-at-spelled s i v l h e;
   rest = sym (drop-drop (length (spellNumber v)) i s) ∙ ap (drop (length (spellNumber v))) e ∙ drop-append-seam (spellNumber v) l;
+  size = refl;
 }
 
 -- ── Where they stand ───────────────────────────────────────────────────────

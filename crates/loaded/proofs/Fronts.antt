@@ -15,9 +15,9 @@ use Rattle.number.specs.declared.Cursor.{Cursor}
 use Rattle.number.specs.declared.Number.the-variants.{Value}
 use Rattle.number.specs.Number.{numberAt}
 use Rattle.saved.specs.File.{edition}
-use Rattle.loaded.specs.Cases.{FrontCase, edition-unread, edition-other, length-unread, length-bad, letters-missing, letters-there}
+use Rattle.loaded.specs.Cases.{FrontCaseAt, edition-unread, edition-other, length-unread, length-bad, letters-missing, letters-there}
 use Rattle.loaded.proofs.Cases.{front-case}
-use Rattle.loaded.specs.Load.{Front, letters, stop, lettersAt, front}
+use Rattle.loaded.specs.Load.{Front, letters, stop, lettersAt, frontAt, front}
 
 -- the code's constant
 pub edition-number : edition ≡ 1
@@ -52,8 +52,8 @@ pub record LettersIn (s : List ℕ) (m j : ℕ) : Type 0 where
   pub inside : j + m ≤ length s
 
 -- the letters that are answered are there
-pub front-letters : (s : List ℕ) {m j : ℕ} → front s ≡ letters m j → LettersIn s m j
-front-letters s {m} {j} e = by (front-case s) e
+pub front-at-letters : (s : List ℕ) (o : ℕ) {m j : ℕ} → frontAt s o ≡ letters m j → LettersIn s m j
+front-at-letters s o {m} {j} e = by (front-case s o) e
   where
     never : {r p : ℕ} → stop r p ≡ letters m j → LettersIn s m j
     never g = let z : _≡_ {A = ℕ} 0 1 = cc in absurd (omega arith)
@@ -64,10 +64,13 @@ front-letters s {m} {j} e = by (front-case s) e
         let place : k ≡ j = cc in
         record { least = omega (arith, I .least); most = omega (arith, I .most); inside = omega (arith, I .inside) }
 
-    by : {f : Front} → FrontCase s f → f ≡ letters m j → LettersIn s m j
+    by : {f : Front} → FrontCaseAt s o f → f ≡ letters m j → LettersIn s m j
     by (edition-unread a) g = never g
     by (edition-other a b) g = never g
     by (length-unread a b) g = never g
     by (length-bad a b d) g = never g
     by (letters-missing a b d k h) g = never g
     by (letters-there a b d l h) g = same (record { least = d; most = l; inside = h }) g
+
+pub front-letters : (s : List ℕ) {m j : ℕ} → front s ≡ letters m j → LettersIn s m j
+front-letters s e = front-at-letters s 0 e

@@ -1,7 +1,7 @@
--- A file that is accepted is the file of the word that it shows: each number that was read stood there in its one spelling, and nothing
--- follows.
+-- What is read as a file is the file of the word that it shows: each number that was read stood there in its one spelling. And a file that
+-- is accepted is followed by nothing.
 use mathlib.Core.Path.{_≡_, refl, sym, ap, _∙_}
-use mathlib.Core.List.{List, _++_}
+use mathlib.Core.List.{List, _++_, append-assoc, append-nil}
 use Prim.Native.Nat.{ℕ, suc, _+_, _≤_, _<_}
 use native.Mathlib.Decide.{decLt}
 use native.Mathlib.Omega.{arith}
@@ -12,11 +12,12 @@ use Rattle.words.specs.Words.{Word, Place, part}
 use Rattle.words.proofs.Words.{part-length, part-at}
 use Rattle.number.specs.Number.{Bytes, spellNumber}
 use Rattle.number.proofs.Theorems.{number-at-stood}
-use Rattle.saved.specs.File.{Step, spellSteps, ownSteps, spell}
-use Rattle.loaded.specs.Load.{letters, right}
-use Rattle.loaded.specs.Accepts.{Accepts, FileOf}
-use Rattle.loaded.specs.Cases.{Reads, FrontCase, letters-there, ArrowsCase, arrow-agrees, all-read, VerdictCase, count-fits}
-use Rattle.loaded.proofs.Cases.{front-case, verdict-case}
+use Rattle.saved.specs.File.{edition, Step, spellSteps, ownSteps, spell}
+use Rattle.loaded.specs.Load.{letters, behind, right}
+use Rattle.loaded.specs.Accepts.{ShownAt, Accepts, FileOf}
+use Rattle.loaded.specs.Cases.{Reads, FrontCaseAt, letters-there, ArrowsCase, arrow-agrees, all-agree, EndingCase, count-fits, VerdictCase, all-read}
+use Rattle.loaded.proofs.Accepted.{spell-append}
+use Rattle.loaded.proofs.Cases.{front-case, ending-case, case-ending, verdict-case}
 
 -- the arrows of a word as its file has them
 abbrev arrowsOf : Word → List ℕ
@@ -27,13 +28,21 @@ module _ (s : List ℕ) (bytes : Bytes s) where
   stood : (i : Place) {v j : ℕ} → Reads s i v j → drop i s ≡ spellNumber v ++ drop j s
   stood i h = number-at-stood s i bytes h .spelled
 
-  arrows-stood : {i : Place} {n : ℕ} {l : List Step} → ArrowsCase s i n l right → (n ≡ length l) × (drop i s ≡ spellSteps l)
+  arrows-stood : {i : Place} {n : ℕ} {l : List Step} {p : Place} → ArrowsCase s i n l (behind p)
+      → (n ≡ length l) × (drop i s ≡ spellSteps l ++ drop p s)
   unfolding spellSteps
-  arrows-stood (all-read h) = (refl, drop-of-length-le s h)
-  arrows-stood {i} (arrow-agrees {j = j} h g c) = let r = arrows-stood c in (ap suc (r .0), stood i h ∙ rw (stood j g, r .1))
+  arrows-stood all-agree = (refl, refl)
+  arrows-stood {i} {p = p} (arrow-agrees {j = j} {t = t} {l = l} h g c) =
+      let r = arrows-stood c in
+      let up = spellNumber (t .up) in
+      let over = spellNumber (t .over) in
+      let join = append-assoc up (over ++ spellSteps l) (drop p s) ∙ ap (λ z. up ++ z) (append-assoc over (spellSteps l) (drop p s)) in
+      (ap suc (r .0), stood i h ∙ rw (stood j g, r .1) (sym join))
 
-  verdict-stood : {i : Place} {w : Word} → VerdictCase s i w right → drop i s ≡ arrowsOf w
-  verdict-stood {i} (count-fits h few c) = let r = arrows-stood c in stood i h ∙ rw (r .0, r .1)
+  ending-stood : {i : Place} {w : Word} {p : Place} → EndingCase s i w (behind p) → drop i s ≡ arrowsOf w ++ drop p s
+  ending-stood {i} {w} {p} (count-fits h few c) =
+      let r = arrows-stood c in
+      stood i h ∙ rw (r .0, r .1) (sym (append-assoc (spellNumber (length (ownSteps w))) (spellSteps (ownSteps w)) (drop p s)))
 
   -- the letters are bytes too
   letters-bytes : (i m : ℕ) → i + m ≤ length s → Bytes (part s i m)
@@ -43,21 +52,38 @@ module _ (s : List ℕ) (bytes : Bytes s) where
       by (yes l) = rw (part-at s i m j l) (bytes (i + j))
       by (no l) = rw (List·getD-eq-default (part s i m) 0 {n = j} (omega (arith, part-length s i m h))) (omega arith)
 
-  front-stood : {m i : ℕ} {w : Word} → FrontCase s (letters m i) → w ≡ part s i m → drop (i + m) s ≡ arrowsOf w → FileOf s w
-  unfolding spell
-  front-stood {m} {i} {w} (letters-there {i = k} h g least most there) e d =
+  -- the file of w stands in s from place o on, and r behind it
+  pub record StoodAt (o : Place) (w : Word) (r : List ℕ) : Type 0 where
+    pub file : FileOf (spell w) w
+    pub there : drop o s ≡ spell w ++ r
+
+  front-stood : {o : Place} {m i : ℕ} {w : Word} {r : List ℕ} → FrontCaseAt s o (letters m i) → w ≡ part s i m
+      → drop (i + m) s ≡ arrowsOf w ++ r → StoodAt o w r
+  front-stood {o} {m} {i} {w} {r} (letters-there {i = k} h g least most there) e d =
       let n : length w ≡ m = ap length e ∙ part-length s i m there in
       let split : drop i s ≡ w ++ drop (i + m) s = sym (take-append-drop m (drop i s)) ∙ rw (← e, drop-drop m i s) in
+      let count = spellNumber (length (ownSteps w)) in
+      let own = spellSteps (ownSteps w) in
+      let joined : drop o s ≡ spellNumber edition ++ (spellNumber (length w) ++ (w ++ (count ++ (own ++ r)))) =
+      stood o h ∙ rw (stood k g, split, d, n, append-assoc count own r) in
       record {
-        bytes = rw e (letters-bytes i m there);
-        least = omega arith;
-        most = omega arith;
-        file = stood 0 h ∙ rw (stood k g, split, d, n);
+        file = record { bytes = rw e (letters-bytes i m there); least = omega arith; most = omega arith; file = refl };
+        there = joined ∙ sym (spell-append w r);
       }
+
+  -- what is read as a file from place o on, up to place p, is the file of the word that it shows
+  pub shown-stood : {o : Place} {w : Word} {p : Place} → ShownAt s o w (behind p) → StoodAt o w (drop p s)
+  shown-stood {o} {w} {p} a =
+      let shown : FrontCaseAt s o (letters (length w) (a .place)) = rw (a .shown) at (front-case s o) in
+      let judged : EndingCase s (a .place + length w) w (behind p) = rw (a .judged) at (ending-case s (a .place + length w) w) in
+      front-stood shown (a .word) (ending-stood judged)
 
   -- a file that is accepted is the file of the word that it shows
   pub accepted-stood : {w : Word} → Accepts s w → FileOf s w
-  accepted-stood {w} a =
-      let shown : FrontCase s (letters (length w) (a .place)) = rw (a .shown) at (front-case s) in
-      let judged : VerdictCase s (a .place + length w) w right = rw (a .judged) at (verdict-case s (a .place + length w) w) in
-      front-stood shown (a .word) (verdict-stood judged)
+  accepted-stood {w} a = by (rw (a .judged) at (verdict-case s (a .place + length w) w))
+    where
+      by : VerdictCase s (a .place + length w) w right → FileOf s w
+      by (all-read {p = p} c h) =
+          let S = shown-stood (record { place = a .place; shown = a .shown; word = a .word; judged = case-ending s c }) in
+          let f = S .file in
+          record { bytes = f .bytes; least = f .least; most = f .most; file = S .there ∙ ap (λ z. spell w ++ z) (drop-of-length-le s h) ∙ append-nil (spell w) }

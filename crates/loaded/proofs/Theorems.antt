@@ -3,7 +3,7 @@
 use mathlib.Core.Path.{_≡_, refl, sym, _∙_}
 use mathlib.Core.Logic.{_⊎_, _↔_}
 use mathlib.Core.List.{List, _∷_, _++_}
-use Prim.Native.Nat.{ℕ, suc, _-_, _≤_, _<_}
+use Prim.Native.Nat.{ℕ, suc, _+_, _-_, _≤_, _<_}
 use native.Mathlib.Omega.{arith}
 use lib.ListN.{length, take, drop}
 use lib.Seq.{split-at, length-take-le}
@@ -12,13 +12,13 @@ use Rattle.words.specs.Words.{Word, Place}
 use Rattle.words.specs.Limits.{longestWord}
 use Rattle.number.specs.Number.{Bytes}
 use Rattle.saved.specs.File.{spell, Saved}
-use Rattle.loaded.specs.Load.{Front, letters, stop, front, Verdict, wrong, verdict}
-use Rattle.loaded.specs.Accepts.{Judged, Accepts, FileOf}
-use Rattle.loaded.specs.Cases.{FrontCase, VerdictCase}
-use Rattle.loaded.proofs.Cases.{front-case, case-front, verdict-case, case-verdict}
-use Rattle.loaded.proofs.Accepted.{spelled-accepted}
-use Rattle.loaded.proofs.OnlyFiles.{accepted-stood}
-use Rattle.loaded.proofs.CutAndLonger.{shorter-cut, longer-left}
+use Rattle.loaded.specs.Load.{Front, letters, stop, frontAt, front, Ending, behind, ending, Verdict, wrong, verdict}
+use Rattle.loaded.specs.Accepts.{ShownAt, Judged, Accepts, FileOf}
+use Rattle.loaded.specs.Cases.{FrontCaseAt, FrontCase, EndingCase, VerdictCase}
+use Rattle.loaded.proofs.Cases.{front-case, case-front, ending-case, case-ending, verdict-case, case-verdict}
+use Rattle.loaded.proofs.Accepted.{spelled-shown, spelled-accepted, spelled-left}
+use Rattle.loaded.proofs.OnlyFiles.{shown-stood, accepted-stood}
+use Rattle.loaded.proofs.CutAndLonger.{shorter-cut}
 
 -- ── 1. Exactly the words' files are accepted ───────────────────────────────
 
@@ -40,6 +40,25 @@ saved-exactly s bytes = (
   λ a. let f = only-files s bytes (a .1) in record { word = a .0; bytes = f .bytes; least = f .least; most = f .most; file = f .file },
   λ f. (f .word, spelled-accepted (f .word) (f .least) (f .most) s (f .file)),
 )
+
+-- ── 1b. A file among other bytes ───────────────────────────────────────────
+
+-- the file of a word within the limit is read wherever it stands, and ends where it ends
+pub file-shown-at : (s : List ℕ) (o : Place) (w : Word) (l : List ℕ) → 1 ≤ length w → length w ≤ longestWord → drop o s ≡ spell w ++ l
+    → ShownAt s o w (behind (o + length (spell w)))
+file-shown-at s o w l least most e = spelled-shown w least most s o l e
+
+-- what is read as a file from place o on is the file of the word that it shows, and ends where that ends
+pub only-files-at : (s : List ℕ) → Bytes s → (o : Place) {w : Word} {p : Place} → ShownAt s o w (behind p)
+    → FileOf (spell w) w × (drop o s ≡ spell w ++ drop p s) × (p ≡ o + length (spell w))
+only-files-at s bytes o {w} {p} a =
+    let S = shown-stood s bytes a in
+    let f = S .file in
+    let b = spelled-shown w (f .least) (f .most) s o (drop p s) (S .there) in
+    let same : letters (length w) (a .place) ≡ letters (length w) (b .place) = sym (a .shown) ∙ b .shown in
+    let place : a .place ≡ b .place = cc in
+    let ends : behind p ≡ behind (o + length (spell w)) = sym (a .judged) ∙ rw place (b .judged) in
+    (f, S .there, cc)
 
 -- ── 2. No two words have the same file ────────────────────────────────────
 
@@ -69,14 +88,21 @@ module _ (w : Word) (least : 1 ≤ length w) (most : length w ≤ longestWord) w
 
   -- every longer file shows the same word, and then 11 where the word's file ends
   pub longer-refused : (b : ℕ) (l : List ℕ) → Judged (spell w ++ b ∷ l) w (wrong 11 (length (spell w)))
-  longer-refused b l = longer-left (spell w) b l (file-accepted w least most)
+  longer-refused b l = spelled-left w least most b l
 
 -- ── 4. Exactly when ────────────────────────────────────────────────────────
 
 -- what a file shows up to its letters, by cases on its bytes
-pub front-is : (s : List ℕ) (f : Front) → (front s ≡ f) ↔ FrontCase s f
-front-is s f = (λ e. rw e at (front-case s), λ c. case-front s c)
+pub front-at-is : (s : List ℕ) (o : Place) (f : Front) → (frontAt s o ≡ f) ↔ FrontCaseAt s o f
+front-at-is s o f = (λ e. rw e at (front-case s o), λ c. case-front s c)
 
--- what it shows behind them
+pub front-is : (s : List ℕ) (f : Front) → (front s ≡ f) ↔ FrontCase s f
+front-is s = front-at-is s 0
+
+-- what it shows behind them, where bytes may follow
+pub ending-is : (s : List ℕ) (i : Place) (w : Word) (e : Ending) → (ending s i w ≡ e) ↔ EndingCase s i w e
+ending-is s i w e = (λ q. rw q at (ending-case s i w), λ c. case-ending s c)
+
+-- and where nothing may
 pub verdict-is : (s : List ℕ) (i : Place) (w : Word) (v : Verdict) → (verdict s i w ≡ v) ↔ VerdictCase s i w v
 verdict-is s i w v = (λ e. rw e at (verdict-case s i w), λ c. case-verdict s c)

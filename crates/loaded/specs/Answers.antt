@@ -2,12 +2,15 @@
 --
 --   headOf r       a file up to its letters
 --   pairOf r       two numbers
---   verdictOf r    its arrows, against the word's own
-use Rattle.loaded.specs.Load.{Front, letters, stop, Two, both, neither, Verdict, right, wrong}
+--   endingOf r     where its arrows end, which are the word's own
+--   verdictOf r    the same where nothing may follow
+use Rattle.loaded.specs.Load.{Front, letters, stop, Two, both, neither, Ending, behind, broken, Verdict, right, wrong}
 use Rattle.loaded.specs.declared.Head.{Head}
 use Rattle.loaded.specs.declared.Head.the-variants.{Letters, Stop}
 use Rattle.loaded.specs.declared.Pair.{Pair}
 use Rattle.loaded.specs.declared.Pair.the-variants.{Both, Neither}
+use Rattle.loaded.specs.declared.Ending.{Ending as Ended}
+use Rattle.loaded.specs.declared.Ending.the-variants.{Behind, Broken}
 use Rattle.loaded.specs.declared.Verdict.{Verdict as Compared}
 use Rattle.loaded.specs.declared.Verdict.the-variants.{Right, Wrong}
 
@@ -18,6 +21,10 @@ headOf (Stop e i) = stop e i
 abbrev pub pairOf : Pair → Two
 pairOf (Both a b i) = both a b i
 pairOf (Neither e i) = neither e i
+
+abbrev pub endingOf : Ended → Ending
+endingOf (Behind i) = behind i
+endingOf (Broken e i) = broken e i
 
 abbrev pub verdictOf : Compared → Verdict
 verdictOf Right = right

@@ -5,12 +5,16 @@
 --   field s i off on     the number at place i of the file s: `on` its value and the next place, or `off` a refusal
 --   Front                the number of letters and where they stand, or a refusal
 --   lettersAt s i        what s shows at place i, where the number of letters stands
---   front s              what the file s shows up to its letters
+--   frontAt s o          what the file that stands in s from place o on shows up to its letters
+--   front s              the same of a file that is all of s
 --   Two                  two numbers and the next place, or a refusal
 --   twoAt s i            what s shows at place i
---   Verdict              whether a file's arrows are the word's own
+--   Ending               the place behind a file, whose arrows are the word's own, or a refusal; what follows is not judged
 --   arrowsAt s i n l     n declared arrows from place i on, against the word's own that are left, l
---   verdict s i w        what s shows from place i on, where the number of arrows stands, for the word w
+--   ending s i w         what s shows from place i on, where the number of arrows stands, for the word w
+--   Verdict              whether a file's arrows are the word's own, and nothing follows
+--   closed s e           what an ending comes to where nothing may follow the file
+--   verdict s i w        both at once
 --
 -- 01, 'When the library says no'; demands 1 and 3.
 use mathlib.Core.Bool.{Bool, true, false, _&&_, cond}
@@ -44,8 +48,11 @@ abbrev pub lettersAt : List ℕ → ℕ → Front
 lettersAt s i =
     field s i stop (λ m j. cond (leb 1 m && leb m longestWord) (cond (leb (j + m) (length s)) (letters m j) (stop 5 (length s))) (stop 8 i))
 
-unfoldable pub front : List ℕ → Front
-front s = field s 0 stop (λ e i. cond (eqb e edition) (lettersAt s i) (stop 7 0))
+unfoldable pub frontAt : List ℕ → ℕ → Front
+frontAt s o = field s o stop (λ e i. cond (eqb e edition) (lettersAt s i) (stop 7 o))
+
+abbrev pub front : List ℕ → Front
+front s = frontAt s 0
 
 -- ── Arrows ─────────────────────────────────────────────────────────────────
 
@@ -56,9 +63,9 @@ pub data Two : Type 0 where
 unfoldable pub twoAt : List ℕ → ℕ → Two
 twoAt s i = field s i neither (λ a j. field s j neither (λ b k. both a b k))
 
-pub data Verdict : Type 0 where
-  right : Verdict
-  wrong : ℕ → ℕ → Verdict
+pub data Ending : Type 0 where
+  behind : ℕ → Ending
+  broken : ℕ → ℕ → Ending
 
 -- the two numbers are those of the next arrow of the word's own
 abbrev pub nextIs : ℕ → ℕ → List Step → Bool
@@ -77,9 +84,22 @@ abbrev pub compared : {A : Type 0} → Two → (ℕ → ℕ → A) → (ℕ → 
 compared (both a b k) off on = on a b k
 compared (neither r i) off on = off r i
 
-unfoldable pub arrowsAt : List ℕ → ℕ → ℕ → List Step → Verdict
-arrowsAt s i zero l = cond (none-left l) (cond (ltb i (length s)) (wrong 11 i) right) (wrong 10 i)
-arrowsAt s i (suc n) l = compared (twoAt s i) wrong (λ a b k. cond (nextIs a b l) (arrowsAt s k n (later l)) (wrong 10 i))
+unfoldable pub arrowsAt : List ℕ → ℕ → ℕ → List Step → Ending
+arrowsAt s i zero l = cond (none-left l) (behind i) (broken 10 i)
+arrowsAt s i (suc n) l = compared (twoAt s i) broken (λ a b k. cond (nextIs a b l) (arrowsAt s k n (later l)) (broken 10 i))
+
+unfoldable pub ending : List ℕ → ℕ → Word → Ending
+ending s i w = field s i broken (λ n j. cond (leb n (length w - 1)) (arrowsAt s j n (ownSteps w)) (broken 9 i))
+
+-- ── Where nothing may follow ───────────────────────────────────────────────
+
+pub data Verdict : Type 0 where
+  right : Verdict
+  wrong : ℕ → ℕ → Verdict
+
+abbrev pub closed : List ℕ → Ending → Verdict
+closed s (behind p) = cond (ltb p (length s)) (wrong 11 p) right
+closed s (broken r p) = wrong r p
 
 unfoldable pub verdict : List ℕ → ℕ → Word → Verdict
-verdict s i w = field s i wrong (λ n j. cond (leb n (length w - 1)) (arrowsAt s j n (ownSteps w)) (wrong 9 i))
+verdict s i w = closed s (ending s i w)

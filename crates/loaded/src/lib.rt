@@ -4,8 +4,8 @@ ghost use mathlib.Core.Path.{_≡_};
 ghost use Rattle.number.specs.Number.{numberAt};
 ghost use Rattle.saved.specs.File.{ownSteps};
 ghost use Rattle.saved.specs.Stepping.{Tabled};
-ghost use Rattle.loaded.specs.Load.{front, lettersAt, twoAt, arrowsAt, verdict};
-ghost use Rattle.loaded.specs.Answers.{headOf, pairOf, verdictOf};
+ghost use Rattle.loaded.specs.Load.{frontAt, lettersAt, twoAt, arrowsAt, ending, verdict};
+ghost use Rattle.loaded.specs.Answers.{headOf, pairOf, endingOf, verdictOf};
 use number::Cursor;
 use number::Number;
 use number::Reader;
@@ -43,16 +43,16 @@ fn read_letters(file: &[u8], c: Cursor) -> Head
     }
 }
 
-// The file up to its letters.
-pub fn read_front(file: &[u8]) -> Head
-    ensures { λ r. ⌜ headOf r ≡ front (now (file .entry)) ⌝ }
+// The file that stands from a place on, up to its letters.
+pub fn read_front(file: &[u8], start: usize) -> Head
+    ensures { λ r. ⌜ headOf r ≡ frontAt (now (file .entry)) start ⌝ }
 {
-    let first = number_at(file, 0);
+    let first = number_at(file, start);
     match first {
         Number::Refused(why, place) => Head::Stop(why, place),
         Number::Value(edition, next) => {
             if edition != saved::EDITION {
-                return Head::Stop(7, 0);
+                return Head::Stop(7, start);
             }
             read_letters(file, next)
         }
@@ -82,16 +82,16 @@ fn read_two(file: &[u8], c: Cursor) -> Pair
     }
 }
 
-// The file's arrows are the word's own; or the refusal and where it shows.
-pub enum Verdict {
-    Right,
-    Wrong(u8, usize),
+// The place behind the file, whose arrows are the word's own; or the refusal and where it shows.
+pub enum Ending {
+    Behind(usize),
+    Broken(u8, usize),
 }
 
 // So many declared arrows from a place of the file on, against all of the word's own.
-fn compare_arrows(word: &[u8], table: &[u16], file: &[u8], start: Cursor, declared: u32) -> Verdict
+fn compare_arrows(word: &[u8], table: &[u16], file: &[u8], start: Cursor, declared: u32) -> Ending
     requires { ⌜ Tabled (now word) (now table) ⌝ }
-    ensures { λ r. ⌜ verdictOf r ≡ arrowsAt (now (file .entry)) (start .at) declared (ownSteps (now (word .entry))) ⌝ }
+    ensures { λ r. ⌜ endingOf r ≡ arrowsAt (now (file .entry)) (start .at) declared (ownSteps (now (word .entry))) ⌝ }
 {
     let total = saved::arrow_count(word, table);
     let mut at = start.at;
@@ -102,15 +102,15 @@ fn compare_arrows(word: &[u8], table: &[u16], file: &[u8], start: Cursor, declar
         let two = read_two(file, Cursor { at });
         match two {
             Pair::Neither(why, place) => {
-                return Verdict::Wrong(why, place);
+                return Ending::Broken(why, place);
             }
             Pair::Both(up, over, next) => {
                 if slot >= total {
-                    return Verdict::Wrong(10, at);
+                    return Ending::Broken(10, at);
                 }
                 let own = saved::next_step(word, table, from, slot);
                 if !((up == own.up) & (over == own.over)) {
-                    return Verdict::Wrong(10, at);
+                    return Ending::Broken(10, at);
                 }
                 at = next;
                 left -= 1;
@@ -120,27 +120,47 @@ fn compare_arrows(word: &[u8], table: &[u16], file: &[u8], start: Cursor, declar
         }
     }
     if slot < total {
-        return Verdict::Wrong(10, at);
+        return Ending::Broken(10, at);
     }
-    if at < file.len() {
-        return Verdict::Wrong(11, at);
-    }
-    Verdict::Right
+    Ending::Behind(at)
 }
 
-// The file from a place on, where the number of arrows stands, against a word and its table.
+// The file from a place on, where the number of arrows stands, against a word and its table; bytes may follow.
+pub fn compare_open(word: &[u8], table: &[u16], file: &[u8], at: usize) -> Ending
+    requires { ⌜ Tabled (now word) (now table) ⌝ }
+    ensures { λ r. ⌜ endingOf r ≡ ending (now (file .entry)) at (now (word .entry)) ⌝ }
+{
+    let count = number_at(file, at);
+    match count {
+        Number::Refused(why, place) => Ending::Broken(why, place),
+        Number::Value(declared, next) => {
+            if declared as usize > word.len() - 1 {
+                return Ending::Broken(9, at);
+            }
+            compare_arrows(word, table, file, next, declared)
+        }
+    }
+}
+
+// The file's arrows are the word's own, and nothing follows; or the refusal and where it shows.
+pub enum Verdict {
+    Right,
+    Wrong(u8, usize),
+}
+
+// The same where nothing may follow.
 pub fn compare(word: &[u8], table: &[u16], file: &[u8], at: usize) -> Verdict
     requires { ⌜ Tabled (now word) (now table) ⌝ }
     ensures { λ r. ⌜ verdictOf r ≡ verdict (now (file .entry)) at (now (word .entry)) ⌝ }
 {
-    let count = number_at(file, at);
-    match count {
-        Number::Refused(why, place) => Verdict::Wrong(why, place),
-        Number::Value(declared, next) => {
-            if declared as usize > word.len() - 1 {
-                return Verdict::Wrong(9, at);
+    let shown = compare_open(word, table, file, at);
+    match shown {
+        Ending::Broken(why, place) => Verdict::Wrong(why, place),
+        Ending::Behind(end) => {
+            if end < file.len() {
+                return Verdict::Wrong(11, end);
             }
-            compare_arrows(word, table, file, next, declared)
+            Verdict::Right
         }
     }
 }

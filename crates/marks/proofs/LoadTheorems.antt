@@ -18,7 +18,7 @@ use Rattle.number.specs.Number.{Bytes}
 use Rattle.saved.specs.File.{edition, spell, Saved}
 use Rattle.loaded.specs.Load.{letters, stop, front, Verdict, right, wrong, verdict}
 use Rattle.loaded.specs.Accepts.{Judged, FileOf}
-use Rattle.loaded.specs.Cases.{Reads, BadLength, FrontCase, length-bad, count-too-large}
+use Rattle.loaded.specs.Cases.{Reads, BadLength, FrontCase, length-bad, count-too-large, arrows-wrong}
 use Rattle.loaded.proofs.Fronts.{front-letters}
 use Rattle.loaded.proofs.Theorems.{file-accepted, only-files, beginning-refused, longer-refused, front-is, verdict-is}
 use Rattle.marks.specs.Answers.{done, refused}
@@ -158,7 +158,7 @@ module _ (R T : List ℕ) where
       → loadSays s R T ≡ outcome (refused 9) (replicate m 0 ++ drop m R) (replicate (room m) 0 ++ drop (room m) T)
   bad-count-one s {m} {i} f h t a b =
       let size : length (part s i m) ≡ m = part-length s i m (front-letters s (front-is s _ .1 f) .inside) in
-      load-is s R T _ .1 (LoadCase.arrows-refused f h t (count-too-large a (rw size b)))
+      load-is s R T _ .1 (LoadCase.arrows-refused f h t (arrows-wrong (count-too-large a (rw size b))))
 
   -- so any two files that declare one, and equally many letters, have the same outcome, whatever the rooms
   pub any-two-bad-counts : (s s′ : List ℕ) {m i n j i′ n′ j′ : ℕ} → FrontCase s (letters m i) → Reads s (i + m) n j → m - 1 < n

@@ -5,11 +5,11 @@ use Prim.Native.Nat.{ℕ}
 use native.Mathlib.Omega.{arith}
 use Rattle.words.specs.Words.{Word, Place}
 use Rattle.saved.specs.File.{Step}
-use Rattle.loaded.specs.Load.{stop, wrong}
+use Rattle.loaded.specs.Load.{stop, broken, wrong}
 use Rattle.loaded.specs.Cases.{Unread, cut-off, bad-byte}
 use Rattle.loaded.specs.Cases.{FrontCase, edition-unread, edition-other, length-unread, length-bad, letters-missing}
-use Rattle.loaded.specs.Cases.{ArrowsCase, arrow-agrees, up-unread, over-unread, arrow-differs, no-arrow-left, arrows-missing, leftovers}
-use Rattle.loaded.specs.Cases.{VerdictCase, count-unread, count-too-large, count-fits}
+use Rattle.loaded.specs.Cases.{ArrowsCase, arrow-agrees, up-unread, over-unread, arrow-differs, no-arrow-left, arrows-missing}
+use Rattle.loaded.specs.Cases.{EndingCase, count-unread, count-too-large, count-fits, VerdictCase, arrows-wrong, leftovers}
 use Rattle.marks.specs.Answers.{Answer, done, refused}
 use Rattle.marks.specs.Build
 use Rattle.marks.specs.Build.{buildSays}
@@ -88,19 +88,22 @@ module _ {s : List ℕ} where
   front-number (length-bad a b d) = next (next (next (first refl)))
   front-number (letters-missing a b c d h) = first refl
 
-  arrows-number : {i : Place} {n : ℕ} {l : List Step} {r : ℕ} {p : Place} → ArrowsCase s i n l (wrong r p) → List·Memᴰ r shown
+  arrows-number : {i : Place} {n : ℕ} {l : List Step} {r : ℕ} {p : Place} → ArrowsCase s i n l (broken r p) → List·Memᴰ r shown
   arrows-number (arrow-agrees a b c) = arrows-number c
   arrows-number (up-unread u) = unread-number u
   arrows-number (over-unread a u) = unread-number u
   arrows-number (arrow-differs a b d) = next (next (next (next (next (first refl)))))
   arrows-number (no-arrow-left a b) = next (next (next (next (next (first refl)))))
   arrows-number arrows-missing = next (next (next (next (next (first refl)))))
-  arrows-number (leftovers h) = next (next (next (next (next (next (first refl))))))
+
+  ending-number : {i : Place} {w : Word} {r : ℕ} {p : Place} → EndingCase s i w (broken r p) → List·Memᴰ r shown
+  ending-number (count-unread u) = unread-number u
+  ending-number (count-too-large a b) = next (next (next (next (first refl))))
+  ending-number (count-fits a b c) = arrows-number c
 
   verdict-number : {i : Place} {w : Word} {r : ℕ} {p : Place} → VerdictCase s i w (wrong r p) → List·Memᴰ r shown
-  verdict-number (count-unread u) = unread-number u
-  verdict-number (count-too-large a b) = next (next (next (next (first refl))))
-  verdict-number (count-fits a b c) = arrows-number c
+  verdict-number (arrows-wrong c) = ending-number c
+  verdict-number (leftovers c h) = next (next (next (next (next (next (first refl))))))
 
   load-number : {R T : List ℕ} {n : ℕ} {R′ T′ : List ℕ} → LoadCase s R T (Load.outcome (refused n) R′ T′) → List·Memᴰ n (3 ∷ shown)
   load-number (LoadCase.head-refused f) = next (front-number f)

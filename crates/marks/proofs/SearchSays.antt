@@ -21,8 +21,9 @@ use Rattle.table.specs.Table.{room, tableOf, readArrow}
 use Rattle.table.specs.Formed.{Formed}
 use Rattle.table.proofs.Theorems.{table-size, table-arrow}
 use Rattle.table.proofs.Formed.{table-formed}
-use Rattle.search.specs.declared.Tally.{Tally}
-use Rattle.search.specs.Finds.{tallyOf, filled}
+use Rattle.finds.specs.declared.Tally.{Tally}
+use Rattle.search.specs.Answers.{tallyOf}
+use Rattle.finds.specs.Finds.{filled}
 use Rattle.marks.specs.declared.Searched.{Searched}
 use Rattle.marks.specs.declared.Searched.the-variants.{Done, EmptyWord, LongWord, LongText, ShortRoom}
 use Rattle.words.specs.Limits.{longestWord, longestText}

@@ -17,7 +17,7 @@ use lib.ListN.{length, take, drop, replicate}
 use Rattle.words.specs.Words.{Word, Place, part, mirror, occurrences}
 use Rattle.words.specs.Limits.{longestWord, longestText}
 use Rattle.table.specs.Table.{room, tableOf}
-use Rattle.search.specs.Finds.{filled}
+use Rattle.finds.specs.Finds.{filled}
 use Rattle.saved.specs.File.{spell}
 use Rattle.loaded.specs.Load.{letters, stop, right, wrong}
 use Rattle.loaded.specs.Cases.{FrontCase, VerdictCase}

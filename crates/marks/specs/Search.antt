@@ -17,7 +17,7 @@ use lib.Dec.{ltb}
 use Rattle.words.specs.Words.{Word, Place, mirror, occurrences}
 use Rattle.backward.specs.Steps.{backward}
 use Rattle.table.specs.Table.{room, tableOf}
-use Rattle.search.specs.Finds.{filled}
+use Rattle.finds.specs.Finds.{filled}
 use Rattle.marks.specs.declared.Searched.{Searched}
 use Rattle.marks.specs.declared.Searched.the-variants.{Done, EmptyWord, LongWord, LongText, ShortRoom}
 use Rattle.words.specs.Limits.{longestWord, longestText}

@@ -13,7 +13,7 @@ use lib.ListN.{length, take}
 use lib.Dec.{ltb}
 use Rattle.words.specs.Words.{Word, Place, mirror, occurrences}
 use Rattle.words.specs.Limits.{longestText}
-use Rattle.search.specs.Finds.{filled}
+use Rattle.finds.specs.Finds.{filled}
 use Rattle.marks.specs.declared.FileSearched.{FileSearched}
 use Rattle.marks.specs.declared.FileSearched.the-variants.{Done, Refused}
 use Rattle.marks.specs.Answers.{Answer, done, refused, longText}

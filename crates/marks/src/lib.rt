@@ -44,7 +44,7 @@ pub fn build(word: &[u8], tables: &mut [u16]) -> Built
 
 pub enum Searched {
     // How often the word stands in the text, and how many letters were read.
-    Done(search::Tally),
+    Done(finds::Tally),
     EmptyWord,
     LongWord,
     LongText,
@@ -154,7 +154,7 @@ pub fn load(file: &[u8], room: &mut [u8], tables: &mut [u16]) -> Loaded
     ensures { λ r. ⌜ loadedAs r (now (room .exit)) (now (tables .exit))
         ≡ loadSays (now (file .entry)) (now (room .entry)) (now (tables .entry)) ⌝ }
 {
-    let head = loaded::read_front(file);
+    let head = loaded::read_front(file, 0);
     match head {
         loaded::Head::Stop(why, place) => Loaded::Refused(why),
         loaded::Head::Letters(m, at) => {
@@ -172,7 +172,7 @@ pub fn load(file: &[u8], room: &mut [u8], tables: &mut [u16]) -> Loaded
 
 pub enum FileSearched {
     // How often the mirror of the file's word stands in the text, and how many letters were read.
-    Done(search::Tally),
+    Done(finds::Tally),
     // The number: 3, 4, or what the file shows.
     Refused(u8),
 }

@@ -10,25 +10,25 @@ use Rattle.words.specs.Words.{Word, letter}
 use Rattle.words.specs.Answers.{arrowTo}
 use Rattle.words.specs.declared.State.{State as Stated}
 use Rattle.words.specs.declared.Place.{Place}
-use Rattle.words.specs.declared.Arrow.{Arrow}
-use Rattle.words.specs.declared.Arrow.the-variants.{To, Missing}
+use Rattle.words.specs.declared.Leads.{Leads}
+use Rattle.words.specs.declared.Leads.the-variants.{To, Missing}
 use Rattle.words.proofs.Answers.{arrow-told, arrow-untold}
 use Rattle.oracle.specs.Arrows.{State, Delta}
 use Rattle.backward.specs.Steps.{readDown}
 use Rattle.backward.proofs.Reading.{read-done, read-fails, read-goes}
-use Rattle.search.specs.declared.Reading.{Reading as Read}
-use Rattle.search.specs.declared.Reading.the-variants.{Failed, Whole}
-use Rattle.search.specs.Finds.{failedAt, readingOf}
+use Rattle.search.specs.declared.WindowRead.{WindowRead}
+use Rattle.search.specs.declared.WindowRead.the-variants.{Failed, Whole}
+use Rattle.search.specs.Answers.{failedAt, readingOf}
 
 -- ── What an answer says ────────────────────────────────────────────────────
 
 -- the window failed
-pub failed-told : (o : Option ℕ) (r : Read) (f : Place) → r ≡ failedAt o → r ≡ Failed f → o ≡ some (f .0)
+pub failed-told : (o : Option ℕ) (r : WindowRead) (f : Place) → r ≡ failedAt o → r ≡ Failed f → o ≡ some (f .0)
 failed-told none r f says e = cc
 failed-told (some g) r f says e = cc
 
 -- it was read whole
-pub whole-told : (o : Option ℕ) (r : Read) → r ≡ failedAt o → r ≡ Whole → o ≡ none
+pub whole-told : (o : Option ℕ) (r : WindowRead) → r ≡ failedAt o → r ≡ Whole → o ≡ none
 whole-told none r says e = refl
 whole-told (some g) r says e = cc
 
@@ -48,7 +48,7 @@ module _ {δ : Delta} {t : Word} {s m : ℕ} where
   pub none-to-read : {left : ℕ} {x : State} → StillToRead δ t s m left x → left ≡ 0 → Whole ≡ readingOf (readDown δ t s m 0)
   none-to-read {left} {x} R e = let q = rw (e, read-done δ t s x) at (R .same) in rw q
 
-  module _ {left : ℕ} {x : State} (R : StillToRead δ t s m left x) (more : left ≢ 0) (r : Arrow) (says : r ≡ arrowTo (δ x (letter t (s + (left - 1))))) where
+  module _ {left : ℕ} {x : State} (R : StillToRead δ t s m left x) (more : left ≢ 0) (r : Leads) (says : r ≡ arrowTo (δ x (letter t (s + (left - 1))))) where
     one : left ≡ suc (left - 1)
     one = omega arith
 

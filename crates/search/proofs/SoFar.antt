@@ -14,11 +14,12 @@ use Rattle.backward.specs.Steps.{Searched, readDown, afterFind, windows, steps}
 use Rattle.backward.proofs.Reading.{Failed as FailedAt, failed-place, whole-letters}
 use Rattle.backward.proofs.AfterFind.{after-moves, after-most}
 use Rattle.backward.proofs.Windows.{next, with-window, next-moves, windows-past, windows-one, windows-enough, steps-letters}
-use Rattle.search.specs.declared.Reading.{Reading as Read}
-use Rattle.search.specs.declared.Reading.the-variants.{Failed, Whole}
-use Rattle.search.specs.Finds.{readingOf, tallyOf, filled}
+use Rattle.search.specs.declared.WindowRead.{WindowRead}
+use Rattle.search.specs.declared.WindowRead.the-variants.{Failed, Whole}
+use Rattle.search.specs.Answers.{readingOf, tallyOf}
+use Rattle.finds.specs.Finds.{filled}
 use Rattle.search.proofs.Readings.{failed-told, whole-told}
-use Rattle.search.proofs.Filling.{filled-nil, filled-length}
+use Rattle.finds.proofs.Filling.{filled-nil, filled-length}
 
 -- ── The windows still ahead ────────────────────────────────────────────────
 
@@ -95,7 +96,7 @@ module _ {δ : Delta} {w t : Word} {F₀ F : List ℕ} {s : Place} {count letter
 
   -- ── One window more ──────────────────────────────────────────────────────
 
-  module _ (h : s + length w ≤ length t) (r : Read) (says : r ≡ readingOf (readDown δ t s (length w) 0)) where
+  module _ (h : s + length w ≤ length t) (r : WindowRead) (says : r ≡ readingOf (readDown δ t s (length w) 0)) where
     -- it was read whole: its letters fit too
     pub find-fits : r ≡ Whole → length w < 65535 → length t < 4294967295 → letters + length w < 281474976710656
     find-fits e m n = omega (arith, rw (ahead-whole δ w t s h (whole-told _ r says e)) at (letters-fit m n))

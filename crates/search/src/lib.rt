@@ -1,28 +1,22 @@
 // The backward search over a table: a window is read from its end, and moved to behind the first letter that has no arrow. Serves the
 // entries.
 ghost use mathlib.Core.Path.{_≡_};
-ghost use mathlib.Core.List.{List, [], _∷_, _++_};
-ghost use Prim.Native.Nat.{ℕ, _+_, _<_, _≤_};
+ghost use Prim.Native.Nat.{_+_, _<_, _≤_};
 ghost use lib.ListN.{length};
 ghost use Rattle.table.specs.Formed.{Formed};
 ghost use Rattle.table.specs.Table.{readArrow};
 ghost use Rattle.backward.specs.Steps.{readDown, afterFind, steps};
-ghost use Rattle.search.specs.Finds.{readingOf, tallyOf, filled};
+ghost use Rattle.search.specs.Answers.{readingOf, tallyOf};
+ghost use Rattle.finds.specs.Finds.{filled};
 
 // How a window was read: up to the first letter without an arrow, or all its letters.
-pub enum Reading {
+pub enum WindowRead {
     Failed(words::Place),
     Whole,
 }
 
-// How often the word was found, and how many letters were read for it.
-pub struct Tally {
-    pub count: usize,
-    pub letters: u64,
-}
-
 // Reads the window at s from its end; the loop breaks with how that went.
-fn read_window(table: &[u16], m: usize, text: &[u8], s: words::Place) -> Reading
+fn read_window(table: &[u16], m: usize, text: &[u8], s: words::Place) -> WindowRead
     requires { ⌜ (s .0 + m ≤ length (now text)) × (length (now text) < 4294967295) ⌝ }
     requires { ⌜ Formed (now table) m ⌝ }
     ensures { λ r. ⌜ r ≡ readingOf (readDown (readArrow m (now (table .entry))) (now (text .entry)) (s .0) m 0) ⌝ }
@@ -32,13 +26,13 @@ fn read_window(table: &[u16], m: usize, text: &[u8], s: words::Place) -> Reading
     let mut x = words::State(0);
     loop {
         if left == 0 {
-            break Reading::Whole;
+            break WindowRead::Whole;
         }
         let at = start + (left - 1);
         let c = text[at];
-        let words::Arrow::To(next) = table::lookup(table, m, x, words::Letter(c)) else {
+        let words::Leads::To(next) = table::lookup(table, m, x, words::Letter(c)) else {
             let f = at as u32;
-            break Reading::Failed(words::Place(f));
+            break WindowRead::Failed(words::Place(f));
         };
         x = next;
         left -= 1;
@@ -52,21 +46,8 @@ fn step_after_find(word: &[u8]) -> usize
     1
 }
 
-// Writes the find that follows `count` others into the caller's list, where it fits; the answer is the number of finds.
-fn note(finds: &mut [u32], count: usize, s: words::Place) -> usize
-    requires { ⌜ count < 4294967295 ⌝ }
-    ensures { λ r. ⌜ (r ≡ count + 1)
-        × ((l f : List ℕ) → length l ≡ count → now (finds .entry) ≡ filled l f → now (finds .exit) ≡ filled (l ++ (s .0 ∷ [])) f) ⌝ }
-{
-    if finds.len() <= count {
-        return count + 1;
-    }
-    finds[count] = s.0;
-    count + 1
-}
-
 // Moves the window over the text, with the arrows of the table.
-pub fn scan(word: &[u8], table: &[u16], text: &[u8], finds: &mut [u32]) -> Tally
+pub fn scan(word: &[u8], table: &[u16], text: &[u8], finds: &mut [u32]) -> finds::Tally
     requires { ⌜ (1 ≤ length (now word)) × (length (now text) < 4294967295) ⌝ }
     requires { ⌜ Formed (now table) (length (now word)) ⌝ }
     ensures { λ r. ⌜ (r ≡ tallyOf (steps (readArrow (length (now (word .entry))) (now (table .entry))) (now (word .entry)) (now (text .entry))))
@@ -80,9 +61,9 @@ pub fn scan(word: &[u8], table: &[u16], text: &[u8], finds: &mut [u32]) -> Tally
     let mut count: usize = 0;
     let mut letters: u64 = 0;
     'window: while (s.0 as usize) + m <= n {
-        let Reading::Failed(f) = read_window(table, m, text, s) else {
+        let WindowRead::Failed(f) = read_window(table, m, text, s) else {
             letters += m as u64;
-            count = note(finds, count, s);
+            count = finds::note(finds, count, s);
             let on = ((s.0 as usize) + step) as u32;
             s = words::Place(on);
             continue 'window;
@@ -91,7 +72,7 @@ pub fn scan(word: &[u8], table: &[u16], text: &[u8], finds: &mut [u32]) -> Tally
         letters += ((s.0 as usize) + m - (f.0 as usize)) as u64;
         s = past;
     }
-    Tally {
+    finds::Tally {
         count: count,
         letters: letters,
     }

@@ -8,7 +8,7 @@ use lib.ListN.{length}
 use Rattle.words.specs.Lists.{at}
 use Rattle.words.specs.Words.{Letter}
 use Rattle.words.specs.Answers.{arrowTo}
-use Rattle.words.specs.declared.Arrow.the-variants.{To, Missing}
+use Rattle.words.specs.declared.Leads.the-variants.{To, Missing}
 use Rattle.oracle.specs.Arrows.{State}
 use Rattle.table.specs.Table.{readArrow}
 use Rattle.table.specs.Formed.{Formed}

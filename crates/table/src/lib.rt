@@ -117,7 +117,7 @@ pub fn fill_mirror(word: &[u8], table: &mut [u16])
 }
 
 // The arrow from x on c.
-pub fn lookup(table: &[u16], m: usize, x: words::State, c: words::Letter) -> words::Arrow
+pub fn lookup(table: &[u16], m: usize, x: words::State, c: words::Letter) -> words::Leads
     requires { ⌜ Formed (now table) m ⌝ }
     ensures { λ r. ⌜ r ≡ arrowTo (readArrow m (now (table .entry)) (x .0) (c .0)) ⌝ }
 {
@@ -125,10 +125,10 @@ pub fn lookup(table: &[u16], m: usize, x: words::State, c: words::Letter) -> wor
     let from = x.0 as usize;
     let on = c.0 as u16;
     if from >= m {
-        return words::Arrow::Missing;
+        return words::Leads::Missing;
     }
     if table[from + 1] == on {
-        return words::Arrow::To(words::State((from + 1) as u16));
+        return words::Leads::To(words::State((from + 1) as u16));
     }
     let mut s = table[2 * n + from] as usize;
     let end = table[2 * n + from + 1] as usize;
@@ -136,9 +136,9 @@ pub fn lookup(table: &[u16], m: usize, x: words::State, c: words::Letter) -> wor
         let y = table[3 * n + s];
         let at = y as usize;
         if table[at] == on {
-            return words::Arrow::To(words::State(y));
+            return words::Leads::To(words::State(y));
         }
         s += 1;
     }
-    words::Arrow::Missing
+    words::Leads::Missing
 }

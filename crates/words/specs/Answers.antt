@@ -4,12 +4,12 @@
 --   supplyOf o    the answer to what a supply is
 use mathlib.Core.Option.{Option, none, some}
 use Prim.Native.Nat.{ℕ}
-use Rattle.words.specs.declared.Arrow.{Arrow}
-use Rattle.words.specs.declared.Arrow.the-variants.{To, Missing}
+use Rattle.words.specs.declared.Leads.{Leads}
+use Rattle.words.specs.declared.Leads.the-variants.{To, Missing}
 use Rattle.words.specs.declared.Supply.{Supply}
 use Rattle.words.specs.declared.Supply.the-variants.{Of, Without}
 
-abbrev pub arrowTo : Option ℕ → Arrow
+abbrev pub arrowTo : Option ℕ → Leads
 arrowTo none = Missing
 arrowTo (some y) = To (record { 0 = y })
 

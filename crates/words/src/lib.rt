@@ -12,7 +12,7 @@ pub struct Place(pub u32);
 pub struct State(pub u16);
 
 // Where the arrow from a state on a letter leads.
-pub enum Arrow {
+pub enum Leads {
     To(State),
     Missing,
 }

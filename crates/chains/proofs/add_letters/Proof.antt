@@ -20,50 +20,40 @@ Inv-loop table₀ m n firsts₀ t₀ used₀ table firsts t used = Grown table�
 abbrev μ-loop : tie.MeasureT-loop
 μ-loop table₀ m n firsts₀ t₀ used₀ table firsts t used = m - t
 
--- src/lib.rt:144:13
 add-n : tie.Need-add-n Inv-loop μ-loop
 add-n c = search needs
 
--- src/lib.rt:148:5
 loop-holds : tie.Need-loop-holds Inv-loop μ-loop
 loop-holds c =
     let at-start = c .before in
     (grown-start (at-start .pre .1), firsts-start (at (at-start .args .table .now)))
 
--- src/lib.rt:149:24
 add-c : tie.Need-add-c Inv-loop μ-loop
 add-c c = search needs
 
--- src/lib.rt:149:18
 mul-c : tie.Need-mul-c Inv-loop μ-loop
 mul-c c = search needs
 
--- src/lib.rt:149:18
 slice-read-c : tie.Need-slice-read-c Inv-loop μ-loop
 slice-read-c c =
     let at-loop = c .before .before in
     let at-start = at-loop .before .before in
     omega (arith, at-loop .loop .inv .0 .held .size, at-start .pre .1 .size)
 
--- src/lib.rt:149:17
 cast-c : tie.Need-cast-c Inv-loop μ-loop
 cast-c c = search needs
 
--- src/lib.rt:150:21
 mul-first : tie.Need-mul-first Inv-loop μ-loop
 mul-first c = search needs
 
--- src/lib.rt:150:21
 array-read-first : tie.Need-array-read-first Inv-loop μ-loop
 array-read-first c =
     let at-loop = c .before .before in
     omega (arith, at-loop .loop .inv .1 .size)
 
--- src/lib.rt:151:46
 zero-arrow-requires : tie.Need-zero-arrow-requires Inv-loop μ-loop
 zero-arrow-requires c κs = search needs
 
--- src/lib.rt:151:9
 add-letter-requires : tie.Need-add-letter-requires Inv-loop μ-loop
 add-letter-requires c κs =
     let at-loop-test = c .before .before .before in
@@ -71,29 +61,23 @@ add-letter-requires c κs =
     let at-start = at-loop .before .before in
     (omega (arith, at-start .pre .0), (code-begun (at-start .pre .1) (at-loop .loop .inv .0) (at-loop-test .loop-test .taken), rw (c .zero-arrow .ensures) (code-zero (at-start .pre .1) (at-loop .loop .inv .0) (at-loop-test .loop-test .taken) (at-loop .loop .inv .1))))
 
--- src/lib.rt:152:9
 add-t : tie.Need-add-t Inv-loop μ-loop
 add-t c = search needs
 
--- src/lib.rt:154:25
 cast-firsts : tie.Need-cast-firsts Inv-loop μ-loop
 cast-firsts c = search needs
 
--- src/lib.rt:154:13
 mul-firsts : tie.Need-mul-firsts Inv-loop μ-loop
 mul-firsts c = search needs
 
--- src/lib.rt:154:13
 array-write-firsts : tie.Need-array-write-firsts Inv-loop μ-loop
 array-write-firsts c =
     let at-loop = c .before .before .before .before .before .before .before .before in
     omega (arith, at-loop .loop .inv .1 .size)
 
--- src/lib.rt:148:5
 loop-less : tie.Need-loop-less Inv-loop μ-loop
 loop-less c = search needs
 
--- src/lib.rt:148:5
 loop-again : tie.Need-loop-again Inv-loop μ-loop
 loop-again c =
     let at-add-letter = c .before .before .before in
@@ -102,11 +86,9 @@ loop-again c =
     let at-start = at-loop .before .before in
     (code-letter (at-start .pre .1) (at-loop .loop .inv .0) (at-loop-test .loop-test .taken) (at-add-letter .add-letter .ensures), code-new (at-start .pre .1) (at-loop .loop .inv .0) (at-loop-test .loop-test .taken) (at-loop .loop .inv .1) (c .if1 .taken))
 
--- src/lib.rt:148:5
 loop-less-2 : tie.Need-loop-less-2 Inv-loop μ-loop
 loop-less-2 c = search needs
 
--- src/lib.rt:148:5
 loop-again-2 : tie.Need-loop-again-2 Inv-loop μ-loop
 loop-again-2 c =
     let at-add-letter = c .before .before .before in
@@ -115,14 +97,12 @@ loop-again-2 c =
     let at-start = at-loop .before .before in
     (code-letter (at-start .pre .1) (at-loop .loop .inv .0) (at-loop-test .loop-test .taken) (at-add-letter .add-letter .ensures), code-old (at-start .pre .1) (at-loop .loop .inv .0) (at-loop-test .loop-test .taken) (at-loop .loop .inv .1) (c .if1 .left))
 
--- src/lib.rt:139:1
 same-length : tie.Need-same-length Inv-loop μ-loop
 same-length c =
     let at-loop = c .before in
     let at-start = at-loop .before .before in
     at-loop .loop .inv .0 .held .size ∙ sym (at-start .pre .1 .size)
 
--- src/lib.rt:139:1
 returns : tie.Need-returns Inv-loop μ-loop
 returns c =
     let at-loop = c .before in

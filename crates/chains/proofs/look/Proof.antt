@@ -14,73 +14,57 @@ Inv-loop table n t from on slot₀ slot = (from < t) × Chasing table n t from o
 abbrev μ-loop : tie.MeasureT-loop
 μ-loop table n t from on slot₀ slot = slot
 
--- src/lib.rt:52:16
 cast-from : tie.Need-cast-from Inv-loop μ-loop
 cast-from c = search needs
 
--- src/lib.rt:53:14
 cast-on : tie.Need-cast-on Inv-loop μ-loop
 cast-on c = search needs
 
--- src/lib.rt:55:9
 returns : tie.Need-returns Inv-loop μ-loop
 returns c =
     let at-start = c .before .before .before in
     looks-zero (c .if1 .taken) (at-start .pre .1 .1)
 
--- src/lib.rt:58:9
 returns-2 : tie.Need-returns-2 Inv-loop μ-loop
 returns-2 c = looks-far (c .if2 .taken)
 
--- src/lib.rt:60:14
 add-if3 : tie.Need-add-if3 Inv-loop μ-loop
 add-if3 c = search needs
 
--- src/lib.rt:60:8
 mul-if3 : tie.Need-mul-if3 Inv-loop μ-loop
 mul-if3 c = search needs
 
--- src/lib.rt:60:8
 shared-slice-read-if3 : tie.Need-shared-slice-read-if3 Inv-loop μ-loop
 shared-slice-read-if3 c = search needs
 
--- src/lib.rt:61:47
 add-t17 : tie.Need-add-t17 Inv-loop μ-loop
 add-t17 c = search needs
 
--- src/lib.rt:61:46
 cast-t18 : tie.Need-cast-t18 Inv-loop μ-loop
 cast-t18 c = search needs
 
--- src/lib.rt:61:9
 returns-3 : tie.Need-returns-3 Inv-loop μ-loop
 returns-3 c =
     let at-if2 = c .before .before in
     looks-spine (at-if2 .if2 .left) (c .if3 .taken)
 
--- src/lib.rt:63:26
 mul-slot : tie.Need-mul-slot Inv-loop μ-loop
 mul-slot c = search needs
 
--- src/lib.rt:63:26
 add-slot : tie.Need-add-slot Inv-loop μ-loop
 add-slot c = search needs
 
--- src/lib.rt:63:20
 mul-slot-2 : tie.Need-mul-slot-2 Inv-loop μ-loop
 mul-slot-2 c = search needs
 
--- src/lib.rt:63:20
 shared-slice-read-slot : tie.Need-shared-slice-read-slot Inv-loop μ-loop
 shared-slice-read-slot c = search needs
 
--- src/lib.rt:63:20
 cast-slot : tie.Need-cast-slot Inv-loop μ-loop
 cast-slot c =
     let at-start = c .before .before .before .before .before .before .before in
     omega (arith, c .shared-slice-known2 .given (2 * at-start .args .n + at-start .args .x .0))
 
--- src/lib.rt:64:5
 loop-holds : tie.Need-loop-holds Inv-loop μ-loop
 loop-holds c =
     let at-if3 = c .before in
@@ -88,23 +72,19 @@ loop-holds c =
     let at-start = at-if2 .before .before .before .before in
     (at-if2 .if2 .left, chase-start (at-start .pre .1 .0) (at-start .pre .0 .2) (at-if2 .if2 .left) (at-if3 .if3 .left))
 
--- src/lib.rt:65:23
 mul-y : tie.Need-mul-y Inv-loop μ-loop
 mul-y c = search needs
 
--- src/lib.rt:65:23
 add-y : tie.Need-add-y Inv-loop μ-loop
 add-y c =
     let at-loop = c .before in
     omega (arith, chase-slot (at-loop .loop .inv .1) (c .loop-test .taken) .inside)
 
--- src/lib.rt:65:17
 mul-y-2 : tie.Need-mul-y-2 Inv-loop μ-loop
 mul-y-2 c =
     let at-loop = c .before in
     omega (arith, chase-slot (at-loop .loop .inv .1) (c .loop-test .taken) .inside)
 
--- src/lib.rt:65:17
 shared-slice-read-y : tie.Need-shared-slice-read-y Inv-loop μ-loop
 shared-slice-read-y c =
     let at-loop-test = c .before in
@@ -112,21 +92,18 @@ shared-slice-read-y c =
     let at-start = at-loop .before .before .before .before .before .before .before .before in
     omega (arith, chase-slot (at-loop .loop .inv .1) (at-loop-test .loop-test .taken) .inside, at-start .pre .1 .0 .size)
 
--- src/lib.rt:66:18
 cast-at : tie.Need-cast-at Inv-loop μ-loop
 cast-at c =
     let at-loop = c .before .before in
     let at-start = at-loop .before .before .before .before .before .before .before .before in
     omega (arith, c .shared-slice-known3 .given (5 * at-start .args .n + at-loop .loop .slot))
 
--- src/lib.rt:67:12
 mul-if4 : tie.Need-mul-if4 Inv-loop μ-loop
 mul-if4 c =
     let at-loop-test = c .before in
     let at-loop = at-loop-test .before in
     omega (arith, chase-slot (at-loop .loop .inv .1) (at-loop-test .loop-test .taken) .state)
 
--- src/lib.rt:67:12
 shared-slice-read-if4 : tie.Need-shared-slice-read-if4 Inv-loop μ-loop
 shared-slice-read-if4 c =
     let at-loop-test = c .before .before in
@@ -134,32 +111,27 @@ shared-slice-read-if4 c =
     let at-start = at-loop .before .before .before .before .before .before .before .before in
     omega (arith, chase-slot (at-loop .loop .inv .1) (at-loop-test .loop-test .taken) .state, at-start .pre .1 .0 .size)
 
--- src/lib.rt:68:13
 returns-4 : tie.Need-returns-4 Inv-loop μ-loop
 returns-4 c =
     let at-loop-test = c .before .before .before in
     let at-loop = at-loop-test .before in
     chase-hit (at-loop .loop .inv .1) (at-loop-test .loop-test .taken) (c .if4 .taken)
 
--- src/lib.rt:70:22
 mul-slot-3 : tie.Need-mul-slot-3 Inv-loop μ-loop
 mul-slot-3 c = search needs
 
--- src/lib.rt:70:22
 add-slot-2 : tie.Need-add-slot-2 Inv-loop μ-loop
 add-slot-2 c =
     let at-loop-test = c .before .before .before in
     let at-loop = at-loop-test .before in
     omega (arith, chase-slot (at-loop .loop .inv .1) (at-loop-test .loop-test .taken) .inside)
 
--- src/lib.rt:70:16
 mul-slot-4 : tie.Need-mul-slot-4 Inv-loop μ-loop
 mul-slot-4 c =
     let at-loop-test = c .before .before .before in
     let at-loop = at-loop-test .before in
     omega (arith, chase-slot (at-loop .loop .inv .1) (at-loop-test .loop-test .taken) .inside)
 
--- src/lib.rt:70:16
 shared-slice-read-slot-2 : tie.Need-shared-slice-read-slot-2 Inv-loop μ-loop
 shared-slice-read-slot-2 c =
     let at-loop-test = c .before .before .before .before in
@@ -167,21 +139,18 @@ shared-slice-read-slot-2 c =
     let at-start = at-loop .before .before .before .before .before .before .before .before in
     omega (arith, chase-slot (at-loop .loop .inv .1) (at-loop-test .loop-test .taken) .inside, at-start .pre .1 .0 .size)
 
--- src/lib.rt:70:16
 cast-slot-2 : tie.Need-cast-slot-2 Inv-loop μ-loop
 cast-slot-2 c =
     let at-loop = c .before .before .before .before .before in
     let at-start = at-loop .before .before .before .before .before .before .before .before in
     omega (arith, c .shared-slice-known5 .given (4 * at-start .args .n + at-loop .loop .slot))
 
--- src/lib.rt:64:5
 loop-less : tie.Need-loop-less Inv-loop μ-loop
 loop-less c =
     let at-loop-test = c .before .before .before .before in
     let at-loop = at-loop-test .before in
     chase-slot (at-loop .loop .inv .1) (at-loop-test .loop-test .taken) .older
 
--- src/lib.rt:64:5
 loop-again : tie.Need-loop-again Inv-loop μ-loop
 loop-again c =
     let at-if4 = c .before in
@@ -189,7 +158,6 @@ loop-again c =
     let at-loop = at-loop-test .before in
     (at-loop .loop .inv .0, chase-next (at-loop .loop .inv .1) (at-loop-test .loop-test .taken) (at-if4 .if4 .left))
 
--- src/lib.rt:40:1
 returns-5 : tie.Need-returns-5 Inv-loop μ-loop
 returns-5 c =
     let at-loop = c .before in

@@ -8,87 +8,66 @@ use Rattle.chains.proofs.push.Tie as tie
 use Rattle.chains.proofs.push.Reads as reads
 use Rattle.chains.proofs.push.Lts as lts
 
--- src/lib.rt:80:16
 cast-from : tie.Need-cast-from
 cast-from c = search needs
 
--- src/lib.rt:81:23
 mul-first : tie.Need-mul-first
 mul-first c = search needs
 
--- src/lib.rt:81:23
 add-first : tie.Need-add-first
 add-first c = search needs
 
--- src/lib.rt:81:17
 mul-first-2 : tie.Need-mul-first-2
 mul-first-2 c = search needs
 
--- src/lib.rt:81:17
 slice-read-first : tie.Need-slice-read-first
 slice-read-first c = search needs
 
--- src/lib.rt:82:16
 add-slot : tie.Need-add-slot
 add-slot c = search needs
 
--- src/lib.rt:83:11
 mul-table : tie.Need-mul-table
 mul-table c = search needs
 
--- src/lib.rt:83:11
 add-table : tie.Need-add-table
 add-table c = search needs
 
--- src/lib.rt:83:5
 mul-table-2 : tie.Need-mul-table-2
 mul-table-2 c = search needs
 
--- src/lib.rt:83:5
 slice-write-table : tie.Need-slice-write-table
 slice-write-table c = search needs
 
--- src/lib.rt:84:11
 mul-table-3 : tie.Need-mul-table-3
 mul-table-3 c = search needs
 
--- src/lib.rt:84:11
 add-table-2 : tie.Need-add-table-2
 add-table-2 c = search needs
 
--- src/lib.rt:84:5
 mul-table-4 : tie.Need-mul-table-4
 mul-table-4 c = search needs
 
--- src/lib.rt:84:5
 slice-write-table-2 : tie.Need-slice-write-table-2
 slice-write-table-2 c = simp length-set (omega arith)
 
--- src/lib.rt:85:27
 cast-table : tie.Need-cast-table
 cast-table c = search needs
 
--- src/lib.rt:85:11
 mul-table-5 : tie.Need-mul-table-5
 mul-table-5 c = search needs
 
--- src/lib.rt:85:11
 add-table-3 : tie.Need-add-table-3
 add-table-3 c = search needs
 
--- src/lib.rt:85:5
 mul-table-6 : tie.Need-mul-table-6
 mul-table-6 c = search needs
 
--- src/lib.rt:85:5
 slice-write-table-3 : tie.Need-slice-write-table-3
 slice-write-table-3 c = simp length-set (omega arith)
 
--- src/lib.rt:75:1
 same-length : tie.Need-same-length
 same-length c = search needs
 
--- src/lib.rt:75:1
 returns : tie.Need-returns
 unfolding pushed
 returns c =

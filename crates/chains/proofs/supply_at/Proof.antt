@@ -5,29 +5,23 @@ use Rattle.chains.proofs.supply_at.Tie as tie
 use Rattle.chains.proofs.supply_at.Reads as reads
 use Rattle.chains.proofs.supply_at.Lts as lts
 
--- src/lib.rt:21:14
 cast-of : tie.Need-cast-of
 cast-of c = search needs
 
--- src/lib.rt:23:9
 returns : tie.Need-returns
 returns c =
     let at-start = c .before .before in
     supply-none (at-start .args .table .now) (at-start .args .n) (at-start .args .x .0) (c .if1 .taken)
 
--- src/lib.rt:25:42
 add-t6 : tie.Need-add-t6
 add-t6 c = search needs
 
--- src/lib.rt:25:36
 mul-t7 : tie.Need-mul-t7
 mul-t7 c = search needs
 
--- src/lib.rt:25:36
 shared-slice-read-t9 : tie.Need-shared-slice-read-t9
 shared-slice-read-t9 c = search needs
 
--- src/lib.rt:17:1
 returns-2 : tie.Need-returns-2
 returns-2 c =
     let at-if1 = c .before in

@@ -4,13 +4,11 @@ use Rattle.chains.proofs.zero_arrow.Tie as tie
 use Rattle.chains.proofs.zero_arrow.Reads as reads
 use Rattle.chains.proofs.zero_arrow.Lts as lts
 
--- src/lib.rt:34:9
 returns : tie.Need-returns
 returns c =
     let at-start = c .before in
     zero-missing (at-start .args .first) (c .if1 .taken)
 
--- src/lib.rt:30:1
 returns-2 : tie.Need-returns-2
 returns-2 c =
     let at-start = c .before in

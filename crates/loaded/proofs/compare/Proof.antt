@@ -1,61 +1,49 @@
--- `loaded::compare` meets its contract: each way out is what `verdict` shows once the number of arrows is read.
-use mathlib.Core.Path.{sym, _∙_}
-use borrow.Author.Tests.{le-leb, lt-leb}
+-- `loaded::compare` meets its contract: where nothing may follow, each way out is what the ending comes to.
+use mathlib.Core.Path.{sym, ap, _∙_}
+use borrow.Author.Tests.{lt-ltb, le-ltb}
 use borrow.Author.Needs.{needs}
 use Rattle.loaded.specs.Load.{verdict}
+use Rattle.loaded.specs.Answers.{endingOf}
 use Rattle.loaded.proofs.compare.Statement.{statement}
 use Rattle.loaded.proofs.compare.Tie as tie
 
-number-at-requires : tie.Need-number-at-requires
-number-at-requires c κs = search needs
+compare-open-requires : tie.Need-compare-open-requires
+compare-open-requires c κs = search needs
 
-enum-known-count : tie.Need-enum-known-count
-enum-known-count c = search needs
+enum-known-shown : tie.Need-enum-known-shown
+enum-known-shown c = search needs
 
-enum-known-count-2 : tie.Need-enum-known-count-2
-enum-known-count-2 c = search needs
-
-cast-if1 : tie.Need-cast-if1
-cast-if1 c = search needs
-
-sub-if1 : tie.Need-sub-if1
-sub-if1 c = search needs
+enum-known-shown-2 : tie.Need-enum-known-shown-2
+enum-known-shown-2 c = search needs
 
 returns : tie.Need-returns
 unfolding verdict
 returns c =
-    let at-count2 = c .before .before in
-    let at-number-at = at-count2 .before .before in
-    simp (sym (at-number-at .number-at .ensures) ∙ at-count2 .count2 .given .1, lt-leb _ _ (c .if1 .taken))
-
-compare-arrows-requires : tie.Need-compare-arrows-requires
-compare-arrows-requires c κs = search needs
+    let at-shown2 = c .before .before in
+    let at-compare-open = at-shown2 .before .before in
+    simp (sym (at-compare-open .compare-open .ensures) ∙ ap endingOf (at-shown2 .shown2 .given .1), lt-ltb _ _ (c .if1 .taken))
 
 returns-2 : tie.Need-returns-2
 unfolding verdict
 returns-2 c =
-    let at-count = c .before in
-    let at-number-at = at-count .before .before in
-    simp (sym (at-number-at .number-at .ensures) ∙ at-count .count .given .1)
+    let at-shown = c .before in
+    let at-compare-open = at-shown .before .before in
+    simp (sym (at-compare-open .compare-open .ensures) ∙ ap endingOf (at-shown .shown .given .1))
 
 returns-3 : tie.Need-returns-3
 unfolding verdict
 returns-3 c =
-    let at-if1 = c .before in
-    let at-count2 = at-if1 .before .before in
-    let at-number-at = at-count2 .before .before in
-    simp (sym (at-number-at .number-at .ensures) ∙ at-count2 .count2 .given .1, le-leb _ _ (at-if1 .if1 .left)) (c .compare-arrows .ensures)
+    let at-shown2 = c .before .before in
+    let at-compare-open = at-shown2 .before .before in
+    simp (sym (at-compare-open .compare-open .ensures) ∙ ap endingOf (at-shown2 .shown2 .given .1), le-ltb _ _ (c .if1 .left))
 
 pub compare-spec : {M : Type 1} → statement M
 compare-spec =
     tie.close
     (tie.spec
-    number-at-requires
-    enum-known-count
-    enum-known-count-2
-    cast-if1
-    sub-if1
+    compare-open-requires
+    enum-known-shown
+    enum-known-shown-2
     returns
-    compare-arrows-requires
     returns-2
     returns-3)

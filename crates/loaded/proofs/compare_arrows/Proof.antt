@@ -6,7 +6,7 @@ use borrow.Author.Tests.{not-true, not-false}
 use borrow.Author.Needs.{needs}
 use Rattle.loaded.specs.Answers.{pairOf}
 use Rattle.loaded.proofs.Comparing.{Comparing, compare-start, compare-next, shows-refused, shows-too-many, shows-other}
-use Rattle.loaded.proofs.Comparing.{shows-missing, shows-leftovers, shows-right}
+use Rattle.loaded.proofs.Comparing.{shows-missing, shows-behind}
 use Rattle.loaded.proofs.compare_arrows.Statement.{statement}
 use Rattle.loaded.proofs.compare_arrows.Tie as tie
 
@@ -94,15 +94,9 @@ returns-4 c =
 
 returns-5 : tie.Need-returns-5 Inv-loop μ-loop
 returns-5 c =
-    let at-loop-test = c .before .before in
+    let at-loop-test = c .before in
     let at-loop = at-loop-test .before in
-    shows-leftovers (at-loop .loop .inv) (at-loop-test .loop-test .left) (omega arith) (c .if4 .taken)
-
-returns-6 : tie.Need-returns-6 Inv-loop μ-loop
-returns-6 c =
-    let at-loop-test = c .before .before in
-    let at-loop = at-loop-test .before in
-    shows-right (at-loop .loop .inv) (at-loop-test .loop-test .left) (omega arith) (c .if4 .left)
+    shows-behind (at-loop .loop .inv) (at-loop-test .loop-test .left) (omega arith)
 
 pub compare-arrows-spec : {M : Type 1} → statement M
 compare-arrows-spec =
@@ -124,5 +118,4 @@ compare-arrows-spec =
     loop-less
     loop-again
     returns-4
-    returns-5
-    returns-6)
+    returns-5)

@@ -1,8 +1,8 @@
--- `loaded::read_front` meets its contract: each way out is what `front` shows once the edition is read.
+-- `loaded::read_front` meets its contract: each way out is what `frontAt` shows once the edition is read.
 use mathlib.Core.Path.{sym, _∙_}
 use borrow.Author.Tests.{eq-eqb, ne-eqb}
 use borrow.Author.Needs.{needs}
-use Rattle.loaded.specs.Load.{front}
+use Rattle.loaded.specs.Load.{frontAt}
 use Rattle.loaded.proofs.Fronts.{edition-number}
 use Rattle.loaded.proofs.read_front.Statement.{statement}
 use Rattle.loaded.proofs.read_front.Tie as tie
@@ -17,7 +17,7 @@ enum-known-first-2 : tie.Need-enum-known-first-2
 enum-known-first-2 c = search needs
 
 returns : tie.Need-returns
-unfolding front
+unfolding frontAt
 returns c =
     let at-first2 = c .before .before in
     let at-number-at = at-first2 .before .before in
@@ -27,14 +27,14 @@ read-letters-requires : tie.Need-read-letters-requires
 read-letters-requires c κs = search needs
 
 returns-2 : tie.Need-returns-2
-unfolding front
+unfolding frontAt
 returns-2 c =
     let at-first = c .before in
     let at-number-at = at-first .before .before in
     simp (sym (at-number-at .number-at .ensures) ∙ at-first .first .given .1)
 
 returns-3 : tie.Need-returns-3
-unfolding front
+unfolding frontAt
 returns-3 c =
     let at-if1 = c .before in
     let at-first2 = at-if1 .before .before in

@@ -15,28 +15,23 @@ use Rattle.marks.proofs.build.Reads as reads
 use Rattle.marks.proofs.build.Lts as lts
 use Rattle.table.proofs.fill.Reads as fill-reads
 
--- src/lib.rt:26:9
 returns : tie.Need-returns
 returns c =
     let at-start = c .before .before .before in
     sym (says-empty (at-start .args .word .now) (at-start .args .tables .now) (c .if1 .taken))
 
--- src/lib.rt:29:9
 returns-2 : tie.Need-returns-2
 returns-2 c =
     let at-if1 = c .before in
     let at-start = at-if1 .before .before .before in
     sym (says-long (at-start .args .word .now) (at-start .args .tables .now) (at-if1 .if1 .left) (omega (arith, word-limit, c .if2 .taken)))
 
--- src/lib.rt:31:21
 add-room : tie.Need-add-room
 add-room c = search needs
 
--- src/lib.rt:31:16
 mul-room : tie.Need-mul-room
 mul-room c = search needs
 
--- src/lib.rt:33:9
 returns-3 : tie.Need-returns-3
 returns-3 c =
     let at-if2 = c .before in
@@ -44,18 +39,15 @@ returns-3 c =
     let at-start = at-if1 .before .before .before in
     sym (says-short (at-start .args .word .now) (at-start .args .tables .now) (at-if1 .if1 .left) (omega (arith, word-limit, at-if2 .if2 .left)) (c .if3 .taken))
 
--- src/lib.rt:35:23
 slice-relend-prefix-fill : tie.Need-slice-relend-prefix-fill
 slice-relend-prefix-fill c = search needs
 
--- src/lib.rt:35:23
 slice-aggregate-fill : tie.Need-slice-aggregate-fill
 slice-aggregate-fill c =
     let at-if3 = c .before in
     let at-start = at-if3 .before .before .before .before .before in
     sym (length-take-le (6 * (length (at-start .args .word .now) + 1)) (at-start .args .tables .now) (at-if3 .if3 .left))
 
--- src/lib.rt:35:5
 fill-requires : tie.Need-fill-requires
 fill-requires c κs =
     let at-if3 = c .before in
@@ -63,11 +55,9 @@ fill-requires c κs =
     let at-start = at-if2 .before .before .before .before in
     (omega (arith, at-if2 .if2 .left), length-take-le (6 * (length (at-start .args .word .now) + 1)) (at-start .args .tables .now) (at-if3 .if3 .left))
 
--- src/lib.rt:22:1
 same-length : tie.Need-same-length
 same-length c = search needs
 
--- src/lib.rt:22:1
 returns-4 : tie.Need-returns-4
 returns-4 c =
     let at-fill = c .before .before in

@@ -16,36 +16,29 @@ Inv-loop letters₀ i₀ letters i = Copied letters₀ (replicate (length letter
 abbrev μ-loop : tie.MeasureT-loop
 μ-loop letters₀ i₀ letters i = length letters₀ - i
 
--- src/lib.rt:18:5
 loop-holds : tie.Need-loop-holds Inv-loop μ-loop
 loop-holds c = copy-start _ _
 
--- src/lib.rt:19:9
 slice-write-letters : tie.Need-slice-write-letters Inv-loop μ-loop
 slice-write-letters c = search needs
 
--- src/lib.rt:20:9
 add-i : tie.Need-add-i Inv-loop μ-loop
 add-i c = search needs
 
--- src/lib.rt:18:5
 loop-less : tie.Need-loop-less Inv-loop μ-loop
 loop-less c = search needs
 
--- src/lib.rt:18:5
 loop-again : tie.Need-loop-again Inv-loop μ-loop
 loop-again c =
     let at-loop = c .before in
     let at-start = at-loop .before in
     copy-step (at-loop .loop .inv) (omega (arith, at-loop .loop .inv .size)) (sym (zeros-at (length (at-start .args .letters .now)) (at-loop .loop .i)))
 
--- src/lib.rt:14:1
 same-length : tie.Need-same-length Inv-loop μ-loop
 same-length c =
     let at-loop = c .before in
     at-loop .loop .inv .size
 
--- src/lib.rt:14:1
 returns : tie.Need-returns Inv-loop μ-loop
 returns c =
     let at-loop = c .before in

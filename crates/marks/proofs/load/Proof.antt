@@ -13,19 +13,15 @@ use Rattle.marks.proofs.load.Lts as lts
 use Rattle.loaded.proofs.read_front.Reads as read-front-reads
 use Rattle.marks.proofs.take_word.Reads as take-word-reads
 
--- src/lib.rt:141:9
 read-front-requires : tie.Need-read-front-requires
 read-front-requires c κs = search needs
 
--- src/lib.rt:143:28
 enum-known-head : tie.Need-enum-known-head
 enum-known-head c = search needs
 
--- src/lib.rt:144:31
 enum-known-head-2 : tie.Need-enum-known-head-2
 enum-known-head-2 c = search needs
 
--- src/lib.rt:146:17
 returns : tie.Need-returns
 returns c =
     let at-head2 = c .before .before in
@@ -34,11 +30,9 @@ returns c =
     let shown = sym (at-read-front .read-front .ensures) ∙ ap headOf (at-head2 .head2 .given .1) in
     sym (says-short-word (at-start .args .file .now) (at-start .args .room .now) (at-start .args .tables .now) _ _ shown (c .if1 .taken))
 
--- src/lib.rt:148:29
 add-need : tie.Need-add-need
 add-need c = search needs
 
--- src/lib.rt:148:24
 mul-need : tie.Need-mul-need
 mul-need c =
     let at-head2 = c .before .before in
@@ -47,7 +41,6 @@ mul-need c =
     let there = front-letters (at-start .args .file .now) (sym (at-read-front .read-front .ensures) ∙ ap headOf (at-head2 .head2 .given .1)) in
     record { fits = omega (arith, there .most, words-fit) }
 
--- src/lib.rt:150:17
 returns-2 : tie.Need-returns-2
 returns-2 c =
     let at-head2 = c .before .before .before in
@@ -56,29 +49,24 @@ returns-2 c =
     let shown = sym (at-read-front .read-front .ensures) ∙ ap headOf (at-head2 .head2 .given .1) in
     sym (says-short-tables (at-start .args .file .now) (at-start .args .room .now) (at-start .args .tables .now) _ _ shown (c .if2 .taken))
 
--- src/lib.rt:152:33
 slice-relend-prefix-take-word : tie.Need-slice-relend-prefix-take-word
 slice-relend-prefix-take-word c = search needs
 
--- src/lib.rt:152:33
 slice-aggregate-take-word : tie.Need-slice-aggregate-take-word
 slice-aggregate-take-word c =
     let at-if1 = c .before .before in
     let at-start = at-if1 .before .before .before .before .before .before .before .before in
     sym (length-take-le _ (at-start .args .room .now) (at-if1 .if1 .left))
 
--- src/lib.rt:152:49
 slice-relend-prefix-take-word-2 : tie.Need-slice-relend-prefix-take-word-2
 slice-relend-prefix-take-word-2 c = search needs
 
--- src/lib.rt:152:49
 slice-aggregate-take-word-2 : tie.Need-slice-aggregate-take-word-2
 slice-aggregate-take-word-2 c =
     let at-if2 = c .before .before in
     let at-start = at-if2 .before .before .before .before .before .before .before .before .before in
     sym (length-take-le _ (at-start .args .tables .now) (at-if2 .if2 .left))
 
--- src/lib.rt:152:13
 take-word-requires : tie.Need-take-word-requires
 take-word-requires c κs =
     let at-if2 = c .before .before in
@@ -89,7 +77,6 @@ take-word-requires c κs =
     let shown = sym (at-read-front .read-front .ensures) ∙ ap headOf (at-head2 .head2 .given .1) in
     lent-sized (at-start .args .file .now) (at-start .args .room .now) (at-start .args .tables .now) shown (at-if1 .if1 .left) (at-if2 .if2 .left)
 
--- src/lib.rt:138:1
 returns-3 : tie.Need-returns-3
 returns-3 c =
     let at-head = c .before in
@@ -97,15 +84,12 @@ returns-3 c =
     let at-start = at-read-front .before .before .before .before in
     sym (says-stop (at-start .args .file .now) (at-start .args .room .now) (at-start .args .tables .now) _ _ (sym (at-read-front .read-front .ensures) ∙ ap headOf (at-head .head .given .1)))
 
--- src/lib.rt:138:1
 same-length : tie.Need-same-length
 same-length c = search needs
 
--- src/lib.rt:138:1
 same-length-2 : tie.Need-same-length-2
 same-length-2 c = search needs
 
--- src/lib.rt:138:1
 returns-4 : tie.Need-returns-4
 returns-4 c =
     let at-take-word = c .before .before .before .before in

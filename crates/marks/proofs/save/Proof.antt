@@ -15,28 +15,23 @@ use Rattle.saved.proofs.write_file.Reads as write-file-reads
 use Rattle.table.proofs.clear.Reads as clear-reads
 use Rattle.table.proofs.fill.Reads as fill-reads
 
--- src/lib.rt:93:9
 returns : tie.Need-returns
 returns c =
     let at-start = c .before .before .before .before in
     sym (says-empty (at-start .args .word .now) (at-start .args .tables .now) (at-start .args .out .now) (c .if1 .taken))
 
--- src/lib.rt:96:9
 returns-2 : tie.Need-returns-2
 returns-2 c =
     let at-if1 = c .before in
     let at-start = at-if1 .before .before .before .before in
     sym (says-long (at-start .args .word .now) (at-start .args .tables .now) (at-start .args .out .now) (at-if1 .if1 .left) (omega (arith, word-limit, c .if2 .taken)))
 
--- src/lib.rt:98:21
 add-need : tie.Need-add-need
 add-need c = search needs
 
--- src/lib.rt:98:16
 mul-need : tie.Need-mul-need
 mul-need c = search needs
 
--- src/lib.rt:100:9
 returns-3 : tie.Need-returns-3
 returns-3 c =
     let at-if2 = c .before in
@@ -44,18 +39,15 @@ returns-3 c =
     let at-start = at-if1 .before .before .before .before in
     sym (says-short (at-start .args .word .now) (at-start .args .tables .now) (at-start .args .out .now) (at-if1 .if1 .left) (omega (arith, word-limit, at-if2 .if2 .left)) (c .if3 .taken))
 
--- src/lib.rt:102:23
 slice-relend-prefix-fill : tie.Need-slice-relend-prefix-fill
 slice-relend-prefix-fill c = search needs
 
--- src/lib.rt:102:23
 slice-aggregate-fill : tie.Need-slice-aggregate-fill
 slice-aggregate-fill c =
     let at-if3 = c .before in
     let at-start = at-if3 .before .before .before .before .before .before in
     sym (length-take-le (6 * (length (at-start .args .word .now) + 1)) (at-start .args .tables .now) (at-if3 .if3 .left))
 
--- src/lib.rt:102:5
 fill-requires : tie.Need-fill-requires
 fill-requires c κs =
     let at-if3 = c .before in
@@ -63,18 +55,15 @@ fill-requires c κs =
     let at-start = at-if2 .before .before .before .before .before in
     (omega (arith, at-if2 .if2 .left), length-take-le (6 * (length (at-start .args .word .now) + 1)) (at-start .args .tables .now) (at-if3 .if3 .left))
 
--- src/lib.rt:103:39
 slice-reshare-prefix-file-size : tie.Need-slice-reshare-prefix-file-size
 slice-reshare-prefix-file-size c = search needs
 
--- src/lib.rt:103:39
 slice-aggregate-file-size : tie.Need-slice-aggregate-file-size
 slice-aggregate-file-size c =
     let at-fill = c .before .before .before in
     let at-start = at-fill .before .before .before .before .before .before .before .before in
     lent-size (at-start .args .word .now) (at-start .args .tables .now) (at-start .args .out .now) (drop (6 * (length (at-start .args .word .now) + 1)) (at-start .args .tables .now)) (at-fill .fill .ensures)
 
--- src/lib.rt:103:9
 file-size-requires : tie.Need-file-size-requires
 file-size-requires c κs =
     let at-fill = c .before .before .before in
@@ -83,26 +72,21 @@ file-size-requires c κs =
     let at-start = at-if1 .before .before .before .before in
     lent-tabled (at-start .args .word .now) (at-start .args .tables .now) (at-start .args .out .now) (drop (6 * (length (at-start .args .word .now) + 1)) (at-start .args .tables .now)) (at-fill .fill .ensures) (at-if1 .if1 .left) (omega (arith, word-limit, at-if2 .if2 .left))
 
--- src/lib.rt:105:22
 slice-relend-prefix-clear : tie.Need-slice-relend-prefix-clear
 slice-relend-prefix-clear c = search needs
 
--- src/lib.rt:105:22
 slice-aggregate-clear : tie.Need-slice-aggregate-clear
 slice-aggregate-clear c =
     let at-fill = c .before .before .before .before .before .before in
     let at-start = at-fill .before .before .before .before .before .before .before .before in
     lent-size (at-start .args .word .now) (at-start .args .tables .now) (at-start .args .out .now) (drop (6 * (length (at-start .args .word .now) + 1)) (at-start .args .tables .now)) (at-fill .fill .ensures)
 
--- src/lib.rt:105:9
 clear-requires : tie.Need-clear-requires
 clear-requires c κs = search needs
 
--- src/lib.rt:106:9
 same-length : tie.Need-same-length
 same-length c = search needs
 
--- src/lib.rt:106:9
 returns-4 : tie.Need-returns-4
 returns-4 c =
     let at-clear = c .before .before in
@@ -115,18 +99,15 @@ returns-4 c =
     let at-start = at-if1 .before .before .before .before in
     wiped (at-start .args .word .now) (at-start .args .tables .now) (at-start .args .out .now) (drop (6 * (length (at-start .args .word .now) + 1)) (at-start .args .tables .now)) (at-fill .fill .ensures) (at-clear .clear .ensures) ∙ sym (says-full (at-start .args .word .now) (at-start .args .tables .now) (at-start .args .out .now) (at-if1 .if1 .left) (omega (arith, word-limit, at-if2 .if2 .left)) (at-if3 .if3 .left) (omega (arith, at-file-size .file-size .ensures, at-if4 .if4 .taken)))
 
--- src/lib.rt:108:29
 slice-reshare-prefix-write-file : tie.Need-slice-reshare-prefix-write-file
 slice-reshare-prefix-write-file c = search needs
 
--- src/lib.rt:108:29
 slice-aggregate-write-file : tie.Need-slice-aggregate-write-file
 slice-aggregate-write-file c =
     let at-fill = c .before .before .before .before .before .before in
     let at-start = at-fill .before .before .before .before .before .before .before .before in
     lent-size (at-start .args .word .now) (at-start .args .tables .now) (at-start .args .out .now) (drop (6 * (length (at-start .args .word .now) + 1)) (at-start .args .tables .now)) (at-fill .fill .ensures)
 
--- src/lib.rt:108:5
 write-file-requires : tie.Need-write-file-requires
 write-file-requires c κs =
     let at-if4 = c .before .before in
@@ -137,15 +118,12 @@ write-file-requires c κs =
     let at-start = at-if1 .before .before .before .before in
     (lent-tabled (at-start .args .word .now) (at-start .args .tables .now) (at-start .args .out .now) (drop (6 * (length (at-start .args .word .now) + 1)) (at-start .args .tables .now)) (at-fill .fill .ensures) (at-if1 .if1 .left) (omega (arith, word-limit, at-if2 .if2 .left)), omega (arith, at-file-size .file-size .ensures, at-if4 .if4 .left))
 
--- src/lib.rt:87:1
 same-length-2 : tie.Need-same-length-2
 same-length-2 c = search needs
 
--- src/lib.rt:87:1
 same-length-3 : tie.Need-same-length-3
 same-length-3 c = search needs
 
--- src/lib.rt:87:1
 returns-5 : tie.Need-returns-5
 returns-5 c =
     let at-write-file = c .before .before in

@@ -13,20 +13,17 @@ use Rattle.marks.proofs.search.Lts as lts
 use Rattle.search.proofs.scan.Reads as scan-reads
 use Rattle.table.proofs.fill_mirror.Reads as fill-mirror-reads
 
--- src/lib.rt:53:9
 returns : tie.Need-returns
 returns c =
     let at-start = c .before .before .before .before .before in
     sym (says-empty (at-start .args .word .now) (at-start .args .text .now) (at-start .args .tables .now) (at-start .args .finds .now) (c .if1 .taken))
 
--- src/lib.rt:56:9
 returns-2 : tie.Need-returns-2
 returns-2 c =
     let at-if1 = c .before in
     let at-start = at-if1 .before .before .before .before .before in
     sym (says-long (at-start .args .word .now) (at-start .args .text .now) (at-start .args .tables .now) (at-start .args .finds .now) (at-if1 .if1 .left) (omega (arith, word-limit, c .if2 .taken)))
 
--- src/lib.rt:60:9
 returns-3 : tie.Need-returns-3
 returns-3 c =
     let at-if2 = c .before in
@@ -34,15 +31,12 @@ returns-3 c =
     let at-start = at-if1 .before .before .before .before .before in
     sym (says-long-text (at-start .args .word .now) (at-start .args .text .now) (at-start .args .tables .now) (at-start .args .finds .now) (at-if1 .if1 .left) (omega (arith, word-limit, at-if2 .if2 .left)) (omega (arith, text-limit, c .if3 .taken)))
 
--- src/lib.rt:62:21
 add-need : tie.Need-add-need
 add-need c = search needs
 
--- src/lib.rt:62:16
 mul-need : tie.Need-mul-need
 mul-need c = search needs
 
--- src/lib.rt:64:9
 returns-4 : tie.Need-returns-4
 returns-4 c =
     let at-if3 = c .before in
@@ -51,18 +45,15 @@ returns-4 c =
     let at-start = at-if1 .before .before .before .before .before in
     sym (says-short (at-start .args .word .now) (at-start .args .text .now) (at-start .args .tables .now) (at-start .args .finds .now) (at-if1 .if1 .left) (omega (arith, word-limit, at-if2 .if2 .left)) (omega (arith, text-limit, at-if3 .if3 .left)) (c .if4 .taken))
 
--- src/lib.rt:66:30
 slice-relend-prefix-fill-mirror : tie.Need-slice-relend-prefix-fill-mirror
 slice-relend-prefix-fill-mirror c = search needs
 
--- src/lib.rt:66:30
 slice-aggregate-fill-mirror : tie.Need-slice-aggregate-fill-mirror
 slice-aggregate-fill-mirror c =
     let at-if4 = c .before in
     let at-start = at-if4 .before .before .before .before .before .before .before .before in
     sym (length-take-le (6 * (length (at-start .args .word .now) + 1)) (at-start .args .tables .now) (at-if4 .if4 .left))
 
--- src/lib.rt:66:5
 fill-mirror-requires : tie.Need-fill-mirror-requires
 fill-mirror-requires c κs =
     let at-if4 = c .before in
@@ -70,18 +61,15 @@ fill-mirror-requires c κs =
     let at-start = at-if2 .before .before .before .before .before .before in
     (omega (arith, at-if2 .if2 .left), length-take-le (6 * (length (at-start .args .word .now) + 1)) (at-start .args .tables .now) (at-if4 .if4 .left))
 
--- src/lib.rt:67:39
 slice-reshare-prefix-scan : tie.Need-slice-reshare-prefix-scan
 slice-reshare-prefix-scan c = search needs
 
--- src/lib.rt:67:39
 slice-aggregate-scan : tie.Need-slice-aggregate-scan
 slice-aggregate-scan c =
     let at-fill-mirror = c .before .before .before in
     let at-start = at-fill-mirror .before .before .before .before .before .before .before .before .before .before in
     lent-size (at-start .args .word .now) (at-start .args .text .now) (at-start .args .tables .now) (at-start .args .finds .now) (drop (6 * (length (at-start .args .word .now) + 1)) (at-start .args .tables .now)) (at-fill-mirror .fill-mirror .ensures)
 
--- src/lib.rt:67:20
 scan-requires : tie.Need-scan-requires
 scan-requires c κs =
     let at-fill-mirror = c .before .before .before .before in
@@ -91,15 +79,12 @@ scan-requires c κs =
     let at-start = at-if1 .before .before .before .before .before in
     ((at-if1 .if1 .left, omega (arith, at-if3 .if3 .left)), lent-formed (at-start .args .word .now) (at-start .args .text .now) (at-start .args .tables .now) (at-start .args .finds .now) (drop (6 * (length (at-start .args .word .now) + 1)) (at-start .args .tables .now)) (at-fill-mirror .fill-mirror .ensures) (omega (arith, at-if2 .if2 .left)))
 
--- src/lib.rt:49:1
 same-length : tie.Need-same-length
 same-length c = search needs
 
--- src/lib.rt:49:1
 same-length-2 : tie.Need-same-length-2
 same-length-2 c = search needs
 
--- src/lib.rt:49:1
 returns-5 : tie.Need-returns-5
 returns-5 c =
     let at-scan = c .before .before in

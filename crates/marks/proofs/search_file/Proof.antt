@@ -12,25 +12,20 @@ use Rattle.marks.proofs.search_file.Lts as lts
 use Rattle.marks.proofs.load.Reads as load-reads
 use Rattle.search.proofs.scan.Reads as scan-reads
 
--- src/lib.rt:170:9
 returns : tie.Need-returns
 returns c =
     let at-start = c .before .before .before .before .before .before in
     sym (says-long-text (at-start .args .file .now) (at-start .args .text .now) (at-start .args .room .now) (at-start .args .tables .now) (at-start .args .finds .now) (omega (arith, text-limit, c .if1 .taken)))
 
--- src/lib.rt:172:9
 load-requires : tie.Need-load-requires
 load-requires c κs = search needs
 
--- src/lib.rt:174:25
 enum-known-said : tie.Need-enum-known-said
 enum-known-said c = search needs
 
--- src/lib.rt:175:22
 enum-known-said-2 : tie.Need-enum-known-said-2
 enum-known-said-2 c = search needs
 
--- src/lib.rt:176:29
 add-need : tie.Need-add-need
 add-need c =
     let at-said2 = c .before in
@@ -40,7 +35,6 @@ add-need c =
     let stands = told-stands (at-start .args .file .now) (at-start .args .room .now) (at-start .args .tables .now) (at-load .load .ensures) (at-said2 .said2 .given .1) in
     record { fits = omega (arith, stands .most, words-fit) }
 
--- src/lib.rt:176:24
 mul-need : tie.Need-mul-need
 mul-need c =
     let at-said2 = c .before in
@@ -50,7 +44,6 @@ mul-need c =
     let stands = told-stands (at-start .args .file .now) (at-start .args .room .now) (at-start .args .tables .now) (at-load .load .ensures) (at-said2 .said2 .given .1) in
     record { fits = omega (arith, stands .most, words-fit) }
 
--- src/lib.rt:177:45
 slice-reshare-prefix-scan : tie.Need-slice-reshare-prefix-scan
 slice-reshare-prefix-scan c =
     let at-said2 = c .before in
@@ -60,7 +53,6 @@ slice-reshare-prefix-scan c =
     let stands = told-stands (at-start .args .file .now) (at-start .args .room .now) (at-start .args .tables .now) (at-load .load .ensures) (at-said2 .said2 .given .1) in
     search (needs, stands .inside)
 
--- src/lib.rt:177:45
 slice-aggregate-scan : tie.Need-slice-aggregate-scan
 slice-aggregate-scan c =
     let at-said2 = c .before .before in
@@ -70,7 +62,6 @@ slice-aggregate-scan c =
     let stands = told-stands (at-start .args .file .now) (at-start .args .room .now) (at-start .args .tables .now) (at-load .load .ensures) (at-said2 .said2 .given .1) in
     sym (length-take-le _ _ (stands .inside))
 
--- src/lib.rt:177:57
 slice-reshare-prefix-scan-2 : tie.Need-slice-reshare-prefix-scan-2
 slice-reshare-prefix-scan-2 c =
     let at-said2 = c .before .before in
@@ -80,7 +71,6 @@ slice-reshare-prefix-scan-2 c =
     let stands = told-stands (at-start .args .file .now) (at-start .args .room .now) (at-start .args .tables .now) (at-load .load .ensures) (at-said2 .said2 .given .1) in
     search (needs, stands .enough)
 
--- src/lib.rt:177:57
 slice-aggregate-scan-2 : tie.Need-slice-aggregate-scan-2
 slice-aggregate-scan-2 c =
     let at-said2 = c .before .before .before in
@@ -90,7 +80,6 @@ slice-aggregate-scan-2 c =
     let stands = told-stands (at-start .args .file .now) (at-start .args .room .now) (at-start .args .tables .now) (at-load .load .ensures) (at-said2 .said2 .given .1) in
     sym (length-take-le _ _ (stands .enough))
 
--- src/lib.rt:177:32
 scan-requires : tie.Need-scan-requires
 scan-requires c κs =
     let at-said2 = c .before .before .before .before in
@@ -99,15 +88,12 @@ scan-requires c κs =
     let at-start = at-if1 .before .before .before .before .before .before in
     lent-sized (at-start .args .file .now) (at-start .args .text .now) (at-start .args .room .now) (at-start .args .tables .now) (at-start .args .finds .now) (omega (arith, text-limit, at-if1 .if1 .left)) (at-load .load .result) (at-load .load .ensures) (at-said2 .said2 .given .1)
 
--- src/lib.rt:166:1
 same-length : tie.Need-same-length
 same-length c = search needs
 
--- src/lib.rt:166:1
 same-length-2 : tie.Need-same-length-2
 same-length-2 c = search needs
 
--- src/lib.rt:166:1
 returns-2 : tie.Need-returns-2
 returns-2 c =
     let at-said = c .before in
@@ -116,19 +102,15 @@ returns-2 c =
     let at-start = at-if1 .before .before .before .before .before .before in
     says-refused (at-start .args .file .now) (at-start .args .text .now) (at-start .args .room .now) (at-start .args .tables .now) (at-start .args .finds .now) (omega (arith, text-limit, at-if1 .if1 .left)) (at-load .load .result) (at-load .load .ensures) (at-said .said .given .1)
 
--- src/lib.rt:166:1
 same-length-3 : tie.Need-same-length-3
 same-length-3 c = search needs
 
--- src/lib.rt:166:1
 same-length-4 : tie.Need-same-length-4
 same-length-4 c = search needs
 
--- src/lib.rt:166:1
 same-length-5 : tie.Need-same-length-5
 same-length-5 c = search needs
 
--- src/lib.rt:166:1
 returns-3 : tie.Need-returns-3
 returns-3 c =
     let at-scan = c .before .before in

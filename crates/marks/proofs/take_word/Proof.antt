@@ -11,83 +11,63 @@ use Rattle.saved.proofs.put_letters.Reads as put-letters-reads
 use Rattle.table.proofs.clear.Reads as clear-reads′
 use Rattle.table.proofs.fill.Reads as fill-reads
 
--- src/lib.rt:138:15
 add-end : tie.Need-add-end
 add-end c = search needs
 
--- src/lib.rt:139:24
 sub-put-letters : tie.Need-sub-put-letters
 sub-put-letters c = search needs
 
--- src/lib.rt:139:24
 part-put-letters-start : tie.Need-part-put-letters-start
 part-put-letters-start c = search needs
 
--- src/lib.rt:139:24
 part-put-letters-end : tie.Need-part-put-letters-end
 part-put-letters-end c = search needs
 
--- src/lib.rt:139:5
 put-letters-requires : tie.Need-put-letters-requires
 put-letters-requires c κs = search needs
 
--- src/lib.rt:140:17
 sub-fill : tie.Need-sub-fill
 sub-fill c = search needs
 
--- src/lib.rt:140:17
 part-fill-start : tie.Need-part-fill-start
 part-fill-start c = search needs
 
--- src/lib.rt:140:17
 part-fill-end : tie.Need-part-fill-end
 part-fill-end c = search needs
 
--- src/lib.rt:140:5
 fill-requires : tie.Need-fill-requires
 fill-requires c κs = search needs
 
--- src/lib.rt:141:32
 sub-compare : tie.Need-sub-compare
 sub-compare c = search needs
 
--- src/lib.rt:141:32
 part-compare-start : tie.Need-part-compare-start
 part-compare-start c = search needs
 
--- src/lib.rt:141:32
 part-compare-end : tie.Need-part-compare-end
 part-compare-end c = search needs
 
--- src/lib.rt:141:9
 compare-requires : tie.Need-compare-requires
 compare-requires c κs = search needs
 
--- src/lib.rt:143:35
 enum-told : tie.Need-enum-told
 enum-told c = search needs
 
--- src/lib.rt:144:32
 enum-known-said : tie.Need-enum-known-said
 enum-known-said c = search needs
 
--- src/lib.rt:145:13
 clear-requires : tie.Need-clear-requires
 clear-requires c κs = search needs
 
--- src/lib.rt:146:13
 clear-requires-2 : tie.Need-clear-requires-2
 clear-requires-2 c κs = search needs
 
--- src/lib.rt:131:1
 same-length : tie.Need-same-length
 same-length c = search needs
 
--- src/lib.rt:131:1
 same-length-2 : tie.Need-same-length-2
 same-length-2 c = search needs
 
--- src/lib.rt:131:1
 returns : tie.Need-returns
 returns c =
     let at-compare = c .before .before in
@@ -96,15 +76,12 @@ returns c =
     let at-start = at-put-letters .before .before .before .before .before .before in
     taken-right (at-start .args .file .now) (at-start .args .at) (length (at-start .args .room .now)) (at-start .pre .0 .0) (at-put-letters .put-letters .ensures) (at-fill .fill .ensures) _ (at-compare .compare .ensures) (c .enum-told .given .1)
 
--- src/lib.rt:131:1
 same-length-3 : tie.Need-same-length-3
 same-length-3 c = search needs
 
--- src/lib.rt:131:1
 same-length-4 : tie.Need-same-length-4
 same-length-4 c = search needs
 
--- src/lib.rt:131:1
 returns-2 : tie.Need-returns-2
 returns-2 c =
     let at-clear2 = c .before .before in

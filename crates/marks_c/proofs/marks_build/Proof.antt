@@ -6,31 +6,24 @@ use Rattle.marks_c.proofs.marks_build.Reads as reads
 use Rattle.marks_c.proofs.marks_build.Lts as lts
 use Rattle.marks.proofs.build.Reads as build-reads
 
--- src/lib.rt:12:9
 build-requires : tie.Need-build-requires
 build-requires c κs = search needs
 
--- src/lib.rt:14:28
 enum-known-built : tie.Need-enum-known-built
 enum-known-built c = search needs
 
--- src/lib.rt:18:36
 enum-told : tie.Need-enum-told
 enum-told c = search needs
 
--- src/lib.rt:19:35
 enum-told-2 : tie.Need-enum-told-2
 enum-told-2 c = search needs
 
--- src/lib.rt:20:36
 enum-told-3 : tie.Need-enum-told-3
 enum-told-3 c = search needs
 
--- src/lib.rt:7:1
 same-length : tie.Need-same-length
 same-length c = search needs
 
--- src/lib.rt:7:1
 returns : tie.Need-returns
 returns c =
     let at-built = c .before in
@@ -38,33 +31,27 @@ returns c =
     let at-start = at-build .before .before .before .before in
     build-told (at-start .args .word .now) (at-start .args .tables .now) (at-start .args .m .now) (at-build .build .ensures) _ (at-built .built .given .1)
 
--- src/lib.rt:7:1
 same-length-2 : tie.Need-same-length-2
 same-length-2 c = search needs
 
--- src/lib.rt:7:1
 returns-2 : tie.Need-returns-2
 returns-2 c =
     let at-build = c .before .before .before .before in
     let at-start = at-build .before .before .before .before in
     build-told (at-start .args .word .now) (at-start .args .tables .now) (at-start .args .m .now) (at-build .build .ensures) _ (c .enum-told .given .1)
 
--- src/lib.rt:7:1
 same-length-3 : tie.Need-same-length-3
 same-length-3 c = search needs
 
--- src/lib.rt:7:1
 returns-3 : tie.Need-returns-3
 returns-3 c =
     let at-build = c .before .before .before .before in
     let at-start = at-build .before .before .before .before in
     build-told (at-start .args .word .now) (at-start .args .tables .now) (at-start .args .m .now) (at-build .build .ensures) _ (c .enum-told2 .given .1)
 
--- src/lib.rt:7:1
 same-length-4 : tie.Need-same-length-4
 same-length-4 c = search needs
 
--- src/lib.rt:7:1
 returns-4 : tie.Need-returns-4
 returns-4 c =
     let at-build = c .before .before .before .before in

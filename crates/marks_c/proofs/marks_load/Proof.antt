@@ -6,31 +6,24 @@ use Rattle.marks_c.proofs.marks_load.Reads as reads
 use Rattle.marks_c.proofs.marks_load.Lts as lts
 use Rattle.marks.proofs.load.Reads as load-reads
 
--- src/lib.rt:52:9
 load-requires : tie.Need-load-requires
 load-requires c κs = search needs
 
--- src/lib.rt:54:29
 enum-known-loaded : tie.Need-enum-known-loaded
 enum-known-loaded c = search needs
 
--- src/lib.rt:58:32
 enum-known-loaded-2 : tie.Need-enum-known-loaded-2
 enum-known-loaded-2 c = search needs
 
--- src/lib.rt:58:40
 cast-result : tie.Need-cast-result
 cast-result c = search needs
 
--- src/lib.rt:47:1
 same-length : tie.Need-same-length
 same-length c = search needs
 
--- src/lib.rt:47:1
 same-length-2 : tie.Need-same-length-2
 same-length-2 c = search needs
 
--- src/lib.rt:47:1
 returns : tie.Need-returns
 returns c =
     let at-loaded = c .before in
@@ -38,15 +31,12 @@ returns c =
     let at-start = at-load .before .before .before .before .before .before in
     load-told (at-start .args .file .now) (at-start .args .room .now) (at-start .args .tables .now) (at-start .args .m .now) (at-load .load .ensures) _ (at-loaded .loaded .given .1)
 
--- src/lib.rt:47:1
 same-length-3 : tie.Need-same-length-3
 same-length-3 c = search needs
 
--- src/lib.rt:47:1
 same-length-4 : tie.Need-same-length-4
 same-length-4 c = search needs
 
--- src/lib.rt:47:1
 returns-2 : tie.Need-returns-2
 returns-2 c =
     let at-loaded2 = c .before in

@@ -6,35 +6,27 @@ use Rattle.marks_c.proofs.marks_search_file.Reads as reads
 use Rattle.marks_c.proofs.marks_search_file.Lts as lts
 use Rattle.marks.proofs.search_file.Reads as search-file-reads
 
--- src/lib.rt:101:9
 search-file-requires : tie.Need-search-file-requires
 search-file-requires c κs = search needs
 
--- src/lib.rt:103:35
 enum-known-searched : tie.Need-enum-known-searched
 enum-known-searched c = search needs
 
--- src/lib.rt:108:38
 enum-known-searched-2 : tie.Need-enum-known-searched-2
 enum-known-searched-2 c = search needs
 
--- src/lib.rt:108:46
 cast-result : tie.Need-cast-result
 cast-result c = search needs
 
--- src/lib.rt:88:1
 same-length : tie.Need-same-length
 same-length c = search needs
 
--- src/lib.rt:88:1
 same-length-2 : tie.Need-same-length-2
 same-length-2 c = search needs
 
--- src/lib.rt:88:1
 same-length-3 : tie.Need-same-length-3
 same-length-3 c = search needs
 
--- src/lib.rt:88:1
 returns : tie.Need-returns
 returns c =
     let at-searched = c .before in
@@ -42,19 +34,15 @@ returns c =
     let at-start = at-search-file .before .before .before .before .before .before .before .before .before in
     search-file-told (at-start .args .file .now) (at-start .args .text .now) (at-start .args .room .now) (at-start .args .tables .now) (at-start .args .finds .now) (at-start .args .count .now) (at-start .args .letters .now) (at-search-file .search-file .ensures) _ (at-searched .searched .given .1)
 
--- src/lib.rt:88:1
 same-length-4 : tie.Need-same-length-4
 same-length-4 c = search needs
 
--- src/lib.rt:88:1
 same-length-5 : tie.Need-same-length-5
 same-length-5 c = search needs
 
--- src/lib.rt:88:1
 same-length-6 : tie.Need-same-length-6
 same-length-6 c = search needs
 
--- src/lib.rt:88:1
 returns-2 : tie.Need-returns-2
 returns-2 c =
     let at-searched2 = c .before in

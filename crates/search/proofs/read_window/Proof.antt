@@ -13,51 +13,39 @@ Inv-loop table m text start left₀ x₀ left x = StillToRead (readArrow m table
 abbrev μ-loop : tie.MeasureT-loop
 μ-loop table m text start left₀ x₀ left x = left
 
--- src/lib.rt:30:17
 cast-start : tie.Need-cast-start Inv-loop μ-loop
 cast-start c = search needs
 
--- src/lib.rt:33:5
 loop-holds : tie.Need-loop-holds Inv-loop μ-loop
 loop-holds c = all-to-read
 
--- src/lib.rt:37:27
 sub-at : tie.Need-sub-at Inv-loop μ-loop
 sub-at c = search needs
 
--- src/lib.rt:37:18
 add-at : tie.Need-add-at Inv-loop μ-loop
 add-at c = search needs
 
--- src/lib.rt:38:17
 shared-slice-read-c : tie.Need-shared-slice-read-c Inv-loop μ-loop
 shared-slice-read-c c = search needs
 
--- src/lib.rt:39:38
 lookup-requires : tie.Need-lookup-requires Inv-loop μ-loop
 lookup-requires c κs = search needs
 
--- src/lib.rt:39:30
 enum-known-next : tie.Need-enum-known-next Inv-loop μ-loop
 enum-known-next c = search needs
 
--- src/lib.rt:40:21
 enum-told : tie.Need-enum-told Inv-loop μ-loop
 enum-told c = search needs
 
--- src/lib.rt:40:21
 cast-f : tie.Need-cast-f Inv-loop μ-loop
 cast-f c = search needs
 
--- src/lib.rt:44:9
 sub-left : tie.Need-sub-left Inv-loop μ-loop
 sub-left c = search needs
 
--- src/lib.rt:33:5
 loop-less : tie.Need-loop-less Inv-loop μ-loop
 loop-less c = search needs
 
--- src/lib.rt:33:5
 loop-again : tie.Need-loop-again Inv-loop μ-loop
 loop-again c =
     let at-next = c .before in
@@ -66,13 +54,11 @@ loop-again c =
     let at-loop = at-if1 .before in
     letter-goes (at-loop .loop .inv) (at-if1 .if1 .left) _ (at-lookup .lookup .ensures) _ (at-next .next .given .1)
 
--- src/lib.rt:25:1
 returns : tie.Need-returns Inv-loop μ-loop
 returns c =
     let at-loop = c .before in
     none-to-read (at-loop .loop .inv) (c .if1 .taken)
 
--- src/lib.rt:25:1
 returns-2 : tie.Need-returns-2 Inv-loop μ-loop
 returns-2 c =
     let at-lookup = c .before .before in

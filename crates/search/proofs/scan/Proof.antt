@@ -9,7 +9,6 @@ use Rattle.search.proofs.scan.Statement.{statement}
 use Rattle.search.proofs.scan.Tie as tie
 use Rattle.search.proofs.scan.Reads as reads
 use Rattle.search.proofs.scan.Lts as lts
-use Rattle.search.proofs.note.Reads as note-reads
 use Rattle.search.proofs.read_window.Reads as read-window-reads
 use Rattle.search.proofs.step_after_find.Reads as step-after-find-reads
 
@@ -19,35 +18,27 @@ Inv-window word table text finds₀ m n step s₀ count₀ letters₀ finds s co
 abbrev μ-window : tie.MeasureT-window
 μ-window word table text finds₀ m n step s₀ count₀ letters₀ finds s count letters = length text - s .0
 
--- src/lib.rt:78:9
 step-after-find-requires : tie.Need-step-after-find-requires Inv-window μ-window
 step-after-find-requires c κs = search needs
 
--- src/lib.rt:82:5
 window-holds : tie.Need-window-holds Inv-window μ-window
 window-holds c = so-far-start
 
--- src/lib.rt:82:21
 cast-if1 : tie.Need-cast-if1 Inv-window μ-window
 cast-if1 c = search needs
 
--- src/lib.rt:82:20
 add-if1 : tie.Need-add-if1 Inv-window μ-window
 add-if1 c = search needs
 
--- src/lib.rt:83:34
 read-window-requires : tie.Need-read-window-requires Inv-window μ-window
 read-window-requires c κs = search needs
 
--- src/lib.rt:83:29
 enum-known-f : tie.Need-enum-known-f Inv-window μ-window
 enum-known-f c = search needs
 
--- src/lib.rt:84:24
 enum-told : tie.Need-enum-told Inv-window μ-window
 enum-told c = search needs
 
--- src/lib.rt:84:13
 add-letters : tie.Need-add-letters Inv-window μ-window
 add-letters c =
     let at-read-window = c .before .before in
@@ -57,35 +48,29 @@ add-letters c =
     let told = c .enum-told .given .1 in
     omega (arith, find-fits (at-window .window .inv) (at-if1 .if1 .taken) _ (at-read-window .read-window .ensures) told (at-start .pre .1 .small) (at-start .pre .0 .1))
 
--- src/lib.rt:85:13
 note-requires : tie.Need-note-requires Inv-window μ-window
 note-requires c κs = search needs
 
--- src/lib.rt:86:24
 cast-on : tie.Need-cast-on Inv-window μ-window
 cast-on c = search needs
 
--- src/lib.rt:86:23
 add-on : tie.Need-add-on Inv-window μ-window
 add-on c =
     let at-start = c .before .before .before .before .before .before .before .before .before .before .before .before .before .before .before .before in
     omega (arith, after-most (at-start .args .word .now) (at-start .pre .0 .0))
 
--- src/lib.rt:86:22
 cast-on-2 : tie.Need-cast-on-2 Inv-window μ-window
 cast-on-2 c =
     let at-step-after-find = c .before .before .before .before .before .before .before .before .before .before .before in
     let at-start = at-step-after-find .before .before .before .before .before in
     omega (arith, after-most (at-start .args .word .now) (at-start .pre .0 .0), at-step-after-find .step-after-find .ensures)
 
--- src/lib.rt:82:5
 window-less : tie.Need-window-less Inv-window μ-window
 window-less c =
     let at-step-after-find = c .before .before .before .before .before .before .before .before .before .before .before in
     let at-start = at-step-after-find .before .before .before .before .before in
     omega (arith, after-moves (at-start .args .word .now), at-step-after-find .step-after-find .ensures, at-start .pre .0 .0)
 
--- src/lib.rt:82:5
 window-again : tie.Need-window-again Inv-window μ-window
 window-again c =
     let at-note = c .before .before .before in
@@ -98,7 +83,6 @@ window-again c =
     so-far-find (at-window .window .inv) (at-if1 .if1 .taken) _ (at-read-window .read-window .ensures) (at-enum-told .enum-told .given .1)
     (at-start .pre .0 .0) (at-step-after-find .step-after-find .ensures) (at-note .note .ensures .0) (at-note .note .ensures .1)
 
--- src/lib.rt:90:33
 add-t23 : tie.Need-add-t23 Inv-window μ-window
 add-t23 c =
     let at-f = c .before .before in
@@ -109,19 +93,15 @@ add-t23 c =
     let inside = fails-inside (at-window .window .inv) (at-if1 .if1 .taken) _ (at-read-window .read-window .ensures) _ (at-f .f .given .1) in
     omega (arith, at-start .pre .0 .1)
 
--- src/lib.rt:91:22
 cast-letters : tie.Need-cast-letters Inv-window μ-window
 cast-letters c = search needs
 
--- src/lib.rt:91:21
 add-letters-2 : tie.Need-add-letters-2 Inv-window μ-window
 add-letters-2 c = search needs
 
--- src/lib.rt:91:43
 cast-letters-2 : tie.Need-cast-letters-2 Inv-window μ-window
 cast-letters-2 c = search needs
 
--- src/lib.rt:91:21
 sub-letters : tie.Need-sub-letters Inv-window μ-window
 sub-letters c =
     let at-f = c .before .before .before .before in
@@ -131,7 +111,6 @@ sub-letters c =
     let inside = fails-inside (at-window .window .inv) (at-if1 .if1 .taken) _ (at-read-window .read-window .ensures) _ (at-f .f .given .1) in
     omega arith
 
--- src/lib.rt:91:9
 add-letters-3 : tie.Need-add-letters-3 Inv-window μ-window
 add-letters-3 c =
     let at-f = c .before .before .before .before in
@@ -142,7 +121,6 @@ add-letters-3 c =
     let missed = so-far-miss (at-window .window .inv) (at-if1 .if1 .taken) _ (at-read-window .read-window .ensures) _ (at-f .f .given .1) in
     omega (arith, letters-fit missed (at-start .pre .1 .small) (at-start .pre .0 .1))
 
--- src/lib.rt:82:5
 window-less-2 : tie.Need-window-less-2 Inv-window μ-window
 window-less-2 c =
     let at-f = c .before .before .before .before in
@@ -153,7 +131,6 @@ window-less-2 c =
     let inside = fails-inside (at-window .window .inv) (at-if1 .if1 .taken) _ (at-read-window .read-window .ensures) _ (at-f .f .given .1) in
     omega (arith, at-start .pre .0 .0)
 
--- src/lib.rt:82:5
 window-again-2 : tie.Need-window-again-2 Inv-window μ-window
 window-again-2 c =
     let at-f = c .before .before .before .before in
@@ -162,13 +139,11 @@ window-again-2 c =
     let at-window = at-if1 .before .before in
     so-far-miss (at-window .window .inv) (at-if1 .if1 .taken) _ (at-read-window .read-window .ensures) _ (at-f .f .given .1)
 
--- src/lib.rt:69:1
 same-length : tie.Need-same-length Inv-window μ-window
 same-length c =
     let at-window = c .before .before in
     so-far-length (at-window .window .inv)
 
--- src/lib.rt:69:1
 returns : tie.Need-returns Inv-window μ-window
 returns c =
     let at-window = c .before .before in

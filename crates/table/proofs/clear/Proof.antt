@@ -16,40 +16,32 @@ Inv-loop entries₀ i₀ entries i = Copied entries₀ (replicate (length entrie
 abbrev μ-loop : tie.MeasureT-loop
 μ-loop entries₀ i₀ entries i = length entries₀ - i
 
--- src/lib.rt:19:5
 loop-holds : tie.Need-loop-holds Inv-loop μ-loop
 loop-holds c = copy-start _ _
 
--- src/lib.rt:20:9
 mul-entries : tie.Need-mul-entries Inv-loop μ-loop
 mul-entries c = search needs
 
--- src/lib.rt:20:9
 slice-write-entries : tie.Need-slice-write-entries Inv-loop μ-loop
 slice-write-entries c = search needs
 
--- src/lib.rt:21:9
 add-i : tie.Need-add-i Inv-loop μ-loop
 add-i c = search needs
 
--- src/lib.rt:19:5
 loop-less : tie.Need-loop-less Inv-loop μ-loop
 loop-less c = search needs
 
--- src/lib.rt:19:5
 loop-again : tie.Need-loop-again Inv-loop μ-loop
 loop-again c =
     let at-loop = c .before in
     let at-start = at-loop .before in
     copy-step (at-loop .loop .inv) (omega (arith, at-loop .loop .inv .size)) (sym (zeros-at (length (at-start .args .entries .now)) (at-loop .loop .i)))
 
--- src/lib.rt:15:1
 same-length : tie.Need-same-length Inv-loop μ-loop
 same-length c =
     let at-loop = c .before in
     at-loop .loop .inv .size
 
--- src/lib.rt:15:1
 returns : tie.Need-returns Inv-loop μ-loop
 returns c =
     let at-loop = c .before in

@@ -11,31 +11,24 @@ use Rattle.table.proofs.clear.Reads as clear-reads
 use Rattle.table.proofs.finish.Reads as finish-reads
 use Rattle.table.proofs.put_word.Reads as put-word-reads
 
--- src/lib.rt:101:5
 clear-requires : tie.Need-clear-requires
 clear-requires c κs = search needs
 
--- src/lib.rt:102:15
 add-end : tie.Need-add-end
 add-end c = search needs
 
--- src/lib.rt:103:20
 sub-put-word : tie.Need-sub-put-word
 sub-put-word c = search needs
 
--- src/lib.rt:103:20
 part-put-word-start : tie.Need-part-put-word-start
 part-put-word-start c = search needs
 
--- src/lib.rt:103:20
 part-put-word-end : tie.Need-part-put-word-end
 part-put-word-end c = search needs
 
--- src/lib.rt:103:5
 put-word-requires : tie.Need-put-word-requires
 put-word-requires c κs = search needs
 
--- src/lib.rt:104:5
 finish-requires : tie.Need-finish-requires
 finish-requires c κs =
     let at-put-word = c .before .before .before in
@@ -45,11 +38,9 @@ finish-requires c κs =
     let put = at-put-word .put-word .ensures in
     (at-start .pre .0, word-blank (at-start .pre .1) (at-clear .clear .ensures) put refl (λ i h. omega (arith, at-shared-slice-known .shared-slice-known .given i)))
 
--- src/lib.rt:97:1
 same-length : tie.Need-same-length
 same-length c = search needs
 
--- src/lib.rt:97:1
 returns : tie.Need-returns
 returns c =
     let at-finish = c .before .before in

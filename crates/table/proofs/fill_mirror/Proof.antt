@@ -13,31 +13,24 @@ use Rattle.table.proofs.clear.Reads as clear-reads
 use Rattle.table.proofs.finish.Reads as finish-reads
 use Rattle.table.proofs.put_mirror.Reads as put-mirror-reads
 
--- src/lib.rt:112:5
 clear-requires : tie.Need-clear-requires
 clear-requires c κs = search needs
 
--- src/lib.rt:113:15
 add-end : tie.Need-add-end
 add-end c = search needs
 
--- src/lib.rt:114:22
 sub-put-mirror : tie.Need-sub-put-mirror
 sub-put-mirror c = search needs
 
--- src/lib.rt:114:22
 part-put-mirror-start : tie.Need-part-put-mirror-start
 part-put-mirror-start c = search needs
 
--- src/lib.rt:114:22
 part-put-mirror-end : tie.Need-part-put-mirror-end
 part-put-mirror-end c = search needs
 
--- src/lib.rt:114:5
 put-mirror-requires : tie.Need-put-mirror-requires
 put-mirror-requires c κs = search needs
 
--- src/lib.rt:115:5
 finish-requires : tie.Need-finish-requires
 finish-requires c κs =
     let at-put-mirror = c .before .before .before in
@@ -48,11 +41,9 @@ finish-requires c κs =
     let small = mirror-small w (λ i. omega (arith, at-shared-slice-known .shared-slice-known .given i)) in
     (at-start .pre .0, word-blank (at-start .pre .1) (at-clear .clear .ensures) (at-put-mirror .put-mirror .ensures) (length-reverse w) small)
 
--- src/lib.rt:108:1
 same-length : tie.Need-same-length
 same-length c = search needs
 
--- src/lib.rt:108:1
 returns : tie.Need-returns
 returns c =
     let at-finish = c .before .before in

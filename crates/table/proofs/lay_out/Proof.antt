@@ -13,25 +13,20 @@ Inv-loop table₀ m used n x₀ end₀ table x end = Laying table₀ m table x e
 abbrev μ-loop : tie.MeasureT-loop
 μ-loop table₀ m used n x₀ end₀ table x end = x
 
--- src/lib.rt:75:13
 add-n : tie.Need-add-n Inv-loop μ-loop
 add-n c = search needs
 
--- src/lib.rt:78:5
 loop-holds : tie.Need-loop-holds Inv-loop μ-loop
 loop-holds c =
     let at-start = c .before in
     lay-start (at-start .pre .1)
 
--- src/lib.rt:79:9
 sub-x : tie.Need-sub-x Inv-loop μ-loop
 sub-x c = search needs
 
--- src/lib.rt:80:51
 cast-t10 : tie.Need-cast-t10 Inv-loop μ-loop
 cast-t10 c = search needs
 
--- src/lib.rt:80:9
 unchain-requires : tie.Need-unchain-requires Inv-loop μ-loop
 unchain-requires c κs =
     let at-loop-test = c .before in
@@ -39,11 +34,9 @@ unchain-requires c κs =
     let at-start = at-loop .before .before in
     (omega (arith, at-loop .loop .inv, at-start .pre .0), code-fits (at-start .pre .1) (at-loop .loop .inv) (at-loop-test .loop-test .taken))
 
--- src/lib.rt:78:5
 loop-less : tie.Need-loop-less Inv-loop μ-loop
 loop-less c = search needs
 
--- src/lib.rt:78:5
 loop-again : tie.Need-loop-again Inv-loop μ-loop
 loop-again c =
     let at-unchain = c .before .before in
@@ -52,13 +45,11 @@ loop-again c =
     let at-start = at-loop .before .before in
     code-step (at-start .pre .1) (at-loop .loop .inv) (at-loop-test .loop-test .taken) (at-unchain .unchain .ensures)
 
--- src/lib.rt:70:1
 same-length : tie.Need-same-length Inv-loop μ-loop
 same-length c =
     let at-loop = c .before in
     at-loop .loop .inv .size
 
--- src/lib.rt:70:1
 returns : tie.Need-returns Inv-loop μ-loop
 returns c =
     let at-loop = c .before in

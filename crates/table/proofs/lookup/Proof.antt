@@ -13,97 +13,75 @@ Inv-loop table m n from on s₀ end s = Seeking table m from on end s
 abbrev μ-loop : tie.MeasureT-loop
 μ-loop table m n from on s₀ end s = end - s
 
--- src/lib.rt:123:13
 add-n : tie.Need-add-n Inv-loop μ-loop
 add-n c = search needs
 
--- src/lib.rt:124:16
 cast-from : tie.Need-cast-from Inv-loop μ-loop
 cast-from c = search needs
 
--- src/lib.rt:125:14
 cast-on : tie.Need-cast-on Inv-loop μ-loop
 cast-on c = search needs
 
--- src/lib.rt:127:9
 returns : tie.Need-returns Inv-loop μ-loop
 returns c = seek-far _ _ _ _ (c .if1 .taken)
 
--- src/lib.rt:129:14
 add-if2 : tie.Need-add-if2 Inv-loop μ-loop
 add-if2 c = search needs
 
--- src/lib.rt:129:8
 mul-if2 : tie.Need-mul-if2 Inv-loop μ-loop
 mul-if2 c = search needs
 
--- src/lib.rt:129:8
 shared-slice-read-if2 : tie.Need-shared-slice-read-if2 Inv-loop μ-loop
 shared-slice-read-if2 c = search needs
 
--- src/lib.rt:130:47
 add-t17 : tie.Need-add-t17 Inv-loop μ-loop
 add-t17 c = search needs
 
--- src/lib.rt:130:46
 cast-t18 : tie.Need-cast-t18 Inv-loop μ-loop
 cast-t18 c = search needs
 
--- src/lib.rt:130:9
 returns-2 : tie.Need-returns-2 Inv-loop μ-loop
 returns-2 c =
     let at-if1 = c .before .before in
     seek-spine _ _ _ _ (at-if1 .if1 .left) (c .if2 .taken)
 
--- src/lib.rt:132:23
 mul-s : tie.Need-mul-s Inv-loop μ-loop
 mul-s c = search needs
 
--- src/lib.rt:132:23
 add-s : tie.Need-add-s Inv-loop μ-loop
 add-s c = search needs
 
--- src/lib.rt:132:17
 mul-s-2 : tie.Need-mul-s-2 Inv-loop μ-loop
 mul-s-2 c = search needs
 
--- src/lib.rt:132:17
 shared-slice-read-s : tie.Need-shared-slice-read-s Inv-loop μ-loop
 shared-slice-read-s c = search needs
 
--- src/lib.rt:132:17
 cast-s : tie.Need-cast-s Inv-loop μ-loop
 cast-s c =
     let at-start = c .before .before .before .before .before .before in
     omega (arith, c .shared-slice-known2 .given (2 * (at-start .args .m + 1) + at-start .args .x .0))
 
--- src/lib.rt:133:21
 mul-end : tie.Need-mul-end Inv-loop μ-loop
 mul-end c = search needs
 
--- src/lib.rt:133:21
 add-end : tie.Need-add-end Inv-loop μ-loop
 add-end c = search needs
 
--- src/lib.rt:133:21
 add-end-2 : tie.Need-add-end-2 Inv-loop μ-loop
 add-end-2 c = search needs
 
--- src/lib.rt:133:15
 mul-end-2 : tie.Need-mul-end-2 Inv-loop μ-loop
 mul-end-2 c = search needs
 
--- src/lib.rt:133:15
 shared-slice-read-end : tie.Need-shared-slice-read-end Inv-loop μ-loop
 shared-slice-read-end c = search needs
 
--- src/lib.rt:133:15
 cast-end : tie.Need-cast-end Inv-loop μ-loop
 cast-end c =
     let at-start = c .before .before .before .before .before .before .before in
     omega (arith, c .shared-slice-known3 .given (2 * (at-start .args .m + 1) + at-start .args .x .0 + 1))
 
--- src/lib.rt:134:5
 loop-holds : tie.Need-loop-holds Inv-loop μ-loop
 loop-holds c =
     let at-if2 = c .before .before in
@@ -111,30 +89,24 @@ loop-holds c =
     let at-start = at-if1 .before .before .before in
     seek-start (at-start .pre) (at-if1 .if1 .left) (at-if2 .if2 .left)
 
--- src/lib.rt:135:23
 mul-y : tie.Need-mul-y Inv-loop μ-loop
 mul-y c = search needs
 
--- src/lib.rt:135:23
 add-y : tie.Need-add-y Inv-loop μ-loop
 add-y c = search needs
 
--- src/lib.rt:135:17
 mul-y-2 : tie.Need-mul-y-2 Inv-loop μ-loop
 mul-y-2 c = search needs
 
--- src/lib.rt:135:17
 shared-slice-read-y : tie.Need-shared-slice-read-y Inv-loop μ-loop
 shared-slice-read-y c = search needs
 
--- src/lib.rt:136:18
 cast-at : tie.Need-cast-at Inv-loop μ-loop
 cast-at c =
     let at-loop = c .before .before in
     let at-start = at-loop .before .before .before .before .before .before .before .before in
     omega (arith, c .shared-slice-known4 .given (3 * (at-start .args .m + 1) + at-loop .loop .s))
 
--- src/lib.rt:137:12
 mul-if3 : tie.Need-mul-if3 Inv-loop μ-loop
 mul-if3 c =
     let at-loop-test = c .before in
@@ -142,7 +114,6 @@ mul-if3 c =
     let at-start = at-loop .before .before .before .before .before .before .before .before in
     omega (arith, at-start .pre .small, seek-state (at-start .pre) (at-loop .loop .inv) (at-loop-test .loop-test .taken))
 
--- src/lib.rt:137:12
 shared-slice-read-if3 : tie.Need-shared-slice-read-if3 Inv-loop μ-loop
 shared-slice-read-if3 c =
     let at-loop-test = c .before .before in
@@ -150,7 +121,6 @@ shared-slice-read-if3 c =
     let at-start = at-loop .before .before .before .before .before .before .before .before in
     omega (arith, at-start .pre .enough, seek-state (at-start .pre) (at-loop .loop .inv) (at-loop-test .loop-test .taken))
 
--- src/lib.rt:138:13
 returns-3 : tie.Need-returns-3 Inv-loop μ-loop
 returns-3 c =
     let at-loop-test = c .before .before .before in
@@ -158,15 +128,12 @@ returns-3 c =
     let at-start = at-loop .before .before .before .before .before .before .before .before in
     seek-hit (at-start .pre) (at-loop .loop .inv) (at-loop-test .loop-test .taken) (c .if3 .taken)
 
--- src/lib.rt:140:9
 add-s-2 : tie.Need-add-s-2 Inv-loop μ-loop
 add-s-2 c = search needs
 
--- src/lib.rt:134:5
 loop-less : tie.Need-loop-less Inv-loop μ-loop
 loop-less c = search needs
 
--- src/lib.rt:134:5
 loop-again : tie.Need-loop-again Inv-loop μ-loop
 loop-again c =
     let at-loop-test = c .before .before .before in
@@ -174,7 +141,6 @@ loop-again c =
     let at-start = at-loop .before .before .before .before .before .before .before .before in
     seek-next (at-start .pre) (at-loop .loop .inv) (at-loop-test .loop-test .taken) (c .if3 .left)
 
--- src/lib.rt:119:1
 returns-4 : tie.Need-returns-4 Inv-loop μ-loop
 returns-4 c =
     let at-loop = c .before in

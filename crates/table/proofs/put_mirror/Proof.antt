@@ -16,45 +16,35 @@ Inv-loop word row₀ i₀ row i = Copied row₀ (mirror word) row i
 abbrev μ-loop : tie.MeasureT-loop
 μ-loop word row₀ i₀ row i = length word - i
 
--- src/lib.rt:42:5
 loop-holds : tie.Need-loop-holds Inv-loop μ-loop
 loop-holds c = copy-start _ _
 
--- src/lib.rt:43:22
 sub-c : tie.Need-sub-c Inv-loop μ-loop
 sub-c c = search needs
 
--- src/lib.rt:43:22
 sub-c-2 : tie.Need-sub-c-2 Inv-loop μ-loop
 sub-c-2 c = search needs
 
--- src/lib.rt:43:17
 shared-slice-read-c : tie.Need-shared-slice-read-c Inv-loop μ-loop
 shared-slice-read-c c = search needs
 
--- src/lib.rt:44:18
 cast-row : tie.Need-cast-row Inv-loop μ-loop
 cast-row c =
     let at-start = c .before .before .before in
     letter-fits (at-start .args .word .now) (c .shared-slice-known .given) _
 
--- src/lib.rt:44:9
 mul-row : tie.Need-mul-row Inv-loop μ-loop
 mul-row c = search needs
 
--- src/lib.rt:44:9
 slice-write-row : tie.Need-slice-write-row Inv-loop μ-loop
 slice-write-row c = search needs
 
--- src/lib.rt:45:9
 add-i : tie.Need-add-i Inv-loop μ-loop
 add-i c = search needs
 
--- src/lib.rt:42:5
 loop-less : tie.Need-loop-less Inv-loop μ-loop
 loop-less c = search needs
 
--- src/lib.rt:42:5
 loop-again : tie.Need-loop-again Inv-loop μ-loop
 loop-again c =
     let at-loop-test = c .before in
@@ -62,13 +52,11 @@ loop-again c =
     let at-start = at-loop .before in
     copy-step (at-loop .loop .inv) (omega arith) (mirror-at (at-start .args .word .now) (at-loop .loop .i) (at-loop-test .loop-test .taken))
 
--- src/lib.rt:37:1
 same-length : tie.Need-same-length Inv-loop μ-loop
 same-length c =
     let at-loop = c .before in
     at-loop .loop .inv .size
 
--- src/lib.rt:37:1
 returns : tie.Need-returns Inv-loop μ-loop
 returns c =
     let at-loop = c .before in

@@ -15,49 +15,39 @@ Inv-loop word row₀ i₀ row i = Copied row₀ word row i
 abbrev μ-loop : tie.MeasureT-loop
 μ-loop word row₀ i₀ row i = length word - i
 
--- src/lib.rt:30:5
 loop-holds : tie.Need-loop-holds Inv-loop μ-loop
 loop-holds c = copy-start _ _
 
--- src/lib.rt:31:17
 shared-slice-read-c : tie.Need-shared-slice-read-c Inv-loop μ-loop
 shared-slice-read-c c = search needs
 
--- src/lib.rt:32:18
 cast-row : tie.Need-cast-row Inv-loop μ-loop
 cast-row c =
     let at-start = c .before .before .before in
     letter-fits (at-start .args .word .now) (c .shared-slice-known .given) _
 
--- src/lib.rt:32:9
 mul-row : tie.Need-mul-row Inv-loop μ-loop
 mul-row c = search needs
 
--- src/lib.rt:32:9
 slice-write-row : tie.Need-slice-write-row Inv-loop μ-loop
 slice-write-row c = search needs
 
--- src/lib.rt:33:9
 add-i : tie.Need-add-i Inv-loop μ-loop
 add-i c = search needs
 
--- src/lib.rt:30:5
 loop-less : tie.Need-loop-less Inv-loop μ-loop
 loop-less c = search needs
 
--- src/lib.rt:30:5
 loop-again : tie.Need-loop-again Inv-loop μ-loop
 loop-again c =
     let at-loop = c .before .before in
     copy-step (at-loop .loop .inv) (omega arith) refl
 
--- src/lib.rt:25:1
 same-length : tie.Need-same-length Inv-loop μ-loop
 same-length c =
     let at-loop = c .before in
     at-loop .loop .inv .size
 
--- src/lib.rt:25:1
 returns : tie.Need-returns Inv-loop μ-loop
 returns c =
     let at-loop = c .before in

@@ -15,57 +15,46 @@ Inv-loop table₀ n end from start₀ slot₀ table start slot = Unchaining tabl
 abbrev μ-loop : tie.MeasureT-loop
 μ-loop table₀ n end from start₀ slot₀ table start slot = slot
 
--- src/lib.rt:57:16
 cast-from : tie.Need-cast-from Inv-loop μ-loop
 cast-from c = search needs
 
--- src/lib.rt:59:26
 mul-slot : tie.Need-mul-slot Inv-loop μ-loop
 mul-slot c = search needs
 
--- src/lib.rt:59:26
 add-slot : tie.Need-add-slot Inv-loop μ-loop
 add-slot c = search needs
 
--- src/lib.rt:59:20
 mul-slot-2 : tie.Need-mul-slot-2 Inv-loop μ-loop
 mul-slot-2 c = search needs
 
--- src/lib.rt:59:20
 slice-read-slot : tie.Need-slice-read-slot Inv-loop μ-loop
 slice-read-slot c = search needs
 
--- src/lib.rt:59:20
 cast-slot : tie.Need-cast-slot Inv-loop μ-loop
 cast-slot c =
     let at-start = c .before .before in
     omega (arith, c .slice-known .given (2 * at-start .args .n + at-start .args .x .0))
 
--- src/lib.rt:60:5
 loop-holds : tie.Need-loop-holds Inv-loop μ-loop
 loop-holds c =
     let at-start = c .before .before in
     unchain-start (at-start .pre .1)
 
--- src/lib.rt:61:23
 mul-y : tie.Need-mul-y Inv-loop μ-loop
 mul-y c = search needs
 
--- src/lib.rt:61:23
 add-y : tie.Need-add-y Inv-loop μ-loop
 add-y c =
     let at-loop = c .before in
     let at-start = at-loop .before .before .before in
     omega (arith, unchain-next (at-start .pre .0 .2) (at-loop .loop .inv) (c .loop-test .taken))
 
--- src/lib.rt:61:17
 mul-y-2 : tie.Need-mul-y-2 Inv-loop μ-loop
 mul-y-2 c =
     let at-loop = c .before in
     let at-start = at-loop .before .before .before in
     omega (arith, unchain-next (at-start .pre .0 .2) (at-loop .loop .inv) (c .loop-test .taken))
 
--- src/lib.rt:61:17
 slice-read-y : tie.Need-slice-read-y Inv-loop μ-loop
 slice-read-y c =
     let at-loop-test = c .before in
@@ -73,11 +62,9 @@ slice-read-y c =
     let at-start = at-loop .before .before .before in
     omega (arith, at-loop .loop .inv .size, unchain-next (at-start .pre .0 .2) (at-loop .loop .inv) (at-loop-test .loop-test .taken))
 
--- src/lib.rt:62:26
 mul-next : tie.Need-mul-next Inv-loop μ-loop
 mul-next c = search needs
 
--- src/lib.rt:62:26
 add-next : tie.Need-add-next Inv-loop μ-loop
 add-next c =
     let at-loop-test = c .before in
@@ -85,7 +72,6 @@ add-next c =
     let at-start = at-loop .before .before .before in
     omega (arith, unchain-next (at-start .pre .0 .2) (at-loop .loop .inv) (at-loop-test .loop-test .taken))
 
--- src/lib.rt:62:20
 mul-next-2 : tie.Need-mul-next-2 Inv-loop μ-loop
 mul-next-2 c =
     let at-loop-test = c .before in
@@ -93,7 +79,6 @@ mul-next-2 c =
     let at-start = at-loop .before .before .before in
     omega (arith, unchain-next (at-start .pre .0 .2) (at-loop .loop .inv) (at-loop-test .loop-test .taken))
 
--- src/lib.rt:62:20
 slice-read-next : tie.Need-slice-read-next Inv-loop μ-loop
 slice-read-next c =
     let at-loop-test = c .before .before in
@@ -101,7 +86,6 @@ slice-read-next c =
     let at-start = at-loop .before .before .before in
     omega (arith, at-loop .loop .inv .size, unchain-next (at-start .pre .0 .2) (at-loop .loop .inv) (at-loop-test .loop-test .taken))
 
--- src/lib.rt:63:9
 sub-start : tie.Need-sub-start Inv-loop μ-loop
 sub-start c =
     let at-loop-test = c .before .before in
@@ -109,11 +93,9 @@ sub-start c =
     let at-start = at-loop .before .before .before in
     unchain-next (at-start .pre .0 .2) (at-loop .loop .inv) (at-loop-test .loop-test .taken) .room
 
--- src/lib.rt:64:15
 mul-table : tie.Need-mul-table Inv-loop μ-loop
 mul-table c = search needs
 
--- src/lib.rt:64:15
 add-table : tie.Need-add-table Inv-loop μ-loop
 add-table c =
     let at-loop-test = c .before .before in
@@ -121,7 +103,6 @@ add-table c =
     let at-start = at-loop .before .before .before in
     omega (arith, unchain-next (at-start .pre .0 .2) (at-loop .loop .inv) (at-loop-test .loop-test .taken))
 
--- src/lib.rt:64:9
 mul-table-2 : tie.Need-mul-table-2 Inv-loop μ-loop
 mul-table-2 c =
     let at-loop-test = c .before .before in
@@ -129,7 +110,6 @@ mul-table-2 c =
     let at-start = at-loop .before .before .before in
     omega (arith, unchain-next (at-start .pre .0 .2) (at-loop .loop .inv) (at-loop-test .loop-test .taken))
 
--- src/lib.rt:64:9
 slice-write-table : tie.Need-slice-write-table Inv-loop μ-loop
 slice-write-table c =
     let at-loop-test = c .before .before in
@@ -137,7 +117,6 @@ slice-write-table c =
     let at-start = at-loop .before .before .before in
     omega (arith, at-loop .loop .inv .size, unchain-next (at-start .pre .0 .2) (at-loop .loop .inv) (at-loop-test .loop-test .taken))
 
--- src/lib.rt:65:16
 cast-slot-2 : tie.Need-cast-slot-2 Inv-loop μ-loop
 cast-slot-2 c =
     let at-loop-test = c .before .before in
@@ -145,7 +124,6 @@ cast-slot-2 c =
     let at-start = at-loop .before .before .before in
     omega (arith, unchain-next (at-start .pre .0 .2) (at-loop .loop .inv) (at-loop-test .loop-test .taken))
 
--- src/lib.rt:60:5
 loop-less : tie.Need-loop-less Inv-loop μ-loop
 loop-less c =
     let at-loop-test = c .before .before in
@@ -153,7 +131,6 @@ loop-less c =
     let at-start = at-loop .before .before .before in
     unchain-next (at-start .pre .0 .2) (at-loop .loop .inv) (at-loop-test .loop-test .taken) .older
 
--- src/lib.rt:60:5
 loop-again : tie.Need-loop-again Inv-loop μ-loop
 loop-again c =
     let at-loop-test = c .before .before in
@@ -161,34 +138,27 @@ loop-again c =
     let at-start = at-loop .before .before .before in
     unchain-step (at-start .pre .0 .2) (at-loop .loop .inv) (at-loop-test .loop-test .taken)
 
--- src/lib.rt:67:27
 cast-table : tie.Need-cast-table Inv-loop μ-loop
 cast-table c = search needs
 
--- src/lib.rt:67:11
 mul-table-3 : tie.Need-mul-table-3 Inv-loop μ-loop
 mul-table-3 c = search needs
 
--- src/lib.rt:67:11
 add-table-2 : tie.Need-add-table-2 Inv-loop μ-loop
 add-table-2 c = search needs
 
--- src/lib.rt:67:5
 mul-table-4 : tie.Need-mul-table-4 Inv-loop μ-loop
 mul-table-4 c = search needs
 
--- src/lib.rt:67:5
 slice-write-table-2 : tie.Need-slice-write-table-2 Inv-loop μ-loop
 slice-write-table-2 c = search needs
 
--- src/lib.rt:51:1
 same-length : tie.Need-same-length Inv-loop μ-loop
 same-length c =
     let at-loop = c .before in
     let at-start = at-loop .before .before .before in
     simp length-set (at-loop .loop .inv .size) ∙ sym (at-start .pre .1 .size)
 
--- src/lib.rt:51:1
 returns : tie.Need-returns Inv-loop μ-loop
 returns c =
     let at-loop = c .before in
