@@ -4,14 +4,14 @@ use lib.Seq.{length-take-le}
 use Rattle.words.proofs.Limits.{words-fit}
 use Rattle.loaded.specs.Answers.{headOf}
 use Rattle.loaded.proofs.Fronts.{front-letters}
-use Rattle.marks.proofs.LoadSays.{says-stop, says-short-word, says-short-tables, lent-sized, given-back}
+use Rattle.mark_files.proofs.LoadSays.{says-stop, says-short-word, says-short-tables, lent-sized, given-back}
 use borrow.Author.Needs.{needs}
-use Rattle.marks.proofs.load.Statement.{statement}
-use Rattle.marks.proofs.load.Tie as tie
-use Rattle.marks.proofs.load.Reads as reads
-use Rattle.marks.proofs.load.Lts as lts
+use Rattle.mark_files.proofs.load.Statement.{statement}
+use Rattle.mark_files.proofs.load.Tie as tie
+use Rattle.mark_files.proofs.load.Reads as reads
+use Rattle.mark_files.proofs.load.Lts as lts
 use Rattle.loaded.proofs.read_front.Reads as read-front-reads
-use Rattle.marks.proofs.take_word.Reads as take-word-reads
+use Rattle.mark_files.proofs.take_word.Reads as take-word-reads
 
 read-front-requires : tie.Need-read-front-requires
 read-front-requires c κs = search needs
@@ -28,7 +28,7 @@ returns c =
     let at-read-front = at-head2 .before .before in
     let at-start = at-read-front .before .before .before .before in
     let shown = sym (at-read-front .read-front .ensures) ∙ ap headOf (at-head2 .head2 .given .1) in
-    sym (says-short-word (at-start .args .file .now) (at-start .args .room .now) (at-start .args .tables .now) _ _ shown (c .if1 .taken))
+    sym (says-short-word _ _ _ _ _ shown (c .if1 .taken))
 
 add-need : tie.Need-add-need
 add-need c = search needs
@@ -47,7 +47,7 @@ returns-2 c =
     let at-read-front = at-head2 .before .before in
     let at-start = at-read-front .before .before .before .before in
     let shown = sym (at-read-front .read-front .ensures) ∙ ap headOf (at-head2 .head2 .given .1) in
-    sym (says-short-tables (at-start .args .file .now) (at-start .args .room .now) (at-start .args .tables .now) _ _ shown (c .if2 .taken))
+    sym (says-short-tables _ _ _ _ _ shown (c .if2 .taken))
 
 slice-relend-prefix-take-word : tie.Need-slice-relend-prefix-take-word
 slice-relend-prefix-take-word c = search needs
@@ -75,14 +75,14 @@ take-word-requires c κs =
     let at-read-front = at-head2 .before .before in
     let at-start = at-read-front .before .before .before .before in
     let shown = sym (at-read-front .read-front .ensures) ∙ ap headOf (at-head2 .head2 .given .1) in
-    lent-sized (at-start .args .file .now) (at-start .args .room .now) (at-start .args .tables .now) shown (at-if1 .if1 .left) (at-if2 .if2 .left)
+    lent-sized _ _ _ shown (at-if1 .if1 .left) (at-if2 .if2 .left)
 
 returns-3 : tie.Need-returns-3
 returns-3 c =
     let at-head = c .before in
     let at-read-front = at-head .before .before in
     let at-start = at-read-front .before .before .before .before in
-    sym (says-stop (at-start .args .file .now) (at-start .args .room .now) (at-start .args .tables .now) _ _ (sym (at-read-front .read-front .ensures) ∙ ap headOf (at-head .head .given .1)))
+    sym (says-stop _ _ _ _ _ (sym (at-read-front .read-front .ensures) ∙ ap headOf (at-head .head .given .1)))
 
 same-length : tie.Need-same-length
 same-length c = search needs
@@ -99,7 +99,7 @@ returns-4 c =
     let at-read-front = at-head2 .before .before in
     let at-start = at-read-front .before .before .before .before in
     let shown = sym (at-read-front .read-front .ensures) ∙ ap headOf (at-head2 .head2 .given .1) in
-    given-back (at-start .args .file .now) (at-start .args .room .now) (at-start .args .tables .now) shown (at-if1 .if1 .left) (at-if2 .if2 .left) (at-take-word .take-word .result) (at-take-word .take-word .ensures)
+    given-back _ _ _ shown (at-if1 .if1 .left) (at-if2 .if2 .left) (at-take-word .take-word .result) (at-take-word .take-word .ensures)
 
 pub load-spec : {M : Type 1} → statement M
 load-spec =

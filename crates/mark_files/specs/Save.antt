@@ -15,9 +15,8 @@ use Rattle.words.specs.Words.{Word}
 use Rattle.words.specs.Limits.{longestWord}
 use Rattle.table.specs.Table.{room, tableOf}
 use Rattle.saved.specs.File.{spell}
-use Rattle.marks.specs.declared.Saved.{Saved}
-use Rattle.marks.specs.declared.Saved.the-variants.{Done, EmptyWord, LongWord, ShortRoom, ShortOutput}
-use Rattle.marks.specs.Answers.{Answer, done, refused, emptyWord, longWord, shortRoom, shortOutput}
+use Rattle.answers.specs.declared.SizeAnswer.{SizeAnswer}
+use Rattle.answers.specs.Answers.{Answer, done, refused, sizeAnswer, emptyWord, longWord, shortRoom, shortOutput}
 
 pub record Outcome : Type 0 where
   pub answer : Answer ℕ
@@ -27,16 +26,8 @@ pub record Outcome : Type 0 where
 abbrev pub outcome : Answer ℕ → List ℕ → List ℕ → Outcome
 outcome a T O = record { answer = a; tables = T; output = O }
 
--- each case of the code's answer, as 01 lists it
-abbrev pub answerOf : Saved → Answer ℕ
-answerOf (Done n) = done n
-answerOf EmptyWord = refused emptyWord
-answerOf LongWord = refused longWord
-answerOf ShortRoom = refused shortRoom
-answerOf ShortOutput = refused shortOutput
-
-abbrev pub savedAs : Saved → List ℕ → List ℕ → Outcome
-savedAs r T O = outcome (answerOf r) T O
+abbrev pub savedAs : SizeAnswer → List ℕ → List ℕ → Outcome
+savedAs r T O = outcome (sizeAnswer r) T O
 
 unfoldable pub saveSays : Word → List ℕ → List ℕ → Outcome
 saveSays word T O =

@@ -15,9 +15,8 @@ use lib.Dec.{ltb}
 use Rattle.words.specs.Words.{Word, part}
 use Rattle.table.specs.Table.{room, tableOf}
 use Rattle.loaded.specs.Load.{Front, letters, stop, front, Verdict, right, wrong, verdict}
-use Rattle.marks.specs.declared.Loaded.{Loaded}
-use Rattle.marks.specs.declared.Loaded.the-variants.{Done, Refused}
-use Rattle.marks.specs.Answers.{Answer, done, refused, shortRoom}
+use Rattle.answers.specs.declared.SizeAnswer.{SizeAnswer}
+use Rattle.answers.specs.Answers.{Answer, done, refused, sizeAnswer, shortRoom}
 
 pub record Outcome : Type 0 where
   pub answer : Answer ℕ
@@ -27,13 +26,8 @@ pub record Outcome : Type 0 where
 abbrev pub outcome : Answer ℕ → List ℕ → List ℕ → Outcome
 outcome a R T = record { answer = a; word = R; tables = T }
 
--- each case of the code's answer, as 01 lists it
-abbrev pub answerOf : Loaded → Answer ℕ
-answerOf (Done m) = done m
-answerOf (Refused n) = refused n
-
-abbrev pub loadedAs : Loaded → List ℕ → List ℕ → Outcome
-loadedAs r R T = outcome (answerOf r) R T
+abbrev pub loadedAs : SizeAnswer → List ℕ → List ℕ → Outcome
+loadedAs r R T = outcome (sizeAnswer r) R T
 
 -- what a file's arrows make of the word's part of the rooms
 abbrev pub judged : Verdict → Word → Outcome

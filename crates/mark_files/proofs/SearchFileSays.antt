@@ -23,21 +23,22 @@ use Rattle.table.proofs.Formed.{table-formed}
 use Rattle.finds.specs.declared.Tally.{Tally}
 use Rattle.search.specs.Answers.{tallyOf}
 use Rattle.finds.specs.Finds.{filled}
-use Rattle.marks.specs.declared.Loaded.{Loaded}
-use Rattle.marks.specs.declared.Loaded.the-variants.{Done as LoadDone, Refused as LoadRefused}
-use Rattle.marks.specs.declared.FileSearched.{FileSearched}
-use Rattle.marks.specs.declared.FileSearched.the-variants.{Done, Refused}
-use Rattle.marks.specs.Answers.{Answer, done, refused, longText}
-use Rattle.marks.specs.Load.{answerOf as loadedAnswer, loadedAs, loadSays}
-use Rattle.marks.specs.Load
+use Rattle.answers.specs.declared.Refusal.{Refusal}
+use Rattle.answers.specs.declared.Refusal.the-variants.{Numbered, Placed}
+use Rattle.answers.specs.declared.SizeAnswer.{SizeAnswer}
+use Rattle.answers.specs.declared.SizeAnswer.the-variants.{Done, Refused}
+use Rattle.answers.specs.declared.TallyAnswer.{TallyAnswer}
+use Rattle.answers.specs.Answers.{Answer, done, refused, refusedAt, refusedAs, sizeAnswer, longText}
+use Rattle.answers.proofs.Answers.{done-not-refused, tally-answer-one}
+use Rattle.mark_files.specs.Load.{loadedAs, loadSays}
+use Rattle.mark_files.specs.Load
 use Rattle.marks.specs.Search.{found}
-use Rattle.marks.specs.SearchFile.{Outcome, outcome, answerOf, fileSearched, afterLoad, searchFileSays}
-use Rattle.marks.specs.Cases.{LoadCase, SearchFileCase, AfterRefusal}
+use Rattle.mark_files.specs.SearchFile.{Outcome, outcome, fileSearched, afterLoad, searchFileSays}
+use Rattle.mark_files.specs.Cases.{LoadCase, SearchFileCase, AfterRefusal}
 use Rattle.saved.specs.File.{spell}
-use Rattle.marks.proofs.LoadTheorems.{file-loads}
-use Rattle.marks.proofs.SearchSays.{tally-one}
-use Rattle.marks.proofs.LoadSays.{load-is, Standing, told-stands}
-use Rattle.marks.proofs.LoadSays
+use Rattle.mark_files.proofs.LoadTheorems.{file-loads}
+use Rattle.mark_files.proofs.LoadSays.{load-is, Standing, told-stands}
+use Rattle.mark_files.proofs.LoadSays
 
 -- ── The word's own table, searched with ────────────────────────────────────
 
@@ -47,6 +48,14 @@ unfolding backward
 own-table-steps w text =
     steps-same (readArrow (length w) (tableOf w)) (oracle w) w text (table-arrow w) ∙ steps-mirror (oracle w) w text
     ∙ ap (λ (v : Word). steps (oracle v) (mirror w) text) (sym (reverse-reverse w))
+
+-- what stands in the rooms after loading can be searched with
+pub lent-sized : {m : ℕ} {R T : List ℕ} (text : Word) → Standing m R T → length text ≤ longestText
+    → ((1 ≤ length (take m R)) × (length text < 4294967295)) × Formed (take (room m) T) (length (take m R))
+lent-sized {m} {R} {T} text stood short =
+    let size : length (take m R) ≡ m = length-take-le m R (stood .inside) in
+    let few : length (take m R) < 65535 = omega (arith, size, stood .most, words-fit) in
+    ((omega (arith, size, stood .least), omega (arith, texts-fit)), rw (stood .table) (table-formed (take m R) few))
 
 module _ (file : List ℕ) (text : Word) (R T : List ℕ) (F : List Place) where
   -- ── Its cases, in the order of the tests ─────────────────────────────────
@@ -69,6 +78,7 @@ module _ (file : List ℕ) (text : Word) (R T : List ℕ) (F : List Place) where
       by-load : (a : Answer ℕ) (R′ T′ : List ℕ) → length text ≤ longestText → LoadCase file R T (Load.outcome a R′ T′)
           → SearchFileCase file text R T F (afterLoad a text R′ T′ F)
       by-load (refused n) R′ T′ k c = SearchFileCase.load-refused k c
+      by-load (refusedAt n p) R′ T′ k c = elim c [ ]
       by-load (done m) R′ T′ k c = SearchFileCase.accepted k c
 
       by : Dec (longestText < length text) → SearchFileCase file text R T F (searchFileSays file text R T F)
@@ -97,7 +107,7 @@ module _ (file : List ℕ) (text : Word) (R T : List ℕ) (F : List Place) where
           → (o .finds ≡ F) × AfterRefusal R T (o .word) (o .tables)
       by (SearchFileCase.long-text h) e = (refl, AfterRefusal.unchanged)
       by (SearchFileCase.load-refused k c) e = (refl, loaded c)
-      by (SearchFileCase.accepted k c) e = let z : _≡_ {A = ℕ} 0 1 = cc in absurd (omega arith)
+      by (SearchFileCase.accepted k c) e = done-not-refused e
 
   -- the file matters by what loading says of it alone
   pub same-load-same-search : (file′ : List ℕ) → loadSays file R T ≡ loadSays file′ R T
@@ -108,33 +118,29 @@ module _ (file : List ℕ) (text : Word) (R T : List ℕ) (F : List Place) where
   -- ── What the code's steps come to ────────────────────────────────────────
 
   -- once the code was told what loading says
-  module _ (short : length text ≤ longestText) (said : Loaded) {R′ T′ : List ℕ} (told : loadedAs said R′ T′ ≡ loadSays file R T) where
-    says-loaded : searchFileSays file text R T F ≡ afterLoad (loadedAnswer said) text R′ T′ F
+  module _ (short : length text ≤ longestText) (said : SizeAnswer) {R′ T′ : List ℕ} (told : loadedAs said R′ T′ ≡ loadSays file R T) where
+    says-loaded : searchFileSays file text R T F ≡ afterLoad (sizeAnswer said) text R′ T′ F
     says-loaded = says-after short (sym told)
 
-    pub says-refused : {n : ℕ} → said ≡ LoadRefused n → fileSearched (Refused n) R′ T′ F ≡ searchFileSays file text R T F
-    says-refused e = sym (says-loaded ∙ ap (λ (s : Loaded). afterLoad (loadedAnswer s) text R′ T′ F) e)
+    pub says-refused : (r : Refusal) → said ≡ Refused r → outcome (refusedAs r) R′ T′ F ≡ searchFileSays file text R T F
+    says-refused r e = refused-after r ∙ sym (says-loaded ∙ ap (λ s. afterLoad (sizeAnswer s) text R′ T′ F) e)
+      where
+        refused-after : (r : Refusal) → outcome (refusedAs r) R′ T′ F ≡ afterLoad (refusedAs r) text R′ T′ F
+        refused-after (Numbered n) = refl
+        refused-after (Placed n p) = refl
 
     -- the mirror of the loaded word is searched for, with its own table
-    module _ {m : ℕ} (e : said ≡ LoadDone m) where
+    module _ {m : ℕ} (e : said ≡ Done m) where
       stood : Standing m R′ T′
       stood = told-stands file R T told e
-
-      size : length (take m R′) ≡ m
-      size = length-take-le m R′ (stood .inside)
-
-      pub lent-sized : ((1 ≤ length (take m R′)) × (length text < 4294967295)) × Formed (take (room m) T′) (length (take m R′))
-      lent-sized =
-          let few : length (take m R′) < 65535 = omega (arith, size, stood .most, words-fit) in
-          ((omega (arith, size, stood .least), omega (arith, texts-fit)), rw (stood .table) (table-formed (take m R′) few))
 
       pub scan-counts : {t : Tally} {F′ : List Place}
           → t ≡ tallyOf (steps (readArrow (length (take m R′)) (take (room m) T′)) (take m R′) text)
           → F′ ≡ filled (steps (readArrow (length (take m R′)) (take (room m) T′)) (take m R′) text .starts) F
-          → fileSearched (Done t) R′ T′ F′ ≡ searchFileSays file text R T F
+          → outcome (done t) R′ T′ F′ ≡ searchFileSays file text R T F
       scan-counts t f =
           rw (t, f, stood .table, own-table-steps (take m R′) text, search-lists-occurrences (mirror (take m R′)) text)
-          (sym (says-loaded ∙ ap (λ (s : Loaded). afterLoad (loadedAnswer s) text R′ T′ F) e))
+          (sym (says-loaded ∙ ap (λ (s : SizeAnswer). afterLoad (sizeAnswer s) text R′ T′ F) e))
 
   -- ── What is found with a word's file ─────────────────────────────────────
 
@@ -149,17 +155,10 @@ module _ (file : List ℕ) (text : Word) (R T : List ℕ) (F : List Place) where
 
 -- ── One outcome ────────────────────────────────────────────────────────────
 
--- different answers of the code mean different things
-answer-one : (r s : FileSearched) → answerOf r ≡ answerOf s → r ≡ s
-answer-one (Done a) (Done b) e = ap Done (tally-one a b e)
-answer-one (Done a) (Refused n) e = cc
-answer-one (Refused n) (Done b) e = cc
-answer-one (Refused n) (Refused k) e = cc
-
 -- two outcomes that the promise of a search with a file allows are equal
-pub search-file-one : (file : List ℕ) (text : Word) (R T : List ℕ) (F : List Place) (r s : FileSearched) (A B C D : List ℕ) (G H : List Place)
+pub search-file-one : (file : List ℕ) (text : Word) (R T : List ℕ) (F : List Place) (r s : TallyAnswer) (A B C D : List ℕ) (G H : List Place)
     → fileSearched r A C G ≡ searchFileSays file text R T F → fileSearched s B D H ≡ searchFileSays file text R T F
     → (r ≡ s) × (A ≡ B) × (C ≡ D) × (G ≡ H)
 search-file-one file text R T F r s A B C D G H e f =
     let g : fileSearched r A C G ≡ fileSearched s B D H = e ∙ sym f in
-    (answer-one r s (ap (λ o. o .answer) g), ap (λ o. o .word) g, ap (λ o. o .tables) g, ap (λ o. o .finds) g)
+    (tally-answer-one r s (ap (λ o. o .answer) g), ap (λ o. o .word) g, ap (λ o. o .tables) g, ap (λ o. o .finds) g)

@@ -1,12 +1,12 @@
-use Rattle.marks.proofs.LoadSays.{taken-right, taken-wrong}
+use Rattle.mark_files.proofs.LoadSays.{taken-right, taken-wrong}
 use lib.ListN.{length}
 use borrow.Author.Needs.{needs}
-use Rattle.marks.proofs.take_word.Statement.{statement}
-use Rattle.marks.proofs.take_word.Tie as tie
-use Rattle.marks.proofs.take_word.Reads as reads
-use Rattle.marks.proofs.take_word.Lts as lts
+use Rattle.mark_files.proofs.take_word.Statement.{statement}
+use Rattle.mark_files.proofs.take_word.Tie as tie
+use Rattle.mark_files.proofs.take_word.Reads as reads
+use Rattle.mark_files.proofs.take_word.Lts as lts
 use Rattle.loaded.proofs.compare.Reads as compare-reads
-use Rattle.marks.proofs.clear.Reads as clear-reads
+use Rattle.mark_files.proofs.clear.Reads as clear-reads
 use Rattle.saved.proofs.put_letters.Reads as put-letters-reads
 use Rattle.table.proofs.clear.Reads as clear-reads′
 use Rattle.table.proofs.fill.Reads as fill-reads

@@ -21,12 +21,12 @@ use Rattle.loaded.specs.Accepts.{Judged, FileOf}
 use Rattle.loaded.specs.Cases.{Reads, BadLength, FrontCase, length-bad, count-too-large, arrows-wrong}
 use Rattle.loaded.proofs.Fronts.{front-letters}
 use Rattle.loaded.proofs.Theorems.{file-accepted, only-files, beginning-refused, longer-refused, front-is, verdict-is}
-use Rattle.marks.specs.Answers.{done, refused}
-use Rattle.marks.specs.Load.{Outcome, outcome, judged, loadSays}
-use Rattle.marks.specs.Save.{saveSays}
-use Rattle.marks.specs.Cases.{LoadCase}
-use Rattle.marks.proofs.SaveSays.{done-leaves}
-use Rattle.marks.proofs.LoadSays.{put, says-stop, says-judged, load-is, load-answers}
+use Rattle.answers.specs.Answers.{done, refused}
+use Rattle.mark_files.specs.Load.{Outcome, outcome, judged, loadSays}
+use Rattle.mark_files.specs.Save.{saveSays}
+use Rattle.mark_files.specs.Cases.{LoadCase}
+use Rattle.mark_files.proofs.SaveSays.{done-leaves}
+use Rattle.mark_files.proofs.LoadSays.{put, says-stop, says-judged, load-is, load-answers}
 
 -- what an outcome with m letters hands over of the file s
 pub record Handed (s : List ℕ) (o : Outcome) (m : ℕ) : Type 0 where

@@ -16,11 +16,11 @@ use Rattle.table.specs.Table.{room, tableOf}
 use Rattle.table.proofs.Theorems.{table-size}
 use Rattle.saved.specs.File.{spell}
 use Rattle.saved.specs.Stepping.{Tabled}
-use Rattle.marks.specs.declared.Saved.{Saved}
-use Rattle.marks.specs.declared.Saved.the-variants.{Done, EmptyWord, LongWord, ShortRoom, ShortOutput}
-use Rattle.marks.specs.Answers.{done, refused, emptyWord, longWord, shortRoom, shortOutput}
-use Rattle.marks.specs.Save.{Outcome, outcome, answerOf, savedAs, saveSays}
-use Rattle.marks.specs.Cases.{SaveCase}
+use Rattle.answers.specs.declared.SizeAnswer.{SizeAnswer}
+use Rattle.answers.specs.Answers.{done, refused, emptyWord, longWord, shortRoom, shortOutput}
+use Rattle.answers.proofs.Answers.{done-not-refused, size-answer-one}
+use Rattle.mark_files.specs.Save.{Outcome, outcome, savedAs, saveSays}
+use Rattle.mark_files.specs.Cases.{SaveCase}
 
 module _ (word : Word) (T O : List ℕ) where
   abbrev m : ℕ
@@ -114,65 +114,41 @@ module _ (word : Word) (T O : List ℕ) where
       by (SaveCase.long-word h l) e = (refl, inl refl)
       by (SaveCase.short-room h l s) e = (refl, inl refl)
       by (SaveCase.short-output h l s o) e = (refl, inr refl)
-      by (SaveCase.accepted h l s o) e = let z : _≡_ {A = ℕ} 0 1 = cc in absurd (omega arith)
+      by (SaveCase.accepted h l s o) e = done-not-refused e
 
-  -- ── What the code's steps come to ────────────────────────────────────────
+-- ── What the code's steps come to ──────────────────────────────────────────
 
-  -- P is what was filled, and R what stands behind it in the room
-  module _ {P : List ℕ} (R : List ℕ) (filled-in : P ≡ tableOf word) where
-    sized : length P ≡ room m
-    sized = ap length filled-in ∙ table-size word
+-- P is what was filled, and R what stands behind it in the room
+module _ (word : Word) {P : List ℕ} (R : List ℕ) (filled-in : P ≡ tableOf word) where
+  abbrev lent : List ℕ
+  lent = take (room (length word)) (P ++ R)
 
-    lent : take (room m) (P ++ R) ≡ tableOf word
-    lent = take-at P R (room m) sized ∙ filled-in
+  sized : length P ≡ room (length word)
+  sized = ap length filled-in ∙ table-size word
 
-    pub lent-size : room m ≡ length (take (room m) (P ++ R))
-    lent-size = sym (ap length lent ∙ table-size word)
+  lent-table : lent ≡ tableOf word
+  lent-table = take-at P R (room (length word)) sized ∙ filled-in
 
-    pub lent-tabled : 1 ≤ m → m ≤ longestWord → Tabled word (take (room m) (P ++ R))
-    lent-tabled h l = record { table = lent; least = h; most = omega (arith, words-fit) }
+  pub lent-size : room (length word) ≡ length lent
+  lent-size = sym (ap length lent-table ∙ table-size word)
 
-    pub wiped : {C : List ℕ} → C ≡ replicate (length (take (room m) (P ++ R))) 0
-        → outcome (refused shortOutput) (C ++ drop (room m) (P ++ R)) O ≡ outcome (refused shortOutput) (replicate (room m) 0 ++ R) O
-    wiped c = rw (c, ← lent-size, drop-at P R (room m) sized)
+  pub lent-tabled : 1 ≤ length word → length word ≤ longestWord → Tabled word lent
+  lent-tabled h l = record { table = lent-table; least = h; most = omega (arith, words-fit) }
 
-    pub put-out : {n : ℕ} {O′ : List ℕ} → n ≡ size → O′ ≡ spell word ++ drop size O
-        → outcome (done n) (P ++ R) O′ ≡ outcome (done size) (tableOf word ++ R) (spell word ++ drop size O)
-    put-out n o = rw (n, o, filled-in)
+  pub wiped : {C : List ℕ} (O : List ℕ) → C ≡ replicate (length lent) 0
+      → outcome (refused shortOutput) (C ++ drop (room (length word)) (P ++ R)) O
+      ≡ outcome (refused shortOutput) (replicate (room (length word)) 0 ++ R) O
+  wiped O c = rw (c, ← lent-size, drop-at P R (room (length word)) sized)
+
+  pub put-out : {n : ℕ} (O : List ℕ) {O′ : List ℕ} → n ≡ length (spell word) → O′ ≡ spell word ++ drop (length (spell word)) O
+      → outcome (done n) (P ++ R) O′ ≡ outcome (done (length (spell word))) (tableOf word ++ R) (spell word ++ drop (length (spell word)) O)
+  put-out O n o = rw (n, o, filled-in)
 
 -- ── One outcome ────────────────────────────────────────────────────────────
 
--- different answers of the code mean different things
-answer-one : (r s : Saved) → answerOf r ≡ answerOf s → r ≡ s
-answer-one (Done a) (Done b) e = cc
-answer-one (Done a) EmptyWord e = cc
-answer-one (Done a) LongWord e = cc
-answer-one (Done a) ShortRoom e = cc
-answer-one (Done a) ShortOutput e = cc
-answer-one EmptyWord (Done b) e = cc
-answer-one EmptyWord EmptyWord e = refl
-answer-one EmptyWord LongWord e = cc
-answer-one EmptyWord ShortRoom e = cc
-answer-one EmptyWord ShortOutput e = cc
-answer-one LongWord (Done b) e = cc
-answer-one LongWord EmptyWord e = cc
-answer-one LongWord LongWord e = refl
-answer-one LongWord ShortRoom e = cc
-answer-one LongWord ShortOutput e = cc
-answer-one ShortRoom (Done b) e = cc
-answer-one ShortRoom EmptyWord e = cc
-answer-one ShortRoom LongWord e = cc
-answer-one ShortRoom ShortRoom e = refl
-answer-one ShortRoom ShortOutput e = cc
-answer-one ShortOutput (Done b) e = cc
-answer-one ShortOutput EmptyWord e = cc
-answer-one ShortOutput LongWord e = cc
-answer-one ShortOutput ShortRoom e = cc
-answer-one ShortOutput ShortOutput e = refl
-
 -- two outcomes that the promise of save allows are equal
-pub save-one : (word : Word) (T O : List ℕ) (r s : Saved) (A B C D : List ℕ) → savedAs r A C ≡ saveSays word T O
+pub save-one : (word : Word) (T O : List ℕ) (r s : SizeAnswer) (A B C D : List ℕ) → savedAs r A C ≡ saveSays word T O
     → savedAs s B D ≡ saveSays word T O → (r ≡ s) × (A ≡ B) × (C ≡ D)
 save-one word T O r s A B C D e f =
     let g : savedAs r A C ≡ savedAs s B D = e ∙ sym f in
-    (answer-one r s (ap (λ o. o .answer) g), ap (λ o. o .tables) g, ap (λ o. o .output) g)
+    (size-answer-one r s (ap (λ o. o .answer) g), ap (λ o. o .tables) g, ap (λ o. o .output) g)

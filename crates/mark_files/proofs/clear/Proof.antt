@@ -5,10 +5,10 @@ use lib.ListN.{length, replicate, length-replicate}
 use borrow.Author.Needs.{needs}
 use Rattle.table.proofs.Rows.{zeros-at}
 use Rattle.table.proofs.Copying.{Copied, copy-start, copy-step, copy-end}
-use Rattle.marks.proofs.clear.Statement.{statement}
-use Rattle.marks.proofs.clear.Tie as tie
-use Rattle.marks.proofs.clear.Reads as reads
-use Rattle.marks.proofs.clear.Lts as lts
+use Rattle.mark_files.proofs.clear.Statement.{statement}
+use Rattle.mark_files.proofs.clear.Tie as tie
+use Rattle.mark_files.proofs.clear.Reads as reads
+use Rattle.mark_files.proofs.clear.Lts as lts
 
 abbrev Inv-loop : tie.InvT-loop
 Inv-loop letters₀ i₀ letters i = Copied letters₀ (replicate (length letters₀) 0) letters i

@@ -1,4 +1,4 @@
-use Rattle.marks.proofs.SaveSays.{says-empty, says-long, says-short, says-full, says-done, lent-size, lent-tabled, wiped, put-out}
+use Rattle.mark_files.proofs.SaveSays.{says-empty, says-long, says-short, says-full, says-done, lent-size, lent-tabled, wiped, put-out}
 use Rattle.words.proofs.Limits.{word-limit}
 use lib.Seq.{length-take-le}
 use lib.ListN.{length, drop}
@@ -6,10 +6,10 @@ use Prim.Native.Nat.{_+_, _*_}
 use mathlib.Core.Path.{sym, _∙_}
 use native.Mathlib.Omega.{arith}
 use borrow.Author.Needs.{needs}
-use Rattle.marks.proofs.save.Statement.{statement}
-use Rattle.marks.proofs.save.Tie as tie
-use Rattle.marks.proofs.save.Reads as reads
-use Rattle.marks.proofs.save.Lts as lts
+use Rattle.mark_files.proofs.save.Statement.{statement}
+use Rattle.mark_files.proofs.save.Tie as tie
+use Rattle.mark_files.proofs.save.Reads as reads
+use Rattle.mark_files.proofs.save.Lts as lts
 use Rattle.saved.proofs.file_size.Reads as file-size-reads
 use Rattle.saved.proofs.write_file.Reads as write-file-reads
 use Rattle.table.proofs.clear.Reads as clear-reads
@@ -18,13 +18,13 @@ use Rattle.table.proofs.fill.Reads as fill-reads
 returns : tie.Need-returns
 returns c =
     let at-start = c .before .before .before .before in
-    sym (says-empty (at-start .args .word .now) (at-start .args .tables .now) (at-start .args .out .now) (c .if1 .taken))
+    sym (says-empty _ _ _ (c .if1 .taken))
 
 returns-2 : tie.Need-returns-2
 returns-2 c =
     let at-if1 = c .before in
     let at-start = at-if1 .before .before .before .before in
-    sym (says-long (at-start .args .word .now) (at-start .args .tables .now) (at-start .args .out .now) (at-if1 .if1 .left) (omega (arith, word-limit, c .if2 .taken)))
+    sym (says-long _ _ _ (at-if1 .if1 .left) (omega (arith, word-limit, c .if2 .taken)))
 
 add-need : tie.Need-add-need
 add-need c = search needs
@@ -37,7 +37,7 @@ returns-3 c =
     let at-if2 = c .before in
     let at-if1 = at-if2 .before in
     let at-start = at-if1 .before .before .before .before in
-    sym (says-short (at-start .args .word .now) (at-start .args .tables .now) (at-start .args .out .now) (at-if1 .if1 .left) (omega (arith, word-limit, at-if2 .if2 .left)) (c .if3 .taken))
+    sym (says-short _ _ _ (at-if1 .if1 .left) (omega (arith, word-limit, at-if2 .if2 .left)) (c .if3 .taken))
 
 slice-relend-prefix-fill : tie.Need-slice-relend-prefix-fill
 slice-relend-prefix-fill c = search needs
@@ -46,14 +46,14 @@ slice-aggregate-fill : tie.Need-slice-aggregate-fill
 slice-aggregate-fill c =
     let at-if3 = c .before in
     let at-start = at-if3 .before .before .before .before .before .before in
-    sym (length-take-le (6 * (length (at-start .args .word .now) + 1)) (at-start .args .tables .now) (at-if3 .if3 .left))
+    sym (length-take-le _ _ (at-if3 .if3 .left))
 
 fill-requires : tie.Need-fill-requires
 fill-requires c κs =
     let at-if3 = c .before in
     let at-if2 = at-if3 .before in
     let at-start = at-if2 .before .before .before .before .before in
-    (omega (arith, at-if2 .if2 .left), length-take-le (6 * (length (at-start .args .word .now) + 1)) (at-start .args .tables .now) (at-if3 .if3 .left))
+    (omega (arith, at-if2 .if2 .left), length-take-le _ _ (at-if3 .if3 .left))
 
 slice-reshare-prefix-file-size : tie.Need-slice-reshare-prefix-file-size
 slice-reshare-prefix-file-size c = search needs
@@ -62,7 +62,7 @@ slice-aggregate-file-size : tie.Need-slice-aggregate-file-size
 slice-aggregate-file-size c =
     let at-fill = c .before .before .before in
     let at-start = at-fill .before .before .before .before .before .before .before .before in
-    lent-size (at-start .args .word .now) (at-start .args .tables .now) (at-start .args .out .now) (drop (6 * (length (at-start .args .word .now) + 1)) (at-start .args .tables .now)) (at-fill .fill .ensures)
+    lent-size (at-start .args .word .now) _ (at-fill .fill .ensures)
 
 file-size-requires : tie.Need-file-size-requires
 file-size-requires c κs =
@@ -70,7 +70,7 @@ file-size-requires c κs =
     let at-if2 = at-fill .before .before .before in
     let at-if1 = at-if2 .before in
     let at-start = at-if1 .before .before .before .before in
-    lent-tabled (at-start .args .word .now) (at-start .args .tables .now) (at-start .args .out .now) (drop (6 * (length (at-start .args .word .now) + 1)) (at-start .args .tables .now)) (at-fill .fill .ensures) (at-if1 .if1 .left) (omega (arith, word-limit, at-if2 .if2 .left))
+    lent-tabled (at-start .args .word .now) _ (at-fill .fill .ensures) (at-if1 .if1 .left) (omega (arith, word-limit, at-if2 .if2 .left))
 
 slice-relend-prefix-clear : tie.Need-slice-relend-prefix-clear
 slice-relend-prefix-clear c = search needs
@@ -79,7 +79,7 @@ slice-aggregate-clear : tie.Need-slice-aggregate-clear
 slice-aggregate-clear c =
     let at-fill = c .before .before .before .before .before .before in
     let at-start = at-fill .before .before .before .before .before .before .before .before in
-    lent-size (at-start .args .word .now) (at-start .args .tables .now) (at-start .args .out .now) (drop (6 * (length (at-start .args .word .now) + 1)) (at-start .args .tables .now)) (at-fill .fill .ensures)
+    lent-size (at-start .args .word .now) _ (at-fill .fill .ensures)
 
 clear-requires : tie.Need-clear-requires
 clear-requires c κs = search needs
@@ -97,7 +97,7 @@ returns-4 c =
     let at-if2 = at-if3 .before in
     let at-if1 = at-if2 .before in
     let at-start = at-if1 .before .before .before .before in
-    wiped (at-start .args .word .now) (at-start .args .tables .now) (at-start .args .out .now) (drop (6 * (length (at-start .args .word .now) + 1)) (at-start .args .tables .now)) (at-fill .fill .ensures) (at-clear .clear .ensures) ∙ sym (says-full (at-start .args .word .now) (at-start .args .tables .now) (at-start .args .out .now) (at-if1 .if1 .left) (omega (arith, word-limit, at-if2 .if2 .left)) (at-if3 .if3 .left) (omega (arith, at-file-size .file-size .ensures, at-if4 .if4 .taken)))
+    wiped _ _ (at-fill .fill .ensures) _ (at-clear .clear .ensures) ∙ sym (says-full _ _ _ (at-if1 .if1 .left) (omega (arith, word-limit, at-if2 .if2 .left)) (at-if3 .if3 .left) (omega (arith, at-file-size .file-size .ensures, at-if4 .if4 .taken)))
 
 slice-reshare-prefix-write-file : tie.Need-slice-reshare-prefix-write-file
 slice-reshare-prefix-write-file c = search needs
@@ -106,7 +106,7 @@ slice-aggregate-write-file : tie.Need-slice-aggregate-write-file
 slice-aggregate-write-file c =
     let at-fill = c .before .before .before .before .before .before in
     let at-start = at-fill .before .before .before .before .before .before .before .before in
-    lent-size (at-start .args .word .now) (at-start .args .tables .now) (at-start .args .out .now) (drop (6 * (length (at-start .args .word .now) + 1)) (at-start .args .tables .now)) (at-fill .fill .ensures)
+    lent-size (at-start .args .word .now) _ (at-fill .fill .ensures)
 
 write-file-requires : tie.Need-write-file-requires
 write-file-requires c κs =
@@ -116,7 +116,7 @@ write-file-requires c κs =
     let at-if2 = at-fill .before .before .before in
     let at-if1 = at-if2 .before in
     let at-start = at-if1 .before .before .before .before in
-    (lent-tabled (at-start .args .word .now) (at-start .args .tables .now) (at-start .args .out .now) (drop (6 * (length (at-start .args .word .now) + 1)) (at-start .args .tables .now)) (at-fill .fill .ensures) (at-if1 .if1 .left) (omega (arith, word-limit, at-if2 .if2 .left)), omega (arith, at-file-size .file-size .ensures, at-if4 .if4 .left))
+    (lent-tabled (at-start .args .word .now) _ (at-fill .fill .ensures) (at-if1 .if1 .left) (omega (arith, word-limit, at-if2 .if2 .left)), omega (arith, at-file-size .file-size .ensures, at-if4 .if4 .left))
 
 same-length-2 : tie.Need-same-length-2
 same-length-2 c = search needs
@@ -134,7 +134,7 @@ returns-5 c =
     let at-if2 = at-if3 .before in
     let at-if1 = at-if2 .before in
     let at-start = at-if1 .before .before .before .before in
-    put-out (at-start .args .word .now) (at-start .args .tables .now) (at-start .args .out .now) (drop (6 * (length (at-start .args .word .now) + 1)) (at-start .args .tables .now)) (at-fill .fill .ensures) (at-file-size .file-size .ensures) (at-write-file .write-file .ensures) ∙ sym (says-done (at-start .args .word .now) (at-start .args .tables .now) (at-start .args .out .now) (at-if1 .if1 .left) (omega (arith, word-limit, at-if2 .if2 .left)) (at-if3 .if3 .left) (omega (arith, at-file-size .file-size .ensures, at-if4 .if4 .left)))
+    put-out _ _ (at-fill .fill .ensures) _ (at-file-size .file-size .ensures) (at-write-file .write-file .ensures) ∙ sym (says-done _ _ _ (at-if1 .if1 .left) (omega (arith, word-limit, at-if2 .if2 .left)) (at-if3 .if3 .left) (omega (arith, at-file-size .file-size .ensures, at-if4 .if4 .left)))
 
 pub save-spec : {M : Type 1} → statement M
 save-spec =

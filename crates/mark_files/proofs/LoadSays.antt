@@ -24,11 +24,12 @@ use Rattle.loaded.specs.Answers.{verdictOf}
 use Rattle.loaded.specs.Cases.{FrontCase, VerdictCase}
 use Rattle.loaded.proofs.Fronts.{LettersIn, front-letters}
 use Rattle.loaded.proofs.Theorems.{front-is, verdict-is}
-use Rattle.marks.specs.declared.Loaded.{Loaded}
-use Rattle.marks.specs.declared.Loaded.the-variants.{Done, Refused}
-use Rattle.marks.specs.Answers.{Answer, done, refused, shortRoom}
-use Rattle.marks.specs.Load.{Outcome, outcome, answerOf, loadedAs, judged, loadSays}
-use Rattle.marks.specs.Cases.{LoadCase, AfterRefusal}
+use Rattle.answers.specs.declared.SizeAnswer.{SizeAnswer}
+use Rattle.answers.specs.declared.SizeAnswer.the-variants.{Done}
+use Rattle.answers.specs.Answers.{Answer, done, refused, shortRoom}
+use Rattle.answers.proofs.Answers.{done-not-refused, size-answer-one}
+use Rattle.mark_files.specs.Load.{Outcome, outcome, loadedAs, judged, loadSays}
+use Rattle.mark_files.specs.Cases.{LoadCase, AfterRefusal}
 
 module _ (file R T : List ℕ) where
   -- ── Its cases, in the order of the tests ─────────────────────────────────
@@ -124,7 +125,7 @@ module _ (file R T : List ℕ) where
       by (LoadCase.head-refused f) e = AfterRefusal.unchanged
       by (LoadCase.short-room f r) e = AfterRefusal.unchanged
       by (LoadCase.arrows-refused f h t v) e = AfterRefusal.zeroed h t
-      by (LoadCase.accepted f h t v) e = let z : _≡_ {A = ℕ} 0 1 = cc in absurd (omega arith)
+      by (LoadCase.accepted f h t v) e = done-not-refused e
 
 -- ── In the word's part of the rooms ────────────────────────────────────────
 
@@ -163,7 +164,7 @@ module _ (file R T : List ℕ) {m i : ℕ} (shown : front file ≡ letters m i) 
   pub lent-sized : ((i + length (take m R) ≤ length file) × (length (take (room m) T) ≡ 6 * (length (take m R) + 1))) × ((1 ≤ length (take m R)) × (length (take m R) < 65535))
   lent-sized = rw lent ((there .inside, length-take-le (room m) T enough), (there .least, omega (arith, there .most, words-fit)))
 
-  pub given-back : (r : Loaded) {R′ T′ : List ℕ}
+  pub given-back : (r : SizeAnswer) {R′ T′ : List ℕ}
       → loadedAs r R′ T′ ≡ judged (verdict file (i + length (take m R)) (part file i (length (take m R)))) (part file i (length (take m R)))
       → loadedAs r (R′ ++ drop m R) (T′ ++ drop (room m) T) ≡ loadSays file R T
   given-back r e = ap (put file R T m) (rw lent at e) ∙ sym (says-judged file R T m i shown fits enough)
@@ -192,23 +193,16 @@ loaded-stands file R T (LoadCase.accepted {m = m} {i = i} f h t v) =
       table = take-at (tableOf w) (drop (room m) T) (room m) table-sized ∙ ap tableOf (sym (take-at w (drop m R) m size));
     }
 
-pub told-stands : (file R T : List ℕ) {said : Loaded} {R′ T′ : List ℕ} → loadedAs said R′ T′ ≡ loadSays file R T → {m : ℕ} → said ≡ Done m
+pub told-stands : (file R T : List ℕ) {said : SizeAnswer} {R′ T′ : List ℕ} → loadedAs said R′ T′ ≡ loadSays file R T → {m : ℕ} → said ≡ Done m
     → Standing m R′ T′
 told-stands file R T {said} {R′} {T′} told e =
-    loaded-stands file R T (load-is file R T _ .0 (sym told ∙ ap (λ (s : Loaded). loadedAs s R′ T′) e))
+    loaded-stands file R T (load-is file R T _ .0 (sym told ∙ ap (λ (s : SizeAnswer). loadedAs s R′ T′) e))
 
 -- ── One outcome ────────────────────────────────────────────────────────────
 
--- different answers of the code mean different things
-answer-one : (r s : Loaded) → answerOf r ≡ answerOf s → r ≡ s
-answer-one (Done a) (Done b) e = cc
-answer-one (Done a) (Refused b) e = cc
-answer-one (Refused a) (Done b) e = cc
-answer-one (Refused a) (Refused b) e = cc
-
 -- two outcomes that the promise of load allows are equal
-pub load-one : (file R T : List ℕ) (r s : Loaded) (A B C D : List ℕ) → loadedAs r A C ≡ loadSays file R T
+pub load-one : (file R T : List ℕ) (r s : SizeAnswer) (A B C D : List ℕ) → loadedAs r A C ≡ loadSays file R T
     → loadedAs s B D ≡ loadSays file R T → (r ≡ s) × (A ≡ B) × (C ≡ D)
 load-one file R T r s A B C D e f =
     let g : loadedAs r A C ≡ loadedAs s B D = e ∙ sym f in
-    (answer-one r s (ap (λ o. o .answer) g), ap (λ o. o .word) g, ap (λ o. o .tables) g)
+    (size-answer-one r s (ap (λ o. o .answer) g), ap (λ o. o .word) g, ap (λ o. o .tables) g)

@@ -14,32 +14,28 @@ use lib.Dec.{ltb}
 use Rattle.words.specs.Words.{Word, Place, mirror, occurrences}
 use Rattle.words.specs.Limits.{longestText}
 use Rattle.finds.specs.Finds.{filled}
-use Rattle.marks.specs.declared.FileSearched.{FileSearched}
-use Rattle.marks.specs.declared.FileSearched.the-variants.{Done, Refused}
-use Rattle.marks.specs.Answers.{Answer, done, refused, longText}
-use Rattle.marks.specs.Search.{Found, found}
-use Rattle.marks.specs.Load.{loadSays}
+use Rattle.finds.specs.declared.Tally.{Tally}
+use Rattle.answers.specs.declared.TallyAnswer.{TallyAnswer}
+use Rattle.answers.specs.Answers.{Answer, done, refused, refusedAt, tallyAnswer, longText}
+use Rattle.marks.specs.Search.{found}
+use Rattle.mark_files.specs.Load.{loadSays}
 
 pub record Outcome : Type 0 where
-  pub answer : Answer Found
+  pub answer : Answer Tally
   pub word : List ℕ
   pub tables : List ℕ
   pub finds : List Place
 
-abbrev pub outcome : Answer Found → List ℕ → List ℕ → List Place → Outcome
+abbrev pub outcome : Answer Tally → List ℕ → List ℕ → List Place → Outcome
 outcome a R T F = record { answer = a; word = R; tables = T; finds = F }
 
--- each case of the code's answer, as 01 lists it
-abbrev pub answerOf : FileSearched → Answer Found
-answerOf (Done t) = done (record { count = t .count; letters = t .letters })
-answerOf (Refused n) = refused n
-
-abbrev pub fileSearched : FileSearched → List ℕ → List ℕ → List Place → Outcome
-fileSearched r R T F = outcome (answerOf r) R T F
+abbrev pub fileSearched : TallyAnswer → List ℕ → List ℕ → List Place → Outcome
+fileSearched r R T F = outcome (tallyAnswer r) R T F
 
 -- the file is loaded: its word has m letters and stands at the start of R
 abbrev pub afterLoad : Answer ℕ → Word → List ℕ → List ℕ → List Place → Outcome
 afterLoad (refused n) text R T F = outcome (refused n) R T F
+afterLoad (refusedAt n p) text R T F = outcome (refusedAt n p) R T F
 afterLoad (done m) text R T F =
     let word = mirror (take m R) in
     outcome (done (found word text)) R T (filled (occurrences word text) F)
