@@ -10,8 +10,9 @@ use lib.ListN.{length}
 use lib.Dec.{eqb, leb, ltb}
 use borrow.Author.Tests.{eqb-true, eqb-false, leb-true, leb-false, ltb-true, ltb-false, eq-eqb, ne-eqb, le-leb, lt-leb, lt-ltb, le-ltb}
 use Rattle.words.specs.Words.{Word, Place}
-use Rattle.words.specs.Limits.{longestWord}
+use Rattle.words.specs.Limits.{leastSaved, longestWord}
 use Rattle.words.proofs.Lists.{and-true}
+use Rattle.words.proofs.Limits.{least-below-longest}
 use Rattle.number.specs.declared.Number.{Number}
 use Rattle.number.specs.declared.Number.the-variants.{Value, Refused}
 use Rattle.number.specs.Number.{numberAt}
@@ -56,10 +57,13 @@ module _ {A : Type 0} (P : A → Type 0) where
   most-case : (a b : ℕ) {x y : A} → (a ≤ b → P x) → (b < a → P y) → P (cond (leb a b) x y)
   most-case a b f g = test-case (leb a b) (λ t. f (leb-true a b t)) (λ t. g (leb-false a b t))
 
-  length-case : (m : ℕ) {x y : A} → (1 ≤ m → m ≤ longestWord → P x) → (BadLength m → P y) → P (cond (leb 1 m && leb m longestWord) x y)
-  length-case zero f g = g (inl refl)
-  length-case (suc m) f g =
-      rw (le-leb 1 (suc m) (omega arith)) (most-case (suc m) longestWord (λ h. f (omega arith) h) (λ h. g (inr h)))
+  length-case : (m : ℕ) {x y : A} → (leastSaved ≤ m → m ≤ longestWord → P x) → (BadLength m → P y)
+      → P (cond (leb leastSaved m && leb m longestWord) x y)
+  length-case m {x} {y} f g = by (leb leastSaved m) refl
+    where
+      by : (b : Bool) → leb leastSaved m ≡ b → P (cond (b && leb m longestWord) x y)
+      by true e = most-case m longestWord (f (leb-true leastSaved m e)) (λ h. g (inr h))
+      by false e = g (inl (leb-false leastSaved m e))
 
 -- whether two numbers are those of the arrow t
 module _ (a b : ℕ) (t : Step) where
@@ -95,12 +99,13 @@ module _ (s : List ℕ) where
   case-front (edition-unread u) = rw (unread u)
   case-front (edition-other {e = e} h d) = rw (h, ne-eqb e edition d)
   case-front (length-unread h u) = rw (h, eq-eqb edition edition refl, unread u)
-  case-front (length-bad {m = m} h k (inl z)) = rw (h, eq-eqb edition edition refl, k, lt-leb 1 m (omega arith))
-  case-front (length-bad {m = m} h k (inr z)) = rw (h, eq-eqb edition edition refl, k, le-leb 1 m (omega arith), lt-leb m longestWord z)
+  case-front (length-bad {m = m} h k (inl z)) = rw (h, eq-eqb edition edition refl, k, lt-leb leastSaved m z)
+  case-front (length-bad {m = m} h k (inr z)) =
+      rw (h, eq-eqb edition edition refl, k, le-leb leastSaved m (omega (arith, least-below-longest)), lt-leb m longestWord z)
   case-front (letters-missing {m = m} {j = j} h k a b c) =
-      rw (h, eq-eqb edition edition refl, k, le-leb 1 m a, le-leb m longestWord b, lt-leb (j + m) (length s) c)
+      rw (h, eq-eqb edition edition refl, k, le-leb leastSaved m a, le-leb m longestWord b, lt-leb (j + m) (length s) c)
   case-front (letters-there {m = m} {j = j} h k a b c) =
-      rw (h, eq-eqb edition edition refl, k, le-leb 1 m a, le-leb m longestWord b, le-leb (j + m) (length s) c)
+      rw (h, eq-eqb edition edition refl, k, le-leb leastSaved m a, le-leb m longestWord b, le-leb (j + m) (length s) c)
 
   -- ── The arrows ───────────────────────────────────────────────────────────
 

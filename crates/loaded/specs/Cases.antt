@@ -18,7 +18,7 @@ use mathlib.Core.List.{List, [], _∷_}
 use Prim.Native.Nat.{ℕ, zero, suc, _+_, _-_, _≤_, _<_}
 use lib.ListN.{length}
 use Rattle.words.specs.Words.{Word, Place}
-use Rattle.words.specs.Limits.{longestWord}
+use Rattle.words.specs.Limits.{leastSaved, longestWord}
 use Rattle.number.specs.declared.Number.the-variants.{Value, Refused}
 use Rattle.number.specs.Number.{numberAt}
 use Rattle.saved.specs.File.{edition, Step, ownSteps}
@@ -36,17 +36,17 @@ pub data Unread (s : List ℕ) (i : Place) : ℕ → Place → Type 0 where
 -- ── Up to the letters ──────────────────────────────────────────────────────
 
 abbrev pub BadLength : ℕ → Type 0
-BadLength m = (m ≡ 0) ⊎ (longestWord < m)
+BadLength m = (m < leastSaved) ⊎ (longestWord < m)
 
 pub data FrontCaseAt (s : List ℕ) (o : Place) : Front → Type 0 where
   edition-unread : {r : ℕ} {p : Place} → Unread s o r p → FrontCaseAt s o (stop r p)
   edition-other : {e : ℕ} {i : Place} → Reads s o e i → (e ≡ edition → ⊥) → FrontCaseAt s o (stop 7 o)
   length-unread : {i : Place} {r : ℕ} {p : Place} → Reads s o edition i → Unread s i r p → FrontCaseAt s o (stop r p)
   length-bad : {i : Place} {m : ℕ} {j : Place} → Reads s o edition i → Reads s i m j → BadLength m → FrontCaseAt s o (stop 8 i)
-  letters-missing : {i : Place} {m : ℕ} {j : Place} → Reads s o edition i → Reads s i m j → 1 ≤ m → m ≤ longestWord → length s < j + m
-      → FrontCaseAt s o (stop 5 (length s))
-  letters-there : {i : Place} {m : ℕ} {j : Place} → Reads s o edition i → Reads s i m j → 1 ≤ m → m ≤ longestWord → j + m ≤ length s
-      → FrontCaseAt s o (letters m j)
+  letters-missing : {i : Place} {m : ℕ} {j : Place} → Reads s o edition i → Reads s i m j → leastSaved ≤ m → m ≤ longestWord
+      → length s < j + m → FrontCaseAt s o (stop 5 (length s))
+  letters-there : {i : Place} {m : ℕ} {j : Place} → Reads s o edition i → Reads s i m j → leastSaved ≤ m → m ≤ longestWord
+      → j + m ≤ length s → FrontCaseAt s o (letters m j)
 
 abbrev pub FrontCase : List ℕ → Front → Type 0
 FrontCase s = FrontCaseAt s 0

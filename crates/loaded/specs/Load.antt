@@ -23,7 +23,7 @@ use Prim.Native.Nat.{ℕ, zero, suc, _+_, _-_}
 use lib.ListN.{length}
 use lib.Dec.{eqb, leb, ltb}
 use Rattle.words.specs.Words.{Word}
-use Rattle.words.specs.Limits.{longestWord}
+use Rattle.words.specs.Limits.{leastSaved, longestWord}
 use Rattle.number.specs.declared.Number.{Number}
 use Rattle.number.specs.declared.Number.the-variants.{Value, Refused}
 use Rattle.number.specs.Number.{numberAt}
@@ -46,7 +46,8 @@ pub data Front : Type 0 where
 
 abbrev pub lettersAt : List ℕ → ℕ → Front
 lettersAt s i =
-    field s i stop (λ m j. cond (leb 1 m && leb m longestWord) (cond (leb (j + m) (length s)) (letters m j) (stop 5 (length s))) (stop 8 i))
+    field s i stop (λ m j.
+    cond (leb leastSaved m && leb m longestWord) (cond (leb (j + m) (length s)) (letters m j) (stop 5 (length s))) (stop 8 i))
 
 unfoldable pub frontAt : List ℕ → ℕ → Front
 frontAt s o = field s o stop (λ e i. cond (eqb e edition) (lettersAt s i) (stop 7 o))

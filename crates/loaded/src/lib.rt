@@ -32,7 +32,7 @@ fn read_letters(file: &[u8], c: Cursor) -> Head
         Number::Refused(why, place) => Head::Stop(why, place),
         Number::Value(size, next) => {
             let m = size as usize;
-            if !((1 <= m) & (m <= words::WORD_LIMIT)) {
+            if !((words::LEAST_SAVED <= m) & (m <= words::WORD_LIMIT)) {
                 return Head::Stop(8, c.at);
             }
             if file.len() - next.at < m {

@@ -4,8 +4,8 @@ use Prim.Native.Nat.{_+_, _*_, _≤_, _<_}
 use native.Mathlib.Omega.{arith}
 use lib.ListN.{length}
 use Rattle.words.specs.Words.{Word}
-use Rattle.words.specs.Limits.{longestWord}
-use Rattle.words.proofs.Limits.{word-limit}
+use Rattle.words.specs.Limits.{longestWord, greatestFile}
+use Rattle.words.proofs.Limits.{words-fit, file-room}
 use Rattle.number.proofs.Theorems.{spelling-short}
 use Rattle.saved.specs.File.{spell}
 use Rattle.saved.proofs.Spelled.{file-most}
@@ -16,5 +16,5 @@ module _ (p : Word) (some : 1 ≤ length p) where
   size-linear h = omega (arith, file-most {w = 2} (λ v b. spelling-short v (omega arith)) p refl some)
 
   -- so for every word within the limit
-  pub size-most : length p ≤ longestWord → length (spell p) ≤ 5121
-  size-most h = omega (arith, word-limit, size-linear (omega (arith, word-limit)))
+  pub size-most : length p ≤ longestWord → length (spell p) ≤ greatestFile
+  size-most h = omega (arith, file-room, size-linear (omega (arith, words-fit)))
