@@ -16,7 +16,7 @@ use Rattle.words.proofs.Limits.{least-below-longest}
 use Rattle.number.specs.declared.Number.{Number}
 use Rattle.number.specs.declared.Number.the-variants.{Value, Refused}
 use Rattle.number.specs.Number.{numberAt}
-use Rattle.number.proofs.Theorems.{number-at-refused}
+use Rattle.number.proofs.Theorems.{Refusal, number-at-refused, cut-exactly, bad-exactly}
 use Rattle.saved.specs.File.{edition, Step, ownSteps}
 use Rattle.loaded.specs.Load.{taking, field, Front, stop, frontAt, neither, twoAt, nextIs, compared}
 use Rattle.loaded.specs.Load.{Ending, behind, broken, arrowsAt, ending, Verdict, closed, verdict}
@@ -28,16 +28,17 @@ use Rattle.loaded.specs.Cases.{VerdictCase, arrows-wrong, leftovers, all
 
 -- ── A number ───────────────────────────────────────────────────────────────
 
-unread : {s : List ℕ} {i : Place} {r : ℕ} {p : Place} → Unread s i r p → numberAt s i ≡ Refused r p
-unread (cut-off e) = e
-unread (bad-byte e) = e
+module _ (s : List ℕ) (i : Place) where
+  pub unread : {r : ℕ} {p : Place} → Unread s i r p → numberAt s i ≡ Refused r p
+  unread (cut-off c) = cut-exactly s i .1 c
+  unread (bad-byte {p = p} b) = bad-exactly s i p .1 b
 
-refused-unread : (s : List ℕ) (i : Place) {r : ℕ} {p : Place} → numberAt s i ≡ Refused r p → Unread s i r p
-refused-unread s i {r} {p} e = by (number-at-refused s i e)
-  where
-    by : ((r ≡ 5) × (p ≡ length s)) ⊎ ((r ≡ 6) × (i ≤ p) × (p < length s)) → Unread s i r p
-    by (inl q) = rw (q .0, q .1) (cut-off (rw (q .0, q .1) at e))
-    by (inr q) = rw (q .0) (bad-byte (rw (q .0) at e))
+  pub refused-unread : {r : ℕ} {p : Place} → numberAt s i ≡ Refused r p → Unread s i r p
+  refused-unread {r} {p} e = by (number-at-refused s i e)
+    where
+      by : Refusal s i r p → Unread s i r p
+      by (inl q) = rw (q .0, q .1) (cut-off (q .2))
+      by (inr q) = rw (q .0) (bad-byte (q .1))
 
 -- ── Fields and tests, by cases ─────────────────────────────────────────────
 
@@ -96,9 +97,9 @@ module _ (s : List ℕ) where
   -- and every way that applies leads there
   pub case-front : {o : Place} {f : Front} → FrontCaseAt s o f → frontAt s o ≡ f
   unfolding frontAt
-  case-front (edition-unread u) = rw (unread u)
+  case-front (edition-unread u) = rw (unread s _ u)
   case-front (edition-other {e = e} h d) = rw (h, ne-eqb e edition d)
-  case-front (length-unread h u) = rw (h, eq-eqb edition edition refl, unread u)
+  case-front (length-unread h u) = rw (h, eq-eqb edition edition refl, unread s _ u)
   case-front (length-bad {m = m} h k (inl z)) = rw (h, eq-eqb edition edition refl, k, lt-leb leastSaved m z)
   case-front (length-bad {m = m} h k (inr z)) =
       rw (h, eq-eqb edition edition refl, k, le-leb leastSaved m (omega (arith, least-below-longest)), lt-leb m longestWord z)
@@ -135,8 +136,8 @@ module _ (s : List ℕ) where
   pub case-arrows : {i : Place} {n : ℕ} {l : List Step} {e : Ending} → ArrowsCase s i n l e → arrowsAt s i n l ≡ e
   unfolding arrowsAt twoAt
   case-arrows (arrow-agrees {t = t} h g c) = rw (h, g, eq-eqb (t .up) (t .up) refl, eq-eqb (t .over) (t .over) refl) (case-arrows c)
-  case-arrows (up-unread u) = rw (unread u)
-  case-arrows (over-unread h u) = rw (h, unread u)
+  case-arrows (up-unread u) = rw (unread s _ u)
+  case-arrows (over-unread h u) = rw (h, unread s _ u)
   case-arrows (arrow-differs {a = a} {b = b} {t = t} h g d) = rw (h, g, differs-next a b t d)
   case-arrows (no-arrow-left h g) = rw (h, g)
   case-arrows arrows-missing = refl
@@ -154,7 +155,7 @@ module _ (s : List ℕ) where
   -- and every way that applies leads there
   pub case-ending : {i : Place} {w : Word} {e : Ending} → EndingCase s i w e → ending s i w ≡ e
   unfolding ending
-  case-ending (count-unread u) = rw (unread u)
+  case-ending (count-unread u) = rw (unread s _ u)
   case-ending {w = w} (count-too-large {n = n} h g) = rw (h, lt-leb n (length w - 1) g)
   case-ending {w = w} (count-fits {n = n} h g c) = rw (h, le-leb n (length w - 1) g) (case-arrows c)
 
