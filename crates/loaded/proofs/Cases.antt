@@ -18,7 +18,7 @@ use Rattle.number.specs.declared.Number.the-variants.{Value, Refused}
 use Rattle.number.specs.Number.{numberAt}
 use Rattle.number.proofs.Theorems.{Refusal, number-at-refused, cut-exactly, bad-exactly}
 use Rattle.saved.specs.File.{edition, Step, ownSteps}
-use Rattle.loaded.specs.Load.{taking, field, Front, stop, frontAt, neither, twoAt, nextIs, compared}
+use Rattle.loaded.specs.Load.{taking, field, Front, stop, frontAt, neither, twoAt, nextIs, takingTwo}
 use Rattle.loaded.specs.Load.{Ending, behind, broken, arrowsAt, ending, Verdict, closed, verdict}
 use Rattle.loaded.specs.Cases.{Reads, Unread, cut-off, bad-byte}
 use Rattle.loaded.specs.Cases.{BadLength, FrontCaseAt, edition-unread, edition-other, length-unread, length-bad, letters-missing, letters-there}
@@ -113,11 +113,11 @@ module _ (s : List ℕ) where
   two-case : {C : Type 0} (P : C → Type 0) (i : Place) (off : ℕ → ℕ → C) (on : ℕ → ℕ → ℕ → C)
       → ((r : ℕ) (p : Place) → Unread s i r p → P (off r p))
       → ((a : ℕ) (j : Place) (r : ℕ) (p : Place) → Reads s i a j → Unread s j r p → P (off r p))
-      → ((a : ℕ) (j : Place) (b : ℕ) (k : Place) → Reads s i a j → Reads s j b k → P (on a b k)) → P (compared (twoAt s i) off on)
+      → ((a : ℕ) (j : Place) (b : ℕ) (k : Place) → Reads s i a j → Reads s j b k → P (on a b k)) → P (takingTwo (twoAt s i) off on)
   unfolding twoAt
   two-case P i off on f g h =
-      field-case (λ t. P (compared t off on)) s i neither _ f (λ a j x.
-      field-case (λ t. P (compared t off on)) s j neither _ (λ r p u. g a j r p x u) (λ b k y. h a j b k x y))
+      field-case (λ t. P (takingTwo t off on)) s i neither _ f (λ a j x.
+      field-case (λ t. P (takingTwo t off on)) s j neither _ (λ r p u. g a j r p x u) (λ b k y. h a j b k x y))
 
   -- some way leads to what is shown
   pub arrows-case : (i : Place) (n : ℕ) (l : List Step) → ArrowsCase s i n l (arrowsAt s i n l)

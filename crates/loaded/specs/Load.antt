@@ -81,13 +81,13 @@ abbrev pub none-left : List Step → Bool
 none-left [] = true
 none-left (s ∷ l) = false
 
-abbrev pub compared : {A : Type 0} → Two → (ℕ → ℕ → A) → (ℕ → ℕ → ℕ → A) → A
-compared (both a b k) off on = on a b k
-compared (neither r i) off on = off r i
+abbrev pub takingTwo : {A : Type 0} → Two → (ℕ → ℕ → A) → (ℕ → ℕ → ℕ → A) → A
+takingTwo (both a b k) off on = on a b k
+takingTwo (neither r i) off on = off r i
 
 unfoldable pub arrowsAt : List ℕ → ℕ → ℕ → List Step → Ending
 arrowsAt s i zero l = cond (none-left l) (behind i) (broken 10 i)
-arrowsAt s i (suc n) l = compared (twoAt s i) broken (λ a b k. cond (nextIs a b l) (arrowsAt s k n (later l)) (broken 10 i))
+arrowsAt s i (suc n) l = takingTwo (twoAt s i) broken (λ a b k. cond (nextIs a b l) (arrowsAt s k n (later l)) (broken 10 i))
 
 unfoldable pub ending : List ℕ → ℕ → Word → Ending
 ending s i w = field s i broken (λ n j. cond (leb n (length w - 1)) (arrowsAt s j n (ownSteps w)) (broken 9 i))

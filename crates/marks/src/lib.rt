@@ -140,8 +140,8 @@ fn take_word(file: &[u8], at: usize, room: &mut [u8], table: &mut [u16]) -> Load
     table::fill(&file[at..end], table);
     let said = loaded::compare(&file[at..end], table, file, end);
     match said {
-        loaded::Verdict::Right => Loaded::Done(m),
-        loaded::Verdict::Wrong(why, place) => {
+        loaded::Compared::Right => Loaded::Done(m),
+        loaded::Compared::Wrong(why, place) => {
             clear(room);
             table::clear(table);
             Loaded::Refused(why)
