@@ -9,13 +9,13 @@ use lib.ListN.{length, take, drop, length-drop, length-append}
 use lib.Seq.{take-append-seam, drop-append-seam, drop-drop}
 use borrow.Author.Tests.{lt-ltb, le-ltb}
 use Rattle.words.specs.Words.{Word, Place}
-use Rattle.words.specs.Limits.{longestWord}
-use Rattle.words.proofs.Limits.{words-fit}
+use Rattle.words.specs.Limits.{leastSaved, longestWord}
+use Rattle.words.proofs.Limits.{saved-some, words-fit}
 use Rattle.oracle.specs.Arrows.{State}
 use Rattle.oracle.specs.FileOrder.{Extra, fileArrows}
 use Rattle.oracle.proofs.FileArrows.{file-arrow-climbs}
 use Rattle.number.specs.Number.{greatest, spellNumber}
-use Rattle.saved.specs.File.{edition, stepsFrom, spellSteps, ownSteps, spell}
+use Rattle.saved.specs.File.{edition, stepsFrom, spellSteps, ownSteps, body, spell}
 use Rattle.saved.proofs.Slots.{own-few}
 use Rattle.loaded.specs.Load.{Ending, behind, Verdict, wrong, closed, verdict}
 use Rattle.loaded.specs.Accepts.{ShownAt, Judged, Accepts}
@@ -57,7 +57,7 @@ arrows-spelled s i x (a ∷ l) p r small e size =
 -- a word's file with l behind it
 pub spell-append : (w : Word) (l : List ℕ)
     → spell w ++ l ≡ spellNumber edition ++ (spellNumber (length w) ++ (w ++ (spellNumber (length (ownSteps w)) ++ (spellSteps (ownSteps w) ++ l))))
-unfolding spell
+unfolding spell body
 spell-append w l =
     let a = spellNumber edition in
     let b = spellNumber (length w) in
@@ -66,18 +66,19 @@ spell-append w l =
     append-assoc a (b ++ (w ++ (c ++ d))) l
     ∙ ap (λ (z : List ℕ). a ++ z) (append-assoc b (w ++ (c ++ d)) l ∙ ap (λ (z : List ℕ). b ++ z) (append-assoc w (c ++ d) l ∙ ap (λ (z : List ℕ). w ++ z) (append-assoc c d l)))
 
-module _ (w : Word) (least : 1 ≤ length w) (most : length w ≤ longestWord) where
+module _ (w : Word) (least : leastSaved ≤ length w) (most : length w ≤ longestWord) where
   arrows-small : (a : Extra) → List·Memᴰ a (fileArrows w) → (a .source ≤ greatest) × (a .to ≤ greatest)
   arrows-small a m = let r = file-arrow-climbs w m in (omega (arith, words-fit, r .climbs, r .inside), omega (arith, words-fit, r .inside))
 
   -- the word's file, from place o on and with l behind it, is read to its end
   pub spelled-shown : (s : List ℕ) (o : Place) (l : List ℕ) → drop o s ≡ spell w ++ l → ShownAt s o w (behind (o + length (spell w)))
-  unfolding spell ownSteps
+  unfolding spell body ownSteps
   spelled-shown s o l e =
       let first = reads-spelled s o edition edition-small (e ∙ spell-append w l) in
       let second = reads-spelled s (first .next) (length w) (omega (arith, words-fit)) (first .rest) in
       let i = second .next in
-      let there : i + length w ≤ length s = omega (arith, simp (length-drop, length-append) at (ap {B = ℕ} length (second .rest))) in
+      let there : i + length w ≤ length s =
+      omega (arith, saved-some, simp (length-drop, length-append) at (ap {B = ℕ} length (second .rest))) in
       let after = sym (drop-drop (length w) i s) ∙ ap (drop (length w)) (second .rest) ∙ drop-append-seam w _ in
       let few = own-few w in
       let counted = reads-spelled s (i + length w) (length (ownSteps w)) (omega (arith, words-fit)) after in

@@ -15,7 +15,7 @@ use Rattle.saved.specs.File.{Step, stepsFrom, ownSteps}
 use Rattle.saved.specs.Stepping.{stepsAhead, Standing, Leapt}
 use Rattle.saved.specs.declared.Leap.{Leap}
 use Rattle.saved.proofs.Slots.{steps-length, stand-start}
-use Rattle.loaded.specs.Load.{both, neither, twoAt, Ending, behind, broken, nextIs, later, none-left, compared, arrowsAt}
+use Rattle.loaded.specs.Load.{both, neither, twoAt, Ending, behind, broken, nextIs, later, none-left, takingTwo, arrowsAt}
 
 -- ── One arrow ──────────────────────────────────────────────────────────────
 
@@ -28,7 +28,7 @@ module _ (s : List ℕ) (i : ℕ) (l : List Step) where
 
   -- one is
   arrows-some : (n : ℕ) → 0 < n
-      → arrowsAt s i n l ≡ compared (twoAt s i) broken (λ a b k. cond (nextIs a b l) (arrowsAt s k (n - 1) (later l)) (broken 10 i))
+      → arrowsAt s i n l ≡ takingTwo (twoAt s i) broken (λ a b k. cond (nextIs a b l) (arrowsAt s k (n - 1) (later l)) (broken 10 i))
   unfolding arrowsAt
   arrows-some zero h = absurd (omega arith)
   arrows-some (suc n) h = let e : suc n - 1 ≡ n = omega arith in simp e

@@ -12,7 +12,7 @@ use Rattle.words.specs.Words.{Word, Place, part}
 use Rattle.words.proofs.Words.{part-length, part-at}
 use Rattle.number.specs.Number.{Bytes, spellNumber}
 use Rattle.number.proofs.Theorems.{number-at-stood}
-use Rattle.saved.specs.File.{edition, Step, spellSteps, ownSteps, spell}
+use Rattle.saved.specs.File.{edition, Step, spellSteps, ownSteps, spell, Savable}
 use Rattle.loaded.specs.Load.{letters, behind, right}
 use Rattle.loaded.specs.Accepts.{ShownAt, Accepts, FileOf}
 use Rattle.loaded.specs.Cases.{Reads, FrontCaseAt, letters-there, ArrowsCase, arrow-agrees, all-agree, EndingCase, count-fits, VerdictCase, all-read}
@@ -54,7 +54,7 @@ module _ (s : List ℕ) (bytes : Bytes s) where
 
   -- the file of w stands in s from place o on, and r behind it
   pub record StoodAt (o : Place) (w : Word) (r : List ℕ) : Type 0 where
-    pub file : FileOf (spell w) w
+    pub savable : Savable w
     pub there : drop o s ≡ spell w ++ r
 
   front-stood : {o : Place} {m i : ℕ} {w : Word} {r : List ℕ} → FrontCaseAt s o (letters m i) → w ≡ part s i m
@@ -67,7 +67,7 @@ module _ (s : List ℕ) (bytes : Bytes s) where
       let joined : drop o s ≡ spellNumber edition ++ (spellNumber (length w) ++ (w ++ (count ++ (own ++ r)))) =
       stood o h ∙ rw (stood k g, split, d, n, append-assoc count own r) in
       record {
-        file = record { bytes = rw e (letters-bytes i m there); least = omega arith; most = omega arith; file = refl };
+        savable = record { bytes = rw e (letters-bytes i m there); least = omega arith; most = omega arith };
         there = joined ∙ sym (spell-append w r);
       }
 
@@ -85,5 +85,4 @@ module _ (s : List ℕ) (bytes : Bytes s) where
       by : VerdictCase s (a .place + length w) w right → FileOf s w
       by (all-read {p = p} c h) =
           let S = shown-stood (record { place = a .place; shown = a .shown; word = a .word; judged = case-ending s c }) in
-          let f = S .file in
-          record { bytes = f .bytes; least = f .least; most = f .most; file = S .there ∙ ap (λ z. spell w ++ z) (drop-of-length-le s h) ∙ append-nil (spell w) }
+          record { savable = S .savable; file = S .there ∙ ap (λ z. spell w ++ z) (drop-of-length-le s h) ∙ append-nil (spell w) }

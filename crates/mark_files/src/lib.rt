@@ -62,8 +62,8 @@ fn take_word(file: &[u8], at: usize, room: &mut [u8], table: &mut [u16]) -> Size
     table::fill(&file[at..end], table);
     let said = loaded::compare(&file[at..end], table, file, end);
     match said {
-        loaded::Verdict::Right => SizeAnswer::Done(m),
-        loaded::Verdict::Wrong(why, place) => {
+        loaded::Compared::Right => SizeAnswer::Done(m),
+        loaded::Compared::Wrong(why, place) => {
             clear(room);
             table::clear(table);
             SizeAnswer::Refused(Refusal::Numbered(why))

@@ -10,7 +10,7 @@ use lib.Seq.{sets, length-sets, sets-eq, drop-drop}
 use Rattle.words.specs.Words.{Word}
 use Rattle.oracle.specs.Arrows.{State}
 use Rattle.number.specs.Number.{spellNumber, written}
-use Rattle.saved.specs.File.{edition, spellSteps, ownSteps, spell}
+use Rattle.saved.specs.File.{edition, spellSteps, ownSteps, body, spell}
 use Rattle.saved.specs.Stepping.{stepsAhead, Standing, Leapt}
 use Rattle.saved.specs.declared.Leap.{Leap}
 use Rattle.saved.proofs.Slots.{stand-start}
@@ -100,7 +100,7 @@ module _ (p : Word) where
   fromSize = spellNumber (length p) ++ fromLetters
 
   from-edition : spell p ≡ spellNumber 1 ++ fromSize
-  unfolding spell edition
+  unfolding spell body edition
   from-edition = refl
 
   module _ (out : List ℕ) (h : length (spell p) ≤ length out) where

@@ -13,7 +13,7 @@ use Rattle.oracle.specs.FileOrder.{Extra, fileArrows}
 use Rattle.oracle.proofs.FileOrder.{extra-target, extra-before}
 use Rattle.number.specs.Number.{spellNumber}
 use Rattle.number.proofs.Theorems.{spelling-length, spelling-single}
-use Rattle.saved.specs.File.{edition, stepsFrom, spellSteps, ownSteps, spell}
+use Rattle.saved.specs.File.{edition, stepsFrom, spellSteps, ownSteps, body, spell}
 use Rattle.saved.specs.Stepping.{stepsAhead, Leapt}
 use Rattle.saved.specs.declared.Leap.{Leap}
 use Rattle.saved.proofs.Slots.{steps-length, own-few}
@@ -36,7 +36,7 @@ ahead-end p x s h = rw (drop-of-length-le (fileArrows p) {i = s} (omega (arith, 
 -- the edition takes one byte
 pub file-length : (p : Word) → length (spell p)
     ≡ 1 + (length (spellNumber (length p)) + (length p + (length (spellNumber (length (ownSteps p))) + length (spellSteps (ownSteps p)))))
-unfolding spell edition
+unfolding spell body edition
 file-length p = rw (spelling-single 1 (omega arith)) (simp length-append (omega arith))
 
 module _ {m w : ℕ} (narrow : (v : ℕ) → v ≤ m → length (spellNumber v) ≤ w) where

@@ -3,6 +3,7 @@ use mathlib.Core.Path.{sym, _∙_}
 use native.Mathlib.Omega.{arith}
 use borrow.Author.Tests.{not-true, not-false}
 use borrow.Author.Needs.{needs}
+use Rattle.words.proofs.Limits.{least-saved, word-limit}
 use Rattle.number.proofs.Theorems.{number-at-stood}
 use Rattle.number.specs.Number.{Bytes}
 use Rattle.loaded.proofs.Fronts.{shows-other-size, shows-cut, shows-letters}
@@ -25,7 +26,7 @@ returns : tie.Need-returns
 returns c =
     let at-declared2 = c .before .before in
     let at-number-at = at-declared2 .before .before in
-    shows-other-size _ _ (sym (at-number-at .number-at .ensures) ∙ at-declared2 .declared2 .given .1) (not-true _ (c .if1 .taken))
+    shows-other-size _ _ (sym (at-number-at .number-at .ensures) ∙ at-declared2 .declared2 .given .1) (rw (least-saved, word-limit) (not-true _ (c .if1 .taken)))
 
 sub-if2 : tie.Need-sub-if2
 sub-if2 c =
@@ -42,7 +43,7 @@ returns-2 c =
     let at-if1 = c .before .before in
     let at-declared2 = at-if1 .before .before in
     let at-number-at = at-declared2 .before .before in
-    shows-cut _ _ (sym (at-number-at .number-at .ensures) ∙ at-declared2 .declared2 .given .1) (not-false _ (at-if1 .if1 .left)) (c .if2 .taken)
+    shows-cut _ _ (sym (at-number-at .number-at .ensures) ∙ at-declared2 .declared2 .given .1) (rw (least-saved, word-limit) (not-false _ (at-if1 .if1 .left))) (c .if2 .taken)
 
 returns-3 : tie.Need-returns-3
 returns-3 c =
@@ -55,7 +56,7 @@ returns-4 c =
     let at-if1 = c .before .before in
     let at-declared2 = at-if1 .before .before in
     let at-number-at = at-declared2 .before .before in
-    shows-letters _ _ (sym (at-number-at .number-at .ensures) ∙ at-declared2 .declared2 .given .1) (not-false _ (at-if1 .if1 .left)) (c .if2 .left)
+    shows-letters _ _ (sym (at-number-at .number-at .ensures) ∙ at-declared2 .declared2 .given .1) (rw (least-saved, word-limit) (not-false _ (at-if1 .if1 .left))) (c .if2 .left)
 
 pub read-letters-spec : {M : Type 1} → statement M
 read-letters-spec =
