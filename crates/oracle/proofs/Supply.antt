@@ -1,5 +1,6 @@
 -- THE SUPPLY IS WHERE THE LONGEST REPEATED END LEADS, for every state of any automaton that has the record: first as numbers, then for the
--- definition that looks for that end.
+-- definition that looks for that end. The longest end that is not walked to k is walked to the supply of k. The longest repeated end is no
+-- longer, for repeated ends are walked below k, and leads no lower, for the supply's shortest word is a repeated end itself.
 use mathlib.Core.Path.{_≡_, refl, sym, ap, _∙_, fun-ext}
 use mathlib.Core.Bool.{Bool, true, false}
 use mathlib.Core.Logic.{inl, inr}
@@ -14,7 +15,8 @@ use lib.Seq.{take-length, length-take-le}
 use borrow.Author.Tests.{le-leb, leb-true}
 use Rattle.words.specs.Lists.{from, only, first}
 use Rattle.words.specs.Words.{Word, letter, part, same, stands, occurrences}
-use Rattle.words.proofs.Lists.{from-snoc, only-yes, only-append, only-in, in-only, from-in, in-from, member, filled, first-yes, first-not}
+use Rattle.words.proofs.Lists.{member, filled, from-snoc, from-in, in-from, only-yes, only-append, only-in, in-only, first-yes, first-not}
+use Rattle.words.proofs.Greatest.{Greatest, Least, greatest}
 use Rattle.words.proofs.Words.{part-of-part}
 use Rattle.words.proofs.Occurrences.{stands-part, part-stands}
 use Rattle.oracle.specs.Arrows.{State, Delta}
@@ -24,19 +26,13 @@ use Rattle.oracle.proofs.Chain.{Supplied, supply-below, Near}
 use Rattle.oracle.proofs.Reach.{reach, reach-0, reach-spine, reach-below, reach-near, reach-falls}
 use Rattle.oracle.proofs.SuffixRule.{suffix-rule-arrows}
 use Rattle.oracle.proofs.Walks.{factor-walk}
-use Rattle.oracle.proofs.Shortest.{Greatest, greatest, Shortest, shortest, Held, held, reach-same}
+use Rattle.oracle.proofs.Shortest.{Shortest, shortest, Held, held, reach-same}
 
 -- ── As numbers ─────────────────────────────────────────────────────────────
 
 -- the letters behind the first a, up to the first k, stand among the first k also from some f before a
 abbrev pub Repeats : Word → ℕ → ℕ → Type 0
 Repeats p k a = (f : ℕ) × (f < a) × (part p f (k - a) ≡ part p a (k - a))
-
--- a is the first number up to k that passes
-pub record Least (P : ℕ → Type 0) (k a : ℕ) : Type 0 where
-  pub within : a ≤ k
-  pub passes : P a
-  pub least : (b : ℕ) → b ≤ k → P b → a ≤ b
 
 module _ (p : Word) {δ : Delta} {S : State → State} (O : Supplied (length p) (letter p) δ S) (k : State) (pos : 0 < k) (b : k ≤ length p) where
   -- where the letters behind the first a, up to k, lead
