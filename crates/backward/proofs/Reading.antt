@@ -1,6 +1,6 @@
 -- What the reading of one window says. Where it fails, the letters read are those from the failing place on, and their mirror is not
--- walked; where it does not fail, all the window's letters are read, and their mirror is walked. Each goes by one induction over the letters
--- that are left: none, a letter that fails, a letter that is read.
+-- walked; where it does not fail, all the window's letters are read, and their mirror is walked. Each goes by one induction over the
+-- letters that are left: none, a letter that fails, a letter that is read.
 use mathlib.Core.Path.{_≡_, refl, ap, _∙_}
 use mathlib.Core.Option.{Option, none, some}
 use Prim.Native.Nat.{ℕ, zero, suc, _+_, _-_, _≤_, _<_}

@@ -135,7 +135,8 @@ table =
     ∷ arrowsOf (word "abbbaab") (0 to 2 ∷ 1 to 6 ∷ 2 to 5 ∷ 3 to 5 ∷ []) 11 (0 ∷ 0 ∷ 2 ∷ 3 ∷ 1 ∷ 1 ∷ 2 ∷ [])
     ∷ acceptsNoFactor (word "abbbaab") (word "aba")
     ∷ fileOf (word "abbbaab") (bytes "01 07 61 62 62 62 61 61 62 04 00 00 01 03 01 01 01 00")
-    ∷ arrowsOf (word "abcacdace") (0 to 2 ∷ 0 to 3 ∷ 0 to 6 ∷ 0 to 9 ∷ 1 to 5 ∷ 3 to 6 ∷ 3 to 9 ∷ 5 to 9 ∷ []) 17 (0 ∷ 0 ∷ 0 ∷ 1 ∷ 3 ∷ 0 ∷ 1 ∷ 5 ∷ 0 ∷ [])
+    ∷ arrowsOf (word "abcacdace") (0 to 2 ∷ 0 to 3 ∷ 0 to 6 ∷ 0 to 9 ∷ 1 to 5 ∷ 3 to 6 ∷ 3 to 9 ∷ 5 to 9 ∷ []) 17
+    (0 ∷ 0 ∷ 0 ∷ 1 ∷ 3 ∷ 0 ∷ 1 ∷ 5 ∷ 0 ∷ [])
     ∷ acceptsNoFactor (word "abcacdace") (word "cace")
     ∷ search (word "aa") (word "aaaa") (0 ∷ 1 ∷ 2 ∷ []) 6
     ∷ search (word "ab") (word "aab") (1 ∷ []) 4

@@ -1,7 +1,7 @@
 -- THE SHORTEST WORD OF A STATE. For each state there is one factor that is walked to it and that every word walked to it ends in; it ends,
--- in the word, at that state's place for the first time. The meaning of supplies rests on it. By induction on the state z + 1: the factor is
--- the letters up to z + 1 from the latest start that leads there; a word's last arrow leaves a state on z's chain, whose own shortest word
--- stands before it.
+-- in the word, at that state's place for the first time. The meaning of supplies rests on it. By induction on the state z + 1: the factor
+-- is the letters up to z + 1 from the latest start that leads there; a word's last arrow leaves a state on z's chain, whose own shortest
+-- word stands before it.
 use mathlib.Core.Path.{_≡_, refl, sym, ap, _∙_}
 use mathlib.Core.Option.{Option, some}
 use mathlib.Core.List.{[], _∷_, _++_, append-nil, append-assoc}
