@@ -83,8 +83,8 @@ module _ (δ : Delta) (t : Word) (s : Place) where
       k x
 
   -- no reading reads more letters than the window has
-  pub letters-most : (k : ℕ) (x : State) → readDown δ t s k x .letters ≤ k
-  letters-most k x = reading-induction (λ k x r. r .letters ≤ k)
+  pub reading-letters-most : (k : ℕ) (x : State) → readDown δ t s k x .letters ≤ k
+  reading-letters-most k x = reading-induction (λ k x r. r .letters ≤ k)
       (λ x. le-refl 0)
       (λ k x d. omega arith)
       (λ k x y r d rec. omega arith)

@@ -23,7 +23,7 @@ module _ (w t : Word) where
   pub oracle-walker : Walker w (oracle (mirror w))
   oracle-walker = record {
     factor = λ a n h. (_, factor-walk (mirror w) (oracle-supplied (mirror w)) a n (rw (length-reverse w) h));
-    only = λ v y e n. only-walk (mirror w) v y e (n ∙ sym (length-reverse w));
+    no-other = λ v y e n. only-walk (mirror w) v y e (n ∙ sym (length-reverse w));
   }
 
   -- ── The list ─────────────────────────────────────────────────────────────

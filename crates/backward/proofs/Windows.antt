@@ -17,7 +17,7 @@ use Rattle.words.proofs.Occurrences.{stands-part, part-stands, stands-inside, s
 use Rattle.oracle.specs.Arrows.{State, Delta, walk}
 use Rattle.oracle.proofs.Targets.{never}
 use Rattle.backward.specs.Steps.{Sweep, nothing, listed, readDown, afterFind, nextWindow, windows, steps}
-use Rattle.backward.proofs.Reading.{FailedAt, failed-place, letters-most, whole-walked, failed-walk}
+use Rattle.backward.proofs.Reading.{FailedAt, failed-place, reading-letters-most, whole-walked, failed-walk}
 use Rattle.backward.proofs.AfterFind.{after-moves, after-safe, after-mirror}
 
 -- ── One window ─────────────────────────────────────────────────────────────
@@ -25,7 +25,7 @@ use Rattle.backward.proofs.AfterFind.{after-moves, after-safe, after-mi
 -- all that the search asks of an automaton: it walks each part of the mirrored word, and of the words of that length only the mirrored word
 pub record Walker (w : Word) (δ : Delta) : Type 0 where
   pub factor : (a n : ℕ) → a + n ≤ length w → (y : State) × (walk δ 0 (part (mirror w) a n) ≡ some y)
-  pub only : (v : Word) (y : State) → walk δ 0 v ≡ some y → length v ≡ length w → v ≡ mirror w
+  pub no-other : (v : Word) (y : State) → walk δ 0 v ≡ some y → length v ≡ length w → v ≡ mirror w
 
 module _ {w : Word} {δ : Delta} (W : Walker w δ) (t : Word) (s : Place) (inside : s + length w ≤ length t) where
   -- the word stands nowhere from a window's start to its failing letter
@@ -60,7 +60,7 @@ module _ {w : Word} {δ : Delta} (W : Walker w δ) (t : Word) (s : Place) (insid
       let v = part t s (length w) in
       let r = whole-walked δ t s (length w) 0 inside e in
       let size : length (mirror v) ≡ length w = length-reverse v ∙ part-length t s (length w) inside in
-      part-stands w t s (mirror-injective v w (W .only (mirror v) (r .0) (r .1) size))
+      part-stands w t s (mirror-injective v w (W .no-other (mirror v) (r .0) (r .1) size))
 
 -- ── All windows ────────────────────────────────────────────────────────────
 
@@ -134,7 +134,7 @@ module _ (δ : Delta) (w t : Word) where
       one : (s : Place) (later : Sweep) → s + length w ≤ length t → Few (next δ w t s) later → Few s (with-window δ w t s later)
       one s later l h =
           let u : suc (ahead (next δ w t s)) ≤ ahead s = omega (arith, next-moves δ w t s) in
-          omega (arith, mul-le-mul-left (length w) u, letters-most δ t s (length w) 0)
+          omega (arith, mul-le-mul-left (length w) u, reading-letters-most δ t s (length w) 0)
 
   -- all windows: at each of the places from 0 to n - m
   pub steps-letters : steps δ w t .letters ≤ length w * (suc (length t) - length w)

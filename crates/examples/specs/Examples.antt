@@ -19,7 +19,7 @@ use lib.Dec.{eqb, ltb}
 use Rattle.words.specs.Words.{Word, Place, letter, same, occurrences}
 use Rattle.oracle.specs.Arrows.{State, Delta, target, walk}
 use Rattle.oracle.specs.SuffixRule.{suffixRule, extraArrows, oracle}
-use Rattle.oracle.specs.LetterRule.{supplyIn, letterRule}
+use Rattle.oracle.specs.LetterRule.{supplyMade, letterRule}
 use Rattle.oracle.specs.Supply.{supply}
 use Rattle.oracle.specs.FileOrder.{Extra, extra}
 use Rattle.backward.specs.Steps.{backward}
@@ -96,8 +96,8 @@ holds (arrowsOf p extra n l) =
     && (eqb (length (rule .arrows)) n
     && (isNone (supply p 0)
     && (gives (supply p) 1 l
-    && (isNone (supplyIn rule 0)
-    && gives (supplyIn rule) 1 l)))))))
+    && (isNone (supplyMade rule 0)
+    && gives (supplyMade rule) 1 l)))))))
 holds (acceptsNoFactor p v) = walked (walk (oracle p) 0 v) && empty (occurrences v p)
 holds (search w t starts n) =
     let r = backward w t in

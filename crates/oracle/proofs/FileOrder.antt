@@ -68,10 +68,10 @@ module _ (δ : Delta) (p : Word) where
   before-grows x zero h = absurd (omega arith)
   before-grows x (suc k) h = by (ℕ-discrete x k) (before-grows x k)
     where
-      Grown : State → Type 0
-      Grown k = (rest : List State) × (targetsBefore δ p k ≡ targetsBefore δ p x ++ (extraTargets δ p x ++ rest))
+      Behind : State → Type 0
+      Behind k = (rest : List State) × (targetsBefore δ p k ≡ targetsBefore δ p x ++ (extraTargets δ p x ++ rest))
 
-      by : Dec (x ≡ k) → (x < k → Grown k) → Grown (suc k)
+      by : Dec (x ≡ k) → (x < k → Behind k) → Behind (suc k)
       by (yes e) rec = ([], rw (e, append-nil (extraTargets δ p k)))
       by (no e) rec = let r = rec (omega arith) in (r .0 ++ extraTargets δ p k, rw (r .1) (simp append-assoc))
 
@@ -114,11 +114,11 @@ module _ (δ : Delta) (p : Word) where
   extra-before zero m = absurd (elim m [ ])
   extra-before (suc k) {a} m = by (List·Memᴰ·append-cases (extrasBefore δ p k) m) (extra-before k)
     where
-      Found : State → Type 0
-      Found k = (a .source < k) × List·Memᴰ (a .to) (extraTargets δ p (a .source))
+      LeavesBefore : State → Type 0
+      LeavesBefore k = (a .source < k) × List·Memᴰ (a .to) (extraTargets δ p (a .source))
 
       by : List·Memᴰ a (extrasBefore δ p k) ⊎ List·Memᴰ a (map (extra k) (extraTargets δ p k))
-          → (List·Memᴰ a (extrasBefore δ p k) → Found k) → Found (suc k)
+          → (List·Memᴰ a (extrasBefore δ p k) → LeavesBefore k) → LeavesBefore (suc k)
       by (inl n) rec = let r = rec n in (omega (arith, r .0), r .1)
       by (inr n) rec = let r = Memᴰ·of-map (extra k) (extraTargets δ p k) n in rw (← r .2) (omega arith, r .1)
 

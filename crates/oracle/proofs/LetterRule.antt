@@ -14,7 +14,7 @@ use lib.Seq.{getD-at}
 use Rattle.words.specs.Words.{Letter, Word, letter}
 use Rattle.oracle.specs.Arrows.{State, Arrow, Delta, target, OneEach}
 use Rattle.oracle.specs.SuffixPath.{SuffixPath, ended, falls}
-use Rattle.oracle.specs.LetterRule.{Automaton, pathOf, supplyIn, Climbed, climb, addLetter, builtUpTo}
+use Rattle.oracle.specs.LetterRule.{Automaton, pathOf, supplyMade, NewState, climb, addLetter, builtUpTo}
 use Rattle.oracle.proofs.Targets.{never, into, target-new, target-old}
 use Rattle.oracle.proofs.Chain.{Supplied, supply-below, on-below, arrow-up}
 use Rattle.oracle.proofs.Grow.{Climb, stop, out, go, source-on, last-free, climb-below, arrow-stays, arrow-was, grown}
@@ -23,7 +23,7 @@ use Rattle.oracle.proofs.Grow.{Climb, stop, out, go, source-on, last-fr
 
 -- the supplies of a build as a function, 0 for state 0
 abbrev pub supplies : Automaton → State → State
-supplies b x = Option·getD (supplyIn b x) 0
+supplies b x = Option·getD (supplyMade b x) 0
 
 pub path-of-0 : {S : State → State} {x : State} {l : List State} → SuffixPath S x l → x ≡ 0 → head? l ≡ none
 path-of-0 (ended e) z = refl
@@ -75,7 +75,7 @@ one-each A O h {c} {k} z b (go {xs = xs} p e r) = (by (target-old A c z xs k c),
     by (inr d) = absurd (omega (arith, supply-below O k b, on-below O (omega (arith, supply-below O k b)) (source-on r (d .1))))
 
 module _ {t : State} {w : ℕ → Letter} {b : Automaton} (G : Sound t w b) where
-  abbrev r : Climbed
+  abbrev r : NewState
   r = climb (target (b .arrows)) (w t) (pathOf b t)
 
   abbrev b′ : Automaton

@@ -12,7 +12,7 @@ use native.Mathlib.Omega.{arith}
 use lib.ListN.{length}
 use Rattle.words.specs.Words.{Letter, Word, letter, part}
 use Rattle.words.proofs.Lists.{last-of}
-use Rattle.words.proofs.Greatest.{Greatest, greatest}
+use Rattle.words.proofs.Greatest.{Greatest, greatest-passing}
 use Rattle.words.proofs.Words.{part-length, part-snoc, part-split, part-ends-in}
 use Rattle.oracle.specs.Arrows.{State, Delta, walk}
 use Rattle.oracle.proofs.Chain.{On, Into, Supplied, on-below}
@@ -40,18 +40,18 @@ module _ (p : Word) {δ : Delta} {S : State → State} (O : Supplied (length p) 
       cc
 
   -- a factor that is walked to x holds x's shortest word at its end
-  pub record Held (x : State) (U : Shortest x) (i n : ℕ) : Type 0 where
+  pub record ShortestAtEnd (x : State) (U : Shortest x) (i n : ℕ) : Type 0 where
     pub skipped : ℕ
     pub size : skipped + U .len ≡ n
     pub same : part p (i + skipped) (U .len) ≡ part p (U .start) (U .len)
 
-  pub held : (x : State) (U : Shortest x) (i n : ℕ) → x ≤ length p → i + n ≤ length p → to i n ≡ x → Held x U i n
-  held x U i n b h e = by (U .ends (part p i n) (factor-walk p O i n h ∙ ap {B = Option State} some e))
+  pub shortest-at-end : (x : State) (U : Shortest x) (i n : ℕ) → x ≤ length p → i + n ≤ length p → to i n ≡ x → ShortestAtEnd x U i n
+  shortest-at-end x U i n b h e = by (U .ends (part p i n) (factor-walk p O i n h ∙ ap {B = Option State} some e))
     where
       len : length (part p (U .start) (U .len)) ≡ U .len
       len = part-length p (U .start) (U .len) (omega (arith, U .place))
 
-      by : (u : Word) × (part p i n ≡ u ++ part p (U .start) (U .len)) → Held x U i n
+      by : (u : Word) × (part p i n ≡ u ++ part p (U .start) (U .len)) → ShortestAtEnd x U i n
       by r =
           let t = part-ends-in p i n (r .0) (part p (U .start) (U .len)) h (r .1) in
           record { skipped = length (r .0); size = rw len at (t .0); same = rw len at (t .1) }
@@ -65,7 +65,7 @@ module _ (p : Word) {δ : Delta} {S : State → State} (O : Supplied (length p) 
     LeadsThere e = to e (suc z - e) ≡ suc z
 
     latest : Greatest LeadsThere (suc z)
-    latest = greatest LeadsThere (λ e. ℕ-discrete (to e (suc z - e)) (suc z)) (rw (sub-zero (suc z)) (reach-spine O (suc z) h)) (suc z)
+    latest = greatest-passing LeadsThere (λ e. ℕ-discrete (to e (suc z - e)) (suc z)) (rw (sub-zero (suc z)) (reach-spine O (suc z) h)) (suc z)
 
     abbrev E : ℕ
     E = latest .at
@@ -111,7 +111,7 @@ module _ (p : Word) {δ : Delta} {S : State → State} (O : Supplied (length p) 
             let r = chain-reached O z (omega arith) on in
             let le = on-below O (omega arith) on in
             let Y = below y le in
-            let H = held y Y (r .0) (r .1) (omega arith) (omega (arith, r .2)) (r .3) in
+            let H = shortest-at-end y Y (r .0) (r .1) (omega arith) (omega (arith, r .2)) (r .3) in
             rw q (last-step v y Y (r .0 + H .skipped) le e (rw q at a) (omega (arith, H .size, r .2)) (H .same))
 
         by : Into (length p) w S y d (suc z) → (u : Word) × (v ++ (d ∷ []) ≡ u ++ part p E N)

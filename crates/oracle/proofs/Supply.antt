@@ -15,8 +15,8 @@ use lib.Seq.{take-length, length-take-le}
 use borrow.Author.Tests.{le-leb, leb-true}
 use Rattle.words.specs.Lists.{from, only, first}
 use Rattle.words.specs.Words.{Word, letter, part, same, stands, occurrences}
-use Rattle.words.proofs.Lists.{member, filled, from-snoc, from-in, in-from, only-yes, only-append, only-in, in-only, first-yes, first-not}
-use Rattle.words.proofs.Greatest.{Greatest, Least, greatest}
+use Rattle.words.proofs.Lists.{member, not-empty, from-snoc, from-in, in-from, only-yes, only-append, only-in, in-only, first-yes, first-not}
+use Rattle.words.proofs.Greatest.{Greatest, Least, greatest-passing}
 use Rattle.words.proofs.Words.{part-of-part}
 use Rattle.words.proofs.Occurrences.{stands-part, part-stands}
 use Rattle.oracle.specs.Arrows.{State, Delta}
@@ -26,7 +26,7 @@ use Rattle.oracle.proofs.Chain.{Supplied, supply-below, Near}
 use Rattle.oracle.proofs.Reach.{reach, reach-0, reach-spine, reach-below, reach-near, reach-falls}
 use Rattle.oracle.proofs.SuffixRule.{suffix-rule-arrows}
 use Rattle.oracle.proofs.Walks.{factor-walk}
-use Rattle.oracle.proofs.Shortest.{Shortest, shortest, Held, held, reach-same}
+use Rattle.oracle.proofs.Shortest.{Shortest, shortest, ShortestAtEnd, shortest-at-end, reach-same}
 
 -- ── As numbers ─────────────────────────────────────────────────────────────
 
@@ -54,7 +54,7 @@ module _ (p : Word) {δ : Delta} {S : State → State} (O : Supplied (length p) 
 
   -- the last start from which k itself is reached; from the next one the supply is
   last-to-k : Greatest (λ e. up e ≡ k) k
-  last-to-k = greatest (λ e. up e ≡ k) (λ e. ℕ-discrete (up e) k) (rw (sub-zero k) (reach-spine O k b)) k
+  last-to-k = greatest-passing (λ e. up e ≡ k) (λ e. ℕ-discrete (up e) k) (rw (sub-zero k) (reach-spine O k b)) k
 
   abbrev E : ℕ
   E = last-to-k .at
@@ -77,7 +77,7 @@ module _ (p : Word) {δ : Delta} {S : State → State} (O : Supplied (length p) 
       by (inr q) = q ∙ ap S (last-to-k .passes)
 
   pub least-repeated-leads : (a : ℕ) → Least (Repeats p k) k a → up a ≡ S k
-  least-repeated-leads a L = by (held p O (S k) U (suc E) (k - suc E) (omega (arith, low)) (omega (arith, before-end)) next-is-supply)
+  least-repeated-leads a L = by (shortest-at-end p O (S k) U (suc E) (k - suc E) (omega (arith, low)) (omega (arith, before-end)) next-is-supply)
     where
       low : S k ≤ k - 1
       low = supply-below O k b
@@ -92,7 +92,7 @@ module _ (p : Word) {δ : Delta} {S : State → State} (O : Supplied (length p) 
           absurd (omega (arith, last-to-k .passes, repeated-below a (L .within) (L .passes)))
 
       -- the supply's shortest word ends the letters up to k from c on, and stands earlier too
-      by : Held p O (S k) U (suc E) (k - suc E) → up a ≡ S k
+      by : ShortestAtEnd p O (S k) U (suc E) (k - suc E) → up a ≡ S k
       by H =
           let c = suc E + H .skipped in
           let n : k - c ≡ U .len = omega (arith, H .size, before-end) in
@@ -164,7 +164,7 @@ module _ (u : Word) (a : ℕ) (h : a ≤ length u) where
   earlier-twice : (f : ℕ) → f < a → stands here u f ≡ true → twice u here ≡ true
   unfolding twice
   earlier-twice f l e =
-      let m = filled (in-only (stands here u) (from 0 a) (in-from 0 a f (omega arith) (omega arith)) e) in
+      let m = not-empty (in-only (stands here u) (from 0 a) (in-from 0 a f (omega arith) (omega arith)) e) in
       le-leb _ (length (occurrences here u)) (omega (arith, count))
 
 -- ── As defined ─────────────────────────────────────────────────────────────

@@ -15,7 +15,7 @@ use Rattle.words.proofs.Words.{part-whole}
 use Rattle.words.proofs.Occurrences.{stands-part, stands-inside}
 use Rattle.oracle.specs.Arrows.{State, Arrow, Delta, target, walk, spine, OneEach}
 use Rattle.oracle.specs.SuffixRule.{extraArrows, suffixRule, oracle}
-use Rattle.oracle.specs.LetterRule.{supplyIn, builtUpTo, letterRule}
+use Rattle.oracle.specs.LetterRule.{supplyMade, builtUpTo, letterRule}
 use Rattle.oracle.specs.Supply.{supply}
 use Rattle.oracle.proofs.Targets.{never, target-member, member-target, apart}
 use Rattle.oracle.proofs.Chain.{Into, Supplied, supply-below, arrow-up}
@@ -147,7 +147,7 @@ module _ (p : Word) where
   -- ── 4. Supplies ──────────────────────────────────────────────────────────
 
   -- for every state, the rule's supply is the one of 001's definition; state 0 has none by either
-  pub same-supplies : (i : State) → i ≤ length p → supplyIn (letterRule p) i ≡ supply p i
+  pub same-supplies : (i : State) → i ≤ length p → supplyMade (letterRule p) i ≡ supply p i
   same-supplies zero h = path-of-0 (made .path 0 h) refl ∙ sym (supply-0 p)
   same-supplies (suc i) h =
       path-of-higher (made .path (suc i) h) (omega arith)

@@ -3,7 +3,8 @@
 --
 --   Automaton         the arrows made so far, and the suffix path of each state
 --   pathOf b x        the suffix path of x
---   supplyIn b x      the supply of x, if it has one
+--   supplyMade b x    the supply of x, if it has one
+--   NewState          the states that get an arrow to a new state, besides the one before it, and its supply
 --   climb δ c l       along the path l: the states before the first with an arrow on c, and the new state's supply
 --   addLetter t c b   adds state t + 1 with letter c to the states 0 to t
 --   builtUpTo p t     what the rule has made of the first t letters
@@ -25,16 +26,16 @@ pub record Automaton : Type 0 where
 abbrev pub pathOf : Automaton → State → List State
 pathOf b x = getD (b .paths) x []
 
-abbrev pub supplyIn : Automaton → State → Option State
-supplyIn b x = head? (pathOf b x)
+abbrev pub supplyMade : Automaton → State → Option State
+supplyMade b x = head? (pathOf b x)
 
-pub record Climbed : Type 0 where
+pub record NewState : Type 0 where
   pub sources : List State
   pub supply : State
 
 -- while k exists and has no arrow on c, it is a source of one, and its supply comes next. The new state's supply is 0 if k ran
 -- out, else where k's arrow on c leads
-unfoldable pub climb : Delta → Letter → List State → Climbed
+unfoldable pub climb : Delta → Letter → List State → NewState
 climb δ c [] = record { sources = []; supply = 0 }
 climb δ c (k ∷ l) = elim (δ k c) [
   | some y ↦ record { sources = []; supply = y }

@@ -17,9 +17,9 @@ pub record Least (P : ℕ → Type 0) (n a : ℕ) : Type 0 where
   pub passes : P a
   pub least : (b : ℕ) → b ≤ n → P b → a ≤ b
 
-pub greatest : (P : ℕ → Type 0) → ((e : ℕ) → Dec (P e)) → P 0 → (n : ℕ) → Greatest P n
-greatest P dec p0 zero = record { at = 0; within = le-refl 0; passes = p0; last = λ e h q. h }
-greatest P dec p0 (suc n) = by (dec (suc n)) (greatest P dec p0 n)
+pub greatest-passing : (P : ℕ → Type 0) → ((e : ℕ) → Dec (P e)) → P 0 → (n : ℕ) → Greatest P n
+greatest-passing P dec p0 zero = record { at = 0; within = le-refl 0; passes = p0; last = λ e h q. h }
+greatest-passing P dec p0 (suc n) = by (dec (suc n)) (greatest-passing P dec p0 n)
   where
     by : Dec (P (suc n)) → Greatest P n → Greatest P (suc n)
     by (yes q) g = record { at = suc n; within = le-refl _; passes = q; last = λ e h r. h }

@@ -26,9 +26,9 @@ module _ {A : Type 0} where
   member [] h = absurd (omega arith)
   member (a ∷ l) h = (a, List·Memᴰ·head refl)
 
-  pub filled : {a : A} {l : List A} → List·Memᴰ a l → 1 ≤ length l
-  filled (List·Memᴰ·head e) = omega arith
-  filled (List·Memᴰ·tail m) = omega arith
+  pub not-empty : {a : A} {l : List A} → List·Memᴰ a l → 1 ≤ length l
+  not-empty (List·Memᴰ·head e) = omega arith
+  not-empty (List·Memᴰ·tail m) = omega arith
 
   pub entry-in : (l : List A) (i : ℕ) (d : A) → i < length l → List·Memᴰ (getD l i d) l
   entry-in [] i d h = absurd (omega arith)
