@@ -164,14 +164,12 @@ module _ {w : Word} {δ : Delta} (W : Walker w δ) (t : Word) where
           → (later : List Place) → later ≡ since w t (nextWindow w s o) → listed s o later ≡ since w t s
       one s l (some f) e later rec =
           let place = failed-place δ t s (length w) 0 f e in
-          let none-lost = since-later w t s (f + 1) (omega arith) (λ j h u. failed-loses-none W t s l f e j h (omega arith)) in
-          rec ∙ sym none-lost
+          rec ∙ sym (since-later w t s _ (omega arith) (λ j h u. failed-loses-none W t s l f e j h (omega arith)))
       one s l none e later rec =
           let here = whole-stands W t s l e in
-          let safe : (j : Place) → suc s ≤ j → j < s + afterFind w → stands w t j ≡ true → ⊥
-          = λ j h u there. omega (arith, after-safe w t s j here there h) in
-          let none-lost = since-later w t (suc s) (s + afterFind w) (omega (arith, after-moves w)) safe in
-          ap (λ (p : List Place). s ∷ p) (rec ∙ sym none-lost) ∙ sym (since-here w t s l here)
+          let moved : suc s ≤ s + afterFind w = omega (arith, after-moves w) in
+          let skipped = since-later w t (suc s) _ moved (λ j h u there. omega (arith, after-safe w t s j here there h)) in
+          ap (λ (p : List Place). s ∷ p) (rec ∙ sym skipped) ∙ sym (since-here w t s l here)
 
   -- the search lists the occurrences
   pub steps-list : steps δ w t .starts ≡ occurrences w t

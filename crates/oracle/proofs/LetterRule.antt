@@ -183,11 +183,9 @@ module _ (p : Word) where
   pub built-restricts : (t d : ℕ) (x : State) (c : Letter) (y : State)
       → (arrowsOf t x c ≡ some y) ↔ ((arrowsOf (t + d) x c ≡ some y) × (y ≤ t))
   built-restricts t zero x c y = rw (add-zero t) (λ e. (e, arrow-up (built-sound p t .supplied) x c y e .1), λ r. r .0)
-  built-restricts t (suc d) x c y = rw (add-suc t d) (by (built-restricts t d x c y))
+  built-restricts t (suc d) x c y =
+      let rec = built-restricts t d x c y in
+      rw (add-suc t d) (λ e. let r = rec .0 e in (one (r .1) .0 (r .0), r .1), λ r. rec .1 (one (r .1) .1 (r .0), r .1))
     where
-      by : (arrowsOf t x c ≡ some y) ↔ ((arrowsOf (t + d) x c ≡ some y) × (y ≤ t))
-          → (arrowsOf t x c ≡ some y) ↔ ((arrowsOf (suc (t + d)) x c ≡ some y) × (y ≤ t))
-      by rec =
-          let one : y ≤ t → (arrowsOf (t + d) x c ≡ some y) ↔ (arrowsOf (suc (t + d)) x c ≡ some y)
-          = λ h. letter-restricts (t + d) x c y (omega arith) in
-          (λ e. let r = rec .0 e in (one (r .1) .0 (r .0), r .1), λ r. rec .1 (one (r .1) .1 (r .0), r .1))
+      one : y ≤ t → (arrowsOf (t + d) x c ≡ some y) ↔ (arrowsOf (suc (t + d)) x c ≡ some y)
+      one h = letter-restricts (t + d) x c y (omega arith)

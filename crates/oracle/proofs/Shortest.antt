@@ -91,15 +91,18 @@ module _ (p : Word) {δ : Delta} {S : State → State} (O : Supplied (length p) 
         le : a ≤ E
         le = let q : suc z - a ≡ suc n = omega arith in latest .last a (omega arith) (rw q up)
 
-        whole : (u : Word) → v ≡ u ++ part p (Y .start) n → v ++ (w z ∷ []) ≡ u ++ part p a (E - a) ++ part p E N
-        whole u q =
+        joined : part p a n ++ (w z ∷ []) ≡ part p a (suc n)
+        joined = sym (part-snoc p a n (omega arith) ∙ ap (λ j. part p a n ++ (w j ∷ [])) place)
+
+        parted : part p a (suc n) ≡ part p a (E - a) ++ part p E N
+        parted =
             let s : (E - a) + N ≡ suc n = omega (arith, latest .within, le) in
             let f : a + (E - a) ≡ E = omega (arith, le) in
-            let g : part p a (suc n) ≡ part p a (E - a) ++ part p E N
-            = ap (part p a) (sym s) ∙ part-split p a (E - a) N ∙ ap (λ k. part p a (E - a) ++ part p k N) f in
-            let k : part p a n ++ (w z ∷ []) ≡ part p a (suc n)
-            = sym (part-snoc p a n (omega arith) ∙ ap (λ j. part p a n ++ (w j ∷ [])) place) in
-            rw (q, ← same, append-assoc u (part p a n) (w z ∷ []), k, g, append-assoc u (part p a (E - a)) (part p E N))
+            ap (part p a) (sym s) ∙ part-split p a (E - a) N ∙ ap (λ k. part p a (E - a) ++ part p k N) f
+
+        whole : (u : Word) → v ≡ u ++ part p (Y .start) n → v ++ (w z ∷ []) ≡ u ++ part p a (E - a) ++ part p E N
+        whole u q =
+            rw (q, ← same, append-assoc u (part p a n) (w z ∷ []), joined, parted, append-assoc u (part p a (E - a)) (part p E N))
 
     -- the source y of the last arrow is on z's chain, so some factor up to z is walked to y, and holds y's shortest word at its end
     last-arrow : (v : Word) (y : State) (d : Letter) → walk δ 0 v ≡ some y → δ y d ≡ some (suc z)
