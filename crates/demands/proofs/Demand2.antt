@@ -8,7 +8,7 @@ use Prim.Native.Nat.{ℕ, _+_, _*_, _-_, _≤_, _<_}
 use lib.ListN.{length, take, drop, getD}
 use Rattle.words.specs.Words.{Letter, Word, Place, part, mirror, occurrences}
 use Rattle.words.specs.Limits.{longestWord, longestText}
-use Rattle.words.proofs.Lists.{Rising}
+use Rattle.words.specs.Lists.{Rising}
 use Rattle.words.proofs.Occurrences.{stands-part, part-stands}
 use Rattle.oracle.specs.Arrows.{State, Arrow, target}
 use Rattle.oracle.specs.SuffixRule.{suffixRule, oracle}

@@ -13,11 +13,14 @@ use Rattle.number.specs.Number.{groups, spellNumber, refuses, see, seeNumber, n
 use Rattle.saved.specs.File.{edition, stepsFrom, spellSteps, ownSteps, spell}
 use Rattle.loaded.specs.Load.{frontAt}
 use Rattle.marks.specs.Load.{loadSays}
-use Rattle.examples.specs.Examples.{is, isNone, walked, empty, has, gives, isRefused, refusedWith, refusedInRooms, holds, allHold, word, digit, bytes, table}
+use Rattle.examples.specs.Examples.{is, isNone, walked, empty, has, gives, isRefused, refusedWith, refusedInRooms, holds, allHold}
+use Rattle.examples.specs.Examples.{word, digit, bytes, table}
 
 pub examples-hold : T (allHold table)
-unfolding from only first same stands occurrences target walk spine far mend missing extrasAfter extraArrows suffixRule climb addLetter builtUpTo letterRule
-    ends twice repeated supply readDown afterFind windows steps backward
-    longestWord leadsTo extraTargets extrasBefore fileArrows groups spellNumber refuses see seeNumber numberAt edition stepsFrom spellSteps ownSteps spell frontAt loadSays
+unfolding from only first same stands occurrences longestWord
+    target walk spine far mend missing extrasAfter extraArrows suffixRule climb addLetter builtUpTo letterRule
+    ends twice repeated supply leadsTo extraTargets extrasBefore fileArrows
+    readDown afterFind windows steps backward
+    groups spellNumber refuses see seeNumber numberAt edition stepsFrom spellSteps ownSteps spell frontAt loadSays
     is isNone walked empty has gives isRefused refusedWith refusedInRooms holds allHold word digit bytes table
 examples-hold = tt

@@ -11,7 +11,7 @@ use lib.ListN.{length, take, drop, length-reverse}
 use lib.Seq.{take-at, drop-at}
 use borrow.Author.Tests.{lt-ltb, le-ltb}
 use Rattle.words.specs.Words.{Word, Place, mirror, stands, occurrences}
-use Rattle.words.proofs.Lists.{Rising}
+use Rattle.words.specs.Lists.{Rising}
 use Rattle.words.proofs.Occurrences.{occurrence-stands, standing-occurs, occurrences-rise}
 use Rattle.oracle.specs.SuffixRule.{oracle}
 use Rattle.backward.specs.Steps.{steps, backward}

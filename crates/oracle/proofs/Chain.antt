@@ -1,6 +1,6 @@
 -- WHAT HOLDS OF AN ORACLE, as one record over its arrows δ and its supplies S, and the chain of supplies that everything else runs along.
 -- The record says nothing of how arrows are stored or added: the letter-by-letter rule has it, and whatever has it has the suffix rule's
--- arrows. Here S is a function with S 0 = 0; that state 0 has no supply is said where supplies are answers.
+-- arrows. Here S is a function with S 0 = 0; that state 0 has no supply is said where supplies are answers. Laws of a chain go along it.
 use mathlib.Core.Path.{_≡_, refl, sym, ap, _∙_}
 use mathlib.Core.Logic.{_⊎_, inl, inr, _≢_}
 use mathlib.Core.Option.{Option, none, some}
@@ -9,6 +9,7 @@ use native.Mathlib.Decide.{decLt}
 use native.Mathlib.Omega.{arith}
 use Rattle.words.specs.Words.{Letter}
 use Rattle.oracle.specs.Arrows.{State, Delta}
+use Rattle.oracle.proofs.Targets.{none-where}
 
 -- y stands on the chain x, S x, S (S x), ..
 pub data On (S : State → State) (y : State) : State → Type 0 where
@@ -58,7 +59,10 @@ module _ {m : ℕ} {w : ℕ → Letter} {δ : Delta} {S : State → State} (O : 
 
   -- an arrow leaves its state upwards
   pub arrow-up : (x : State) (c : Letter) (y : State) → δ x c ≡ some y → (x < y) × (y ≤ m)
-  arrow-up x c y e = let v = O .into x c y e in let b = on-below (omega (arith, v .inside)) (v .on) in (omega (arith, v .to), omega (arith, v .to, v .inside))
+  arrow-up x c y e =
+      let v = O .into x c y e in
+      let b = on-below (omega (arith, v .inside)) (v .on) in
+      (omega (arith, v .to), omega (arith, v .to, v .inside))
 
   -- ── One step of a chain ──────────────────────────────────────────────────
 
@@ -92,22 +96,20 @@ module _ {m : ℕ} {w : ℕ → Letter} {δ : Delta} {S : State → State} (O : 
 
   -- on a letter they lead to the first state that has it
   pub zero-first : (z : State) → z < m → ((i : State) → i < z → w i ≢ w z) → δ 0 (w z) ≡ some (suc z)
-  zero-first z h new = by (chain-arrow (w z) (suc z) (zero-on z (omega arith)) (O .spine z h))
+  zero-first z h new = by (decLt (v .z) z)
     where
-      by : (y : State) × (δ 0 (w z) ≡ some y) × On S y (suc z) → δ 0 (w z) ≡ some (suc z)
-      by r = reached (O .into 0 (w z) (r .0) (r .1)) (on-below h (r .2))
-        where
-          reached : Into m w S 0 (w z) (r .0) → r .0 ≤ suc z → δ 0 (w z) ≡ some (suc z)
-          reached v b = at-first (decLt (v .z) z)
-            where
-              at-first : Dec (v .z < z) → δ 0 (w z) ≡ some (suc z)
-              at-first (yes l) = absurd (new (v .z) l (sym (v .letter)))
-              at-first (no l) = let e : r .0 ≡ suc z = omega (arith, v .to) in r .1 ∙ ap {B = Option State} some e
+      r : (y : State) × (δ 0 (w z) ≡ some y) × On S y (suc z)
+      r = chain-arrow (w z) (suc z) (zero-on z (omega arith)) (O .spine z h)
+
+      v : Into m w S 0 (w z) (r .0)
+      v = O .into 0 (w z) (r .0) (r .1)
+
+      by : Dec (v .z < z) → δ 0 (w z) ≡ some (suc z)
+      by (yes l) = absurd (new (v .z) l (sym (v .letter)))
+      by (no l) =
+          let e : r .0 ≡ suc z = omega (arith, v .to, on-below h (r .2)) in
+          r .1 ∙ ap {B = Option State} some e
 
   -- and there is none on a letter that no state has
   pub zero-none : (c : Letter) → ((i : State) → i < m → w i ≢ c) → δ 0 c ≡ none
-  zero-none c new = by (δ 0 c) refl
-    where
-      by : (o : Option State) → δ 0 c ≡ o → δ 0 c ≡ none
-      by none e = e
-      by (some y) e = let v = O .into 0 c y e in absurd (new (v .z) (v .inside) (sym (v .letter)))
+  zero-none c new = none-where (δ 0 c) (λ y e. let v = O .into 0 c y e in new (v .z) (v .inside) (sym (v .letter)))

@@ -17,7 +17,7 @@ use Rattle.words.proofs.Lists.{from-length}
 use Rattle.oracle.specs.Arrows.{State, Arrow, Delta, target, spine}
 use Rattle.oracle.specs.SuffixRule.{Halt, far, mend, missing, extrasAfter, extraArrows}
 use Rattle.oracle.specs.SuffixPath.{SuffixPath, ended, falls}
-use Rattle.oracle.specs.LetterRule.{pathOf, climb, addLetter, builtUpTo}
+use Rattle.oracle.specs.LetterRule.{addLetter, builtUpTo, sourcesOf}
 use Rattle.oracle.proofs.Targets.{into}
 use Rattle.oracle.proofs.Chain.{Supplied, supply-below}
 use Rattle.oracle.proofs.Grow.{Climb, stop, out, go, climb-below}
@@ -74,7 +74,9 @@ module _ {m : ℕ} {w : ℕ → Letter} {δ : Delta} {S : State → State} (O : 
       → SuffixPath S y l′ → length l′ ≤ suc (length l)
   arrow-path (ended q) e (ended r) = omega arith
   arrow-path (falls p q d) e (ended r) = omega arith
-  arrow-path {c = c} {y = y} (ended q) e (falls p r d) = let z : S y ≡ 0 = O .bottom c y (rw q at e) in omega (arith, path-of-zero (r ∙ z) d)
+  arrow-path {c = c} {y = y} (ended q) e (falls p r d) =
+      let z : S y ≡ 0 = O .bottom c y (rw q at e) in
+      omega (arith, path-of-zero (r ∙ z) d)
   arrow-path {c = c} {y = y} (falls {x = k} {y = k′} {l = l} p q d) e (falls {y = y′} {l = l′} p′ q′ d′) =
       by (O .answers k c y e) (λ f. arrow-path d (rw (← q) at f) (falls p′ q′ d′)) (λ f. arrow-path d (rw (← q) at f) (rw q′ at d′))
     where
@@ -108,17 +110,15 @@ module _ {m : ℕ} {w : ℕ → Letter} {δ : Delta} {S : State → State} (O : 
 
 -- ── The letter-by-letter rule ──────────────────────────────────────────────
 
--- the states that get an arrow on letter t, besides t itself
-pub sourcesOf : Word → ℕ → List State
-sourcesOf p t = let b = builtUpTo p t in climb (target (b .arrows)) (letter p t) (pathOf b t) .sources
-
 module _ (p : Word) where
   abbrev arrowsAt : ℕ → ℕ
   arrowsAt t = length (builtUpTo p t .arrows)
 
   pub arrows-added : (t : ℕ) → arrowsAt (suc t) ≡ suc (length (sourcesOf p t)) + arrowsAt t
   unfolding builtUpTo addLetter sourcesOf
-  arrows-added t = length-append (into (letter p t) (suc t) (t ∷ sourcesOf p t)) (builtUpTo p t .arrows) ∙ ap (λ n. n + arrowsAt t) (length-map (t ∷ sourcesOf p t) _)
+  arrows-added t =
+      length-append (into (letter p t) (suc t) (t ∷ sourcesOf p t)) (builtUpTo p t .arrows)
+      ∙ ap (λ n. n + arrowsAt t) (length-map (t ∷ sourcesOf p t) _)
 
   pub arrows-many : (t : ℕ) → t ≤ arrowsAt t
   unfolding builtUpTo
@@ -131,7 +131,8 @@ module _ (p : Word) where
   counted (suc t) =
       let G = built-sound p t in
       let r = counted t in
-      let s = path-grows (G .supplied) (arrowsAt t) (supplies (builtUpTo p (suc t))) (letter-climb G) (r .1) (r .2) (supply-kept G) (supply-new G) in
+      let S′ = supplies (builtUpTo p (suc t)) in
+      let s = path-grows (G .supplied) (arrowsAt t) S′ (letter-climb G) (r .1) (r .2) (supply-kept G) (supply-new G) in
       (_, s .1, omega (arith, s .2, arrows-added t))
 
   -- t letters make at most 2 t - 1 arrows

@@ -1,8 +1,9 @@
 -- ONE LETTER MORE. What 001's figure 4 does along the suffix path, as a relation, and that arrows and supplies changed so have the record
--- again. Nothing is said here of how arrows are stored, so that the rule's lists and a table's entries are both served.
+-- again: field by field, an arrow being an old one or one from a source of the climb. Nothing is said here of how arrows are stored, so
+-- that the rule's lists and a table's entries are both served.
 use mathlib.Core.Path.{_≡_, refl, sym, ap, _∙_}
 use mathlib.Core.Logic.{_⊎_, inl, inr, ⊎-elim}
-use mathlib.Core.Option.{Option, none, some}
+use mathlib.Core.Option.{none, some}
 use mathlib.Core.List.{List, [], _∷_, List·Memᴰ, List·Memᴰ·head, List·Memᴰ·tail}
 use Prim.Native.Nat.{ℕ, suc, _≤_, _<_}
 use native.Mathlib.Nat.{le-refl}
@@ -10,7 +11,7 @@ use native.Mathlib.Decide.{decLt}
 use native.Mathlib.Omega.{arith}
 use Rattle.words.specs.Words.{Letter}
 use Rattle.oracle.specs.Arrows.{State, Delta}
-use Rattle.oracle.proofs.Targets.{never}
+use Rattle.oracle.proofs.Targets.{never, none-where}
 use Rattle.oracle.proofs.Chain.{On, here, next, Into, Supplied, supply-below, on-below, arrow-up}
 
 -- ── The climb ──────────────────────────────────────────────────────────────
@@ -74,11 +75,7 @@ on-agree S S′ d a h (next {x = x} r) = next {x = x} (rw (a x h) (on-agree S S�
 module _ {t : State} {w : ℕ → Letter} {δ : Delta} {S : State → State} (O : Supplied t w δ S) where
   -- no arrow leaves the last state
   pub last-free : (c : Letter) → δ t c ≡ none
-  last-free c = by (δ t c) refl
-    where
-      by : (o : Option State) → δ t c ≡ o → δ t c ≡ none
-      by none e = e
-      by (some z) e = let u = arrow-up O t c z e in absurd (omega (arith, u .0, u .1))
+  last-free c = none-where (δ t c) (λ z e. let u = arrow-up O t c z e in omega (arith, u .0, u .1))
 
   pub climb-below : {c : Letter} {k y : State} {xs : List State} → Climb δ S c k xs y → y ≤ t
   climb-below {c} {y = y} C = by (lands C)
@@ -90,7 +87,8 @@ module _ {t : State} {w : ℕ → Letter} {δ : Delta} {S : State → State} (O 
 -- ── The record again ───────────────────────────────────────────────────────
 
 -- the arrows on w t from the sources to t + 1 are added, nothing else changes, and t + 1 gets the supply y
-module _ {t : State} {w : ℕ → Letter} {δ δ′ : Delta} {S S′ : State → State} (O : Supplied t w δ S) {xs : List State} {y : State} (C : Climb δ S (w t) t xs y)
+module _ {t : State} {w : ℕ → Letter} {δ δ′ : Delta} {S S′ : State → State}
+    (O : Supplied t w δ S) {xs : List State} {y : State} (C : Climb δ S (w t) t xs y)
     (old : (x : State) (c : Letter) → (δ′ x c ≡ δ x c) ⊎ ((c ≡ w t) × List·Memᴰ x xs))
     (new : (x : State) → List·Memᴰ x xs → δ′ x (w t) ≡ some (suc t))
     (kept : (x : State) → x ≤ t → S′ x ≡ S x) (given : S′ (suc t) ≡ y) where
@@ -131,8 +129,11 @@ module _ {t : State} {w : ℕ → Letter} {δ δ′ : Delta} {S S′ : State →
       by : (δ x c ≡ some z) ⊎ ((c ≡ w t) × (z ≡ suc t) × List·Memᴰ x xs) → Into (suc t) w S′ x c z
       by (inl d) =
           let v = O .into x c z d in
-          record { z = v .z; to = v .to; letter = v .letter; inside = omega (arith, v .inside); on = on-agree S S′ falls kept (omega (arith, v .inside)) (v .on) }
-      by (inr r) = record { z = t; to = r .1; letter = r .0; inside = le-refl _; on = on-agree S S′ falls kept (le-refl t) (source-on C (r .2)) }
+          let on = on-agree S S′ falls kept (omega (arith, v .inside)) (v .on) in
+          record { z = v .z; to = v .to; letter = v .letter; inside = omega (arith, v .inside); on = on }
+      by (inr r) =
+          let on = on-agree S S′ falls kept (le-refl t) (source-on C (r .2)) in
+          record { z = t; to = r .1; letter = r .0; inside = le-refl _; on = on }
 
   grown-down : (x : State) → x < suc t → S′ (suc x) ≤ x
   grown-down x h = by (decLt x t)
@@ -167,4 +168,11 @@ module _ {t : State} {w : ℕ → Letter} {δ δ′ : Delta} {S S′ : State →
       by (inr r) = rw (r .1) (given ∙ runs-out C (r .2))
 
   pub grown : Supplied (suc t) w δ′ S′
-  grown = record { spine = grown-spine; into = grown-into; base = kept 0 (omega arith) ∙ O .base; down = grown-down; answers = grown-answers; bottom = grown-bottom }
+  grown = record {
+    spine = grown-spine;
+    into = grown-into;
+    base = kept 0 (omega arith) ∙ O .base;
+    down = grown-down;
+    answers = grown-answers;
+    bottom = grown-bottom;
+  }

@@ -1,5 +1,6 @@
 -- THE LETTER-BY-LETTER RULE, as defined, has the record after every letter; one arrow at most leaves a state on a letter; and what it made
--- of the first t letters stays as it is while more are added.
+-- of the first t letters stays as it is while more are added. By induction on the letters: what the rule does along its list is the climb
+-- of `Grow`, which keeps the record.
 use mathlib.Core.Path.{_≡_, refl, sym, ap, _∙_}
 use mathlib.Core.Logic.{_⊎_, inl, inr, _↔_}
 use mathlib.Core.Option.{Option, none, some, Option·getD}
@@ -13,7 +14,7 @@ use lib.Seq.{getD-at}
 use Rattle.words.specs.Words.{Letter, Word, letter}
 use Rattle.oracle.specs.Arrows.{State, Arrow, Delta, target, OneEach}
 use Rattle.oracle.specs.SuffixPath.{SuffixPath, ended, falls}
-use Rattle.oracle.specs.LetterRule.{Built, pathOf, supplyIn, Climbed, climb, addLetter, builtUpTo}
+use Rattle.oracle.specs.LetterRule.{Automaton, pathOf, supplyMade, NewState, climb, addLetter, builtUpTo}
 use Rattle.oracle.proofs.Targets.{never, into, target-new, target-old}
 use Rattle.oracle.proofs.Chain.{Supplied, supply-below, on-below, arrow-up}
 use Rattle.oracle.proofs.Grow.{Climb, stop, out, go, source-on, last-free, climb-below, arrow-stays, arrow-was, grown}
@@ -21,8 +22,8 @@ use Rattle.oracle.proofs.Grow.{Climb, stop, out, go, source-on, last-fr
 -- ── Suffix paths ───────────────────────────────────────────────────────────
 
 -- the supplies of a build as a function, 0 for state 0
-abbrev pub supplies : Built → State → State
-supplies b x = Option·getD (supplyIn b x) 0
+abbrev pub supplies : Automaton → State → State
+supplies b x = Option·getD (supplyMade b x) 0
 
 pub path-of-0 : {S : State → State} {x : State} {l : List State} → SuffixPath S x l → x ≡ 0 → head? l ≡ none
 path-of-0 (ended e) z = refl
@@ -55,7 +56,7 @@ climb-is {δ} {S} {k} c e (falls {y = y} {l = l} p q r) = go p e (climb-at q (by
 -- ── One letter ─────────────────────────────────────────────────────────────
 
 -- what holds of a build of t letters
-pub record Sound (t : State) (w : ℕ → Letter) (b : Built) : Type 0 where
+pub record Sound (t : State) (w : ℕ → Letter) (b : Automaton) : Type 0 where
   pub supplied : Supplied t w (target (b .arrows)) (supplies b)
   pub size : length (b .paths) ≡ suc t
   pub path : (x : State) → x ≤ t → SuffixPath (supplies b) x (pathOf b x)
@@ -73,11 +74,11 @@ one-each A O h {c} {k} z b (go {xs = xs} p e r) = (by (target-old A c z xs k c),
     by (inl d) = d ∙ e
     by (inr d) = absurd (omega (arith, supply-below O k b, on-below O (omega (arith, supply-below O k b)) (source-on r (d .1))))
 
-module _ {t : State} {w : ℕ → Letter} {b : Built} (G : Sound t w b) where
-  abbrev r : Climbed
+module _ {t : State} {w : ℕ → Letter} {b : Automaton} (G : Sound t w b) where
+  abbrev r : NewState
   r = climb (target (b .arrows)) (w t) (pathOf b t)
 
-  abbrev b′ : Built
+  abbrev b′ : Automaton
   b′ = addLetter t (w t) b
 
   pub letter-climb : Climb (target (b .arrows)) (supplies b) (w t) t (t ∷ r .sources) (r .supply)
@@ -106,6 +107,13 @@ module _ {t : State} {w : ℕ → Letter} {b : Built} (G : Sound t w b) where
   unfolding addLetter
   new-arrows x m = target-new (b .arrows) (w t) (suc t) x (t ∷ r .sources) m
 
+  letter-stays : (x : State) (c : Letter) (y : State) → target (b .arrows) x c ≡ some y → target (b′ .arrows) x c ≡ some y
+  letter-stays = arrow-stays (G .supplied) letter-climb old-arrows new-arrows supply-kept supply-new
+
+  letter-was : (x : State) (c : Letter) (y : State) → target (b′ .arrows) x c ≡ some y
+      → (target (b .arrows) x c ≡ some y) ⊎ ((c ≡ w t) × (y ≡ suc t) × List·Memᴰ x (t ∷ r .sources))
+  letter-was = arrow-was (G .supplied) letter-climb old-arrows new-arrows supply-kept supply-new
+
   falling : (x : State) → x ≤ t → supplies b x ≤ x
   falling x h = omega (arith, supply-below (G .supplied) x h)
 
@@ -118,13 +126,15 @@ module _ {t : State} {w : ℕ → Letter} {b : Built} (G : Sound t w b) where
     one = one-each (b .arrows) (G .supplied) (G .one) (suc t) (le-refl t) letter-climb;
   }
     where
+      stays : (x : State) → x ≤ t → SuffixPath (supplies b′) x (pathOf b x)
+      stays x h = path-agree (supplies b) (supplies b′) falling supply-kept h (G .path x h)
+
       by : (x : State) → Dec (x < suc t) → x ≤ suc t → SuffixPath (supplies b′) x (pathOf b′ x)
-      by x (yes l) h = rw (path-kept x (omega arith)) (path-agree (supplies b) (supplies b′) falling supply-kept (omega arith) (G .path x (omega arith)))
+      by x (yes l) h = rw (path-kept x (omega arith)) (stays x (omega arith))
       by x (no l) h =
           let e : x ≡ suc t = omega arith in
-          let s = climb-below (G .supplied) letter-climb in
           let p : 0 < suc t = omega arith in
-          rw (e, path-new) (falls p (sym supply-new) (path-agree (supplies b) (supplies b′) falling supply-kept s (G .path (r .supply) s)))
+          rw (e, path-new) (falls p (sym supply-new) (stays (r .supply) (climb-below (G .supplied) letter-climb)))
 
 -- ── All letters ────────────────────────────────────────────────────────────
 
@@ -144,7 +154,7 @@ built-sound p zero = record {
   one = tt;
 }
   where
-    b : Built
+    b : Automaton
     b = record { arrows = []; paths = [] ∷ [] }
 
     by : (x : State) → x ≡ 0 → SuffixPath (supplies b) x (pathOf b x)
@@ -157,14 +167,14 @@ module _ (p : Word) where
   abbrev arrowsOf : ℕ → Delta
   arrowsOf t = target (builtUpTo p t .arrows)
 
-  arrow-keeps : (t : ℕ) (x : State) (c : Letter) (y : State) → arrowsOf t x c ≡ some y → arrowsOf (suc t) x c ≡ some y
+  -- one letter more: the arrows up to state t are those that were there
+  letter-restricts : (t : ℕ) (x : State) (c : Letter) (y : State) → y ≤ t → (arrowsOf t x c ≡ some y) ↔ (arrowsOf (suc t) x c ≡ some y)
   unfolding builtUpTo
-  arrow-keeps t x c y e = let G = built-sound p t in arrow-stays (G .supplied) (letter-climb G) (old-arrows G) (new-arrows G) (supply-kept G) (supply-new G) x c y e
-
-  arrow-before : (t : ℕ) (x : State) (c : Letter) (y : State) → y ≤ t → arrowsOf (suc t) x c ≡ some y → arrowsOf t x c ≡ some y
-  unfolding builtUpTo
-  arrow-before t x c y h e = let G = built-sound p t in by (arrow-was (G .supplied) (letter-climb G) (old-arrows G) (new-arrows G) (supply-kept G) (supply-new G) x c y e)
+  letter-restricts t x c y h = (letter-stays G x c y, λ e. by (letter-was G x c y e))
     where
+      G : Sound t (letter p) (builtUpTo p t)
+      G = built-sound p t
+
       by : {M : Type 0} → (arrowsOf t x c ≡ some y) ⊎ ((c ≡ letter p t) × (y ≡ suc t) × M) → arrowsOf t x c ≡ some y
       by (inl d) = d
       by (inr d) = absurd (omega (arith, d .1))
@@ -173,8 +183,9 @@ module _ (p : Word) where
   pub built-restricts : (t d : ℕ) (x : State) (c : Letter) (y : State)
       → (arrowsOf t x c ≡ some y) ↔ ((arrowsOf (t + d) x c ≡ some y) × (y ≤ t))
   built-restricts t zero x c y = rw (add-zero t) (λ e. (e, arrow-up (built-sound p t .supplied) x c y e .1), λ r. r .0)
-  built-restricts t (suc d) x c y = rw (add-suc t d) (by (built-restricts t d x c y))
+  built-restricts t (suc d) x c y =
+      let rec = built-restricts t d x c y in
+      rw (add-suc t d) (λ e. let r = rec .0 e in (one (r .1) .0 (r .0), r .1), λ r. rec .1 (one (r .1) .1 (r .0), r .1))
     where
-      by : (arrowsOf t x c ≡ some y) ↔ ((arrowsOf (t + d) x c ≡ some y) × (y ≤ t))
-          → (arrowsOf t x c ≡ some y) ↔ ((arrowsOf (suc (t + d)) x c ≡ some y) × (y ≤ t))
-      by rec = (λ e. (arrow-keeps (t + d) x c y (rec .0 e .0), rec .0 e .1), λ r. rec .1 (arrow-before (t + d) x c y (omega (arith, r .1)) (r .0), r .1))
+      one : y ≤ t → (arrowsOf (t + d) x c ≡ some y) ↔ (arrowsOf (suc (t + d)) x c ≡ some y)
+      one h = letter-restricts (t + d) x c y (omega arith)

@@ -1,5 +1,6 @@
 -- WHERE FACTORS LEAD. `reach i n` is the state that the n letters behind the first i are walked to. Every factor is walked, to a state on
--- the chain of its last letter's state; and those states, over all factors that end there, are that chain, none left out.
+-- the chain of its last letter's state; and those states, over all factors that end there, are that chain, none left out. By induction on
+-- the letters: `chain-arrow` has an arrow for each, and a factor without its first letter leads to the same state or to its supply.
 use mathlib.Core.Path.{_≡_, refl, sym, ap, _∙_}
 use mathlib.Core.Logic.{inl, inr}
 use mathlib.Core.Option.{Option, none, some, Option·getD}
@@ -60,14 +61,17 @@ module _ {m : ℕ} {w : ℕ → Letter} {δ : Delta} {S : State → State} (O : 
 
   pub reach-spine : (n : ℕ) → n ≤ m → to 0 n ≡ n
   unfolding reach
-  reach-spine n h = let e : 0 + (0 + n) ≡ n = omega arith in rw (zero-add n, zero-add n) at (stays-on-spine 0 0 n (omega arith) (omega arith))
+  reach-spine n h = rw (zero-add n, zero-add n) at (stays-on-spine 0 0 n (omega arith) (omega arith))
 
   -- ── A factor without its first letters ───────────────────────────────────
 
   pub reach-near : (i n : ℕ) → i + suc n ≤ m → Near O (to (suc i) n) (to i (suc n))
   unfolding reach
   reach-near i zero h = inr (sym (O .bottom (w (i + 0)) (to i 1) (reach-arrow i 0 (omega arith))))
-  reach-near i (suc n) h = by (near-arrow O (to i (suc n)) (to (suc i) n) (w (i + suc n)) (to i (suc (suc n))) (reach-near i n (omega arith)) (reach-arrow i (suc n) (omega arith)))
+  reach-near i (suc n) h =
+      let near = reach-near i n (omega arith) in
+      let step = reach-arrow i (suc n) (omega arith) in
+      by (near-arrow O (to i (suc n)) (to (suc i) n) (w (i + suc n)) (to i (suc (suc n))) near step)
     where
       by : (y : State) × (δ (to (suc i) n) (w (i + suc n)) ≡ some y) × Near O y (to i (suc (suc n)))
           → Near O (to (suc i) (suc n)) (to i (suc (suc n)))
@@ -132,4 +136,6 @@ module _ {m : ℕ} {w : ℕ → Letter} {δ : Delta} {S : State → State} (O : 
           rw all at (stays-on-spine i (d + suc l) rest top (omega arith))
 
       by : Into m w S (to i n) (w (i + n)) (to i (suc n)) → Goal
-      by v = let t = chain-reached (v .z) (omega (arith, v .inside)) (v .on) in used (v .z) (v .to) (v .letter) (v .inside) (t .0) (t .1) (t .2) (t .3) (decLt (t .0) i)
+      by v =
+          let t = chain-reached (v .z) (omega (arith, v .inside)) (v .on) in
+          used (v .z) (v .to) (v .letter) (v .inside) (t .0) (t .1) (t .2) (t .3) (decLt (t .0) i)

@@ -2,10 +2,11 @@
 --
 --   Write A(i) for the rule's arrows after suffix i (A(0): the spine). Claim: A(i) has only arrows of δ, and has all that δ's walks of
 --   the suffixes 0 to i use. The spine has them for suffix 0. Now take suffix i + 1.
---   In A(i) its walk goes as in δ for as long as A(i) has the arrows, since all of A(i) is δ's. If they last to the word's end, nothing is added, and
---   nothing was missing. Else some first arrow of δ's walk is lacking, behind k letters, in the state j where the rule's own walk halts.
---   `lacking-leads-to-spine`: in δ that arrow leads to k + 1. (By the record its source is on the chain of the state before its target. All of a chain is reached
---   by factors, so some suffix uses the arrow there. If an earlier one did, A(i) had it. If a later one, suffix i + 1 itself had come to the spine by then.)
+--   In A(i) its walk goes as in δ for as long as A(i) has the arrows, since all of A(i) is δ's. If they last to the word's end, nothing is
+--   added, and nothing was missing. Else some first arrow of δ's walk is lacking, behind k letters, in the state j where the rule's own
+--   walk halts. `lacking-leads-to-spine`: in δ that arrow leads to k + 1. (By the record its source is on the chain of the state before its
+--   target. All of a chain is reached by factors, so some suffix uses the arrow there. If an earlier one did, A(i) had it. If a later one,
+--   suffix i + 1 itself had come to the spine by then.)
 --   So the arrow that the rule adds is δ's own, and behind it the suffix runs on the spine, which A(i) has. The claim holds for i + 1.
 --   At the end: every arrow of δ has its source on a chain, so some suffix uses it, so it was added.
 use mathlib.Core.Path.{_≡_, refl, sym, ap, _∙_}
@@ -23,9 +24,10 @@ use Rattle.words.specs.Lists.{from}
 use Rattle.words.specs.Words.{Letter, Word, letter}
 use Rattle.oracle.specs.Arrows.{State, Arrow, arrow, Delta, target, spine, OneEach}
 use Rattle.oracle.specs.SuffixRule.{Halt, far, mend, missing, extrasAfter, extraArrows, suffixRule, oracle}
-use Rattle.oracle.proofs.Targets.{never, target-hit, target-pass}
+use Rattle.oracle.proofs.Targets.{never, none-where, target-hit, target-skip, target-pass}
 use Rattle.oracle.proofs.Chain.{Supplied}
-use Rattle.oracle.proofs.Reach.{reach, reach-0, reach-next, reach-arrow, reach-spine, stays-on-spine, chain-reached, lacking-leads-to-spine}
+use Rattle.oracle.proofs.Reach.{reach, reach-0, reach-next, reach-arrow, reach-spine, stays-on-spine, chain-reached}
+use Rattle.oracle.proofs.Reach.{lacking-leads-to-spine}
 
 -- ── The spine ──────────────────────────────────────────────────────────────
 
@@ -37,15 +39,12 @@ module _ (p : Word) where
   spine-arrow : (n i x : ℕ) → i ≤ x → x < i + n → target (spineFrom i n) x (letter p x) ≡ some (suc x)
   unfolding from
   spine-arrow zero i x h l = absurd (omega arith)
-  spine-arrow (suc n) i x h l = by (ℕ-discrete x i) (target-pass (spineFrom (suc i) n) (arrow i (letter p i) (suc i)) x (letter p x)) (spine-arrow n (suc i) x)
+  spine-arrow (suc n) i x h l = by (ℕ-discrete x i) (spine-arrow n (suc i) x)
     where
-      by : Dec (x ≡ i)
-          → (target (spineFrom i (suc n)) x (letter p x) ≡ target (spineFrom (suc i) n) x (letter p x)) ⊎ ((x ≡ i) × (letter p x ≡ letter p i))
-          → (suc i ≤ x → x < suc i + n → target (spineFrom (suc i) n) x (letter p x) ≡ some (suc x))
+      by : Dec (x ≡ i) → (suc i ≤ x → x < suc i + n → target (spineFrom (suc i) n) x (letter p x) ≡ some (suc x))
           → target (spineFrom i (suc n)) x (letter p x) ≡ some (suc x)
-      by (yes e) d rec = rw e (target-hit (spineFrom (suc i) n) i (letter p i) (suc i))
-      by (no e) (inl d) rec = d ∙ rec (omega arith) (omega arith)
-      by (no e) (inr d) rec = absurd (e (d .0))
+      by (yes e) rec = rw e (target-hit (spineFrom (suc i) n) i (letter p i) (suc i))
+      by (no e) rec = target-skip (spineFrom (suc i) n) _ x (letter p x) (λ q. e (sym q)) ∙ rec (omega arith) (omega arith)
 
   spine-only : (n i : ℕ) (x : State) (c : Letter) (y : State) → target (spineFrom i n) x c ≡ some y
       → (i ≤ x) × (x < i + n) × (c ≡ letter p x) × (y ≡ suc x)
@@ -67,11 +66,7 @@ module _ (p : Word) where
   spine-one : (n i : ℕ) → OneEach (spineFrom i n)
   unfolding from OneEach
   spine-one zero i = tt
-  spine-one (suc n) i = (by (target (spineFrom (suc i) n) i (letter p i)) refl, spine-one n (suc i))
-    where
-      by : (o : Option State) → target (spineFrom (suc i) n) i (letter p i) ≡ o → o ≡ none
-      by none e = refl
-      by (some y) e = let r = spine-only n (suc i) i (letter p i) y e in absurd (omega (arith, r .0))
+  spine-one (suc n) i = (none-where _ (λ y e. omega (arith, spine-only n (suc i) i (letter p i) y e .0)), spine-one n (suc i))
 
 pub spine-target : (p : Word) (x : State) → x < length p → target (spine p) x (letter p x) ≡ some (suc x)
 unfolding spine
@@ -112,7 +107,8 @@ module _ (p : Word) {δ : Delta} {S : State → State} (O : Supplied (length p) 
       → (v : Word) (len k : ℕ) → k ≡ i + len → v ≡ drop k p → k ≤ m → ((n : ℕ) → n < len → Uses B i n) → Halted B i (far B (to i len) k v)
   unfolding far
   far-halts B i within [] len k e q b f =
-      record { len = len; state = refl; upTo = e; inside = omega arith; followed = f; lacks = λ h. absurd (omega (arith, ap length q ∙ length-drop k p)) }
+      let ended : 0 ≡ m - k = ap length q ∙ length-drop k p in
+      record { len = len; state = refl; upTo = e; inside = omega arith; followed = f; lacks = λ h. absurd (omega arith) }
   far-halts B i within (c ∷ v) len k e q b f = by (B (to i len) c) refl (far-halts B i within v (suc len) (suc k))
     where
       inside : k < m
@@ -132,9 +128,12 @@ module _ (p : Word) {δ : Delta} {S : State → State} (O : Supplied (length p) 
           last (no g) = f n (omega arith)
 
       by : (o : Option State) → B (to i len) c ≡ o
-          → (suc k ≡ i + suc len → v ≡ drop (suc k) p → suc k ≤ m → ((n : ℕ) → n < suc len → Uses B i n) → Halted B i (far B (to i (suc len)) (suc k) v))
+          → (suc k ≡ i + suc len → v ≡ drop (suc k) p → suc k ≤ m → ((n : ℕ) → n < suc len → Uses B i n)
+          → Halted B i (far B (to i (suc len)) (suc k) v))
           → Halted B i (far B (to i len) k (c ∷ v))
-      by none d rec = rw (d, far) (record { len = len; state = refl; upTo = e; inside = omega (arith, inside); followed = f; lacks = λ h. rw on at d })
+      by none d rec =
+          let within-word : i + len ≤ m = omega (arith, inside) in
+          rw (d, far) (record { len = len; state = refl; upTo = e; inside = within-word; followed = f; lacks = λ h. rw on at d })
       by (some y) d rec =
           let q : y ≡ to i (suc len) = sym (reach-next w δ i len (rw on at (within (to i len) c y d))) in
           rw (d, far, q) (rec (omega arith) (cc (split)) inside (more (rw (on, q) at d)))
@@ -210,7 +209,8 @@ module _ (p : Word) {δ : Delta} {S : State → State} (O : Supplied (length p) 
           on (yes e) = rw (eq-eqb (h .upTo) (length p) e) (whole (target A) i P (λ n l. H .followed n (omega (arith, H .upTo))), one)
           on (no e) =
               let l : i + H .len < m = omega (arith, H .upTo, H .inside) in
-              rw (ne-eqb (h .upTo) (length p) e, H .state, H .upTo) (mended A i (H .len) pos P l (H .followed) (H .lacks l), (H .lacks l, one))
+              rw (ne-eqb (h .upTo) (length p) e, H .state, H .upTo)
+              (mended A i (H .len) pos P l (H .followed) (H .lacks l), (H .lacks l, one))
 
   -- all suffixes
   suffixes-part : (i : ℕ) → i ≤ m → Part (target (extrasAfter p i ++ spine p)) (suc i) × OneEach (extrasAfter p i ++ spine p)
@@ -223,7 +223,9 @@ module _ (p : Word) {δ : Delta} {S : State → State} (O : Supplied (length p) 
       has : (j n : ℕ) → j < 1 → j + n < m → Uses (target (spineFrom p 0 (length p))) j n
       has j n h l =
           let e : j ≡ 0 = omega arith in
-          rw (e, zero-add n, reach-spine O n (omega arith), reach-spine O (suc n) (omega arith)) (spine-arrow p (length p) 0 n (omega arith) (omega arith))
+          let here = reach-spine O n (omega arith) in
+          let next = reach-spine O (suc n) (omega arith) in
+          rw (e, zero-add n, here, next) (spine-arrow p (length p) 0 n (omega arith) (omega arith))
   suffixes-part (suc i) h =
       let r = suffixes-part i (omega arith) in
       let A = extrasAfter p i ++ spine p in

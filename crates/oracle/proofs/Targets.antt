@@ -1,14 +1,14 @@
 -- Laws of `target` and `OneEach`: what one arrow more changes, and that where one arrow at most leaves a state on a letter, the arrows of a
--- list are exactly those that its target says.
+-- list are exactly those that its target says. Each goes by induction on the list, with `target-pass` for its first arrow.
 use mathlib.Core.Path.{_≡_, refl, sym, _∙_}
 use mathlib.Core.Bool.{Bool, true, false, _&&_, cond}
-use mathlib.Core.Logic.{_⊎_, inl, inr}
+use mathlib.Core.Logic.{_⊎_, inl, inr, _≢_}
 use mathlib.Core.Option.{Option, none, some}
 use mathlib.Core.List.{List, [], _∷_, _++_, map, List·Memᴰ, List·Memᴰ·head, List·Memᴰ·tail}
 use Prim.Native.Nat.{ℕ}
 use native.Mathlib.Omega.{arith}
 use lib.Dec.{eqb}
-use borrow.Author.Tests.{eqb-true, eq-eqb}
+use borrow.Author.Tests.{eqb-true, eq-eqb, ne-eqb}
 use Rattle.words.specs.Words.{Letter}
 use Rattle.words.proofs.Lists.{and-true}
 use Rattle.oracle.specs.Arrows.{State, Arrow, arrow, target, OneEach}
@@ -17,11 +17,20 @@ use Rattle.oracle.specs.Arrows.{State, Arrow, arrow, target, OneEach}
 pub never : {A X : Type 0} {a : A} {o : Option A} → o ≡ none → o ≡ some a → X
 never e f = let z : _≡_ {A = ℕ} 0 1 = cc in absurd (omega arith)
 
+-- and what is not some is nothing
+pub none-where : {A : Type 0} (o : Option A) → ((a : A) → o ≡ some a → ⊥) → o ≡ none
+none-where none f = refl
+none-where (some a) f = absurd (f a refl)
+
 -- ── One arrow more ─────────────────────────────────────────────────────────
 
 pub target-hit : (A : List Arrow) (x : State) (c : Letter) (y : State) → target (arrow x c y ∷ A) x c ≡ some y
 unfolding target
 target-hit A x c y = rw (eq-eqb x x refl, eq-eqb c c refl)
+
+pub target-skip : (A : List Arrow) (a : Arrow) (x : State) (c : Letter) → a .source ≢ x → target (a ∷ A) x c ≡ target A x c
+unfolding target
+target-skip A a x c f = rw (ne-eqb (a .source) x f)
 
 pub target-pass : (A : List Arrow) (a : Arrow) (x : State) (c : Letter)
     → (target (a ∷ A) x c ≡ target A x c) ⊎ ((x ≡ a .source) × (c ≡ a .on))
@@ -30,7 +39,9 @@ target-pass A a x c = by (eqb (a .source) x && eqb (a .on) c) refl
   where
     by : (b : Bool) → eqb (a .source) x && eqb (a .on) c ≡ b
         → (cond b (some (a .to)) (target A x c) ≡ target A x c) ⊎ ((x ≡ a .source) × (c ≡ a .on))
-    by true e = let r = and-true {a = eqb (a .source) x} {b = eqb (a .on) c} e in inr (sym (eqb-true (a .source) x (r .0)), sym (eqb-true (a .on) c (r .1)))
+    by true e =
+        let r = and-true {a = eqb (a .source) x} {b = eqb (a .on) c} e in
+        inr (sym (eqb-true (a .source) x (r .0)), sym (eqb-true (a .on) c (r .1)))
     by false e = inl refl
 
 -- ── Arrows on one letter into one state ────────────────────────────────────

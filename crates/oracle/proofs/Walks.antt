@@ -1,5 +1,5 @@
--- WALKS OF WORDS, as lists: every factor is walked, each letter climbs, and a walk as long as the word is the word's own. All that the
--- search needs of an oracle is here.
+-- WALKS OF WORDS, as lists: every factor is walked, each letter climbs, and a walk as long as the word is the word's own, since no letter
+-- of it may climb by more than 1. All that the search needs of an oracle is here.
 use mathlib.Core.Path.{_≡_, refl, sym, ap, _∙_}
 use mathlib.Core.Option.{Option, none, some}
 use mathlib.Core.List.{[], _∷_, _++_}
@@ -58,7 +58,9 @@ module _ (p : Word) {δ : Delta} {S : State → State} (O : Supplied (length p) 
   unfolding walk
   factor-walk i zero h = ap {B = Option State} some (sym (reach-0 (letter p) δ i))
   factor-walk i (suc n) h =
-      rw (part-snoc p i n (omega arith)) (walk-snoc δ (part p i n) (letter p (i + n)) 0 (reach (letter p) δ i n) (factor-walk i n (omega arith)) ∙ reach-arrow O i n (omega arith))
+      let before = factor-walk i n (omega arith) in
+      rw (part-snoc p i n (omega arith))
+      (walk-snoc δ (part p i n) (letter p (i + n)) 0 (reach (letter p) δ i n) before ∙ reach-arrow O i n (omega arith))
 
   -- ── Each letter climbs ───────────────────────────────────────────────────
 

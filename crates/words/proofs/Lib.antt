@@ -1,4 +1,6 @@
 pub mod Lists
+pub mod Distinct
+pub mod Greatest
 pub mod Words
 pub mod Occurrences
 pub mod Answers
