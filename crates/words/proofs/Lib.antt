@@ -5,3 +5,4 @@ pub mod Words
 pub mod Occurrences
 pub mod Answers
 pub mod Limits
+pub mod Loops
