@@ -1,4 +1,5 @@
-// Links the proved library: the archive for this processor that `tools/native-archive` makes in target/native. Cargo runs this from rust/.
+// Links the proved library: a copy of the archive for this processor that `tools/native-archive` keeps in target/native. It is taken again where that one was
+// made anew, as after each run of the gate. Cargo runs this from rust/.
 use std::{env, path::PathBuf, process::Command};
 
 fn main() {
@@ -9,6 +10,7 @@ fn main() {
     assert!(made.map(|s| s.success()).unwrap_or(false), "tools/native-archive marks_c failed: is `rt` on the path?");
     println!("cargo:rustc-link-search=native={}", out.display());
     println!("cargo:rustc-link-lib=static=marks_c");
-    println!("cargo:rerun-if-changed={}", top.join("crates").display());
-    println!("cargo:rerun-if-changed={}", top.join("tools/native-archive").display());
+    for source in ["crates", "crates.txt", "tools/native-archive", "target/native/libmarks_c.a"] {
+        println!("cargo:rerun-if-changed={}", top.join(source).display());
+    }
 }

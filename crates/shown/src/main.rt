@@ -1,238 +1,136 @@
-// Runs the entries on chosen words, texts, rooms and lists, and writes what they answer and leave. `tools/expect` computes the same lines
-// another way, from 01 alone; the file `stdout` is what it writes.
-ghost use Prim.Native.Nat.{_<_, _≤_};
-ghost use mathlib.Core.Path.{_≡_};
-ghost use lib.ListN.{length};
-use printed::done;
-use printed::entries;
-use printed::make;
-use printed::nines;
-use printed::number;
-use printed::numbers;
-use printed::refused;
-use printed::sevens;
-use printed::write;
+// Runs 01's worked examples of files by the entries for C, and writes a line for each: what is handed over, the number returned and the
+// answer, and what the lent buffers hold afterwards. `tools/expect` computes the same lines another way, from 01 alone; the file `stdout` is
+// what it writes. Before a call each lent byte is 6, each table entry 7 and the answer 0.
+use libc::STDOUT_FILENO;
+use words::WORD_LIMIT;
 
-fn tell_build(answer: marks::Built) {
-    match answer {
-        marks::Built::Done(m) => done(m as u64),
-        marks::Built::EmptyWord => refused(1),
-        marks::Built::LongWord => refused(2),
-        marks::Built::ShortRoom => refused(3),
-    }
+// Table entries for every word.
+const ENTRIES: usize = 6 * (WORD_LIMIT + 1);
+
+fn write(s: &[u8]) {
+    io::write_all(STDOUT_FILENO, s);
 }
 
-// One build, in a room of so many entries that hold 7, with one behind it that must stay.
-fn build(word: &[u8], room: usize)
-    requires { ⌜ room < 6200 ⌝ }
-{
-    let mut tables = sevens();
-    write(b"build");
-    number(word.len() as u64);
-    number(room as u64);
-    let answer = marks::build(word, &mut tables[0..room]);
-    tell_build(answer);
+fn from(place: usize, value: u64) {
+    write(b" ");
+    io::print_decimal(STDOUT_FILENO, place as u64);
     write(b":");
-    entries(&tables[0..room + 1]);
-    write(b"\n");
+    io::print_decimal(STDOUT_FILENO, value);
 }
 
-// A room that is enough, one entry less, one more.
-fn builds(word: &[u8]) {
-    if word.len() <= 1025 {
-        let enough = 6 * (word.len() + 1);
-        build(word, enough);
-        build(word, enough - 1);
-        build(word, enough + 1);
-    }
-}
-
-// Answers the number of finds, where it is one that a text of 3,000 letters can have.
-fn tell_search(answer: marks::Searched) -> usize
-    ensures { λ r. ⌜ r ≤ 3000 ⌝ }
-{
-    match answer {
-        marks::Searched::Done(tally) => {
-            done(tally.count as u64);
-            number(tally.letters);
-            if tally.count <= 3000 {
-                return tally.count;
-            }
-        }
-        marks::Searched::EmptyWord => refused(1),
-        marks::Searched::LongWord => refused(2),
-        marks::Searched::ShortRoom => refused(3),
-        marks::Searched::LongText => refused(4),
-    }
-    0
-}
-
-fn search_sizes(m: usize, n: usize, room: usize, fit: usize) {
-    write(b"search");
-    number(m as u64);
-    number(n as u64);
-    number(room as u64);
-    number(fit as u64);
-}
-
-// One search, in a room of so many entries that hold 7 and with a list of so many numbers that hold 9, one behind each that must stay.
-// Answers the number of finds.
-fn search(word: &[u8], text: &[u8], room: usize, fit: usize) -> usize
-    requires { ⌜ (room < 6200) × (fit < 3100) ⌝ }
-    ensures { λ r. ⌜ r ≤ 3000 ⌝ }
-{
-    let mut tables = sevens();
-    let mut finds = nines();
-    search_sizes(word.len(), text.len(), room, fit);
-    let answer = marks::search(word, text, &mut tables[0..room], &mut finds[0..fit]);
-    let found = tell_search(answer);
-    write(b":");
-    numbers(&finds[0..fit + 1]);
-    write(b":");
-    entries(&tables[0..room + 1]);
-    write(b"\n");
-    found
-}
-
-// Lists of no entry, of one, one short of the finds, just long enough, one longer; then a room that is one short, and one that is longer.
-fn searches(word: &[u8], text: &[u8]) {
-    if word.len() <= 1025 {
-        let enough = 6 * (word.len() + 1);
-        let found = search(word, text, enough, 0);
-        search(word, text, enough, 1);
-        if 2 <= found {
-            search(word, text, enough, found - 1);
-            search(word, text, enough, found);
-            search(word, text, enough, found + 1);
-        }
-        search(word, text, enough - 1, 3);
-        search(word, text, enough + 1, 3);
-    }
-}
-
-// Words of one to twelve letters that begin at the first forty places of a text, in its first letters.
-fn factors(made: &[u8])
-    requires { ⌜ length (now made) ≡ 3000 ⌝ }
-{
+// Each place where another value begins, with it; so with table entries.
+fn bytes(s: &[u8]) {
+    let mut last = 256;
     let mut i = 0;
-    while i < 40 {
-        let m = 1 + i % 12;
-        let end = i + m;
-        search(&made[i..end], &made[0..200], 6 * (m + 1), 4);
+    while i < s.len() {
+        let x = s[i] as u64;
+        if x != last {
+            from(i, x);
+        }
+        last = x;
         i += 1;
     }
 }
 
-// Words of one kind in the text of another.
-fn crossed(made: &[u8], other: u8)
-    requires { ⌜ length (now made) ≡ 3000 ⌝ }
-{
-    let text = make(other);
-    search(&made[0..3], &text, 24, 3);
-    search(&made[0..1024], &text, 6150, 3);
-    search(&made[1000..2024], &text, 6150, 3);
-}
-
-fn crossed_with_each(made: &[u8])
-    requires { ⌜ length (now made) ≡ 3000 ⌝ }
-{
-    let mut other: u8 = 0;
-    while other < 5 {
-        crossed(made, other);
-        other += 1;
+fn entries(s: &[u16]) {
+    let mut last = 65536;
+    let mut i = 0;
+    while i < s.len() {
+        let x = s[i] as u64;
+        if x != last {
+            from(i, x);
+        }
+        last = x;
+        i += 1;
     }
 }
 
-fn short_builds() {
-    builds(b"");
-    builds(b"a");
-    builds(b"aaa");
-    builds(b"ab");
-    builds(b"aba");
-    builds(b"abbbaab");
-    builds(b"abcacdace");
+fn tell(number: u32, answer: u64, room: &[u8], tables: &[u16]) {
+    write(b"; number ");
+    io::print_decimal(STDOUT_FILENO, number as u64);
+    write(b", answer ");
+    io::print_decimal(STDOUT_FILENO, answer);
+    write(b"; bytes");
+    bytes(room);
+    write(b"; entries");
+    entries(tables);
+    write(b"\n");
 }
 
-fn long_builds(made: &[u8])
-    requires { ⌜ length (now made) ≡ 3000 ⌝ }
-{
-    builds(&made[0..1]);
-    builds(&made[0..1023]);
-    builds(&made[0..1024]);
-    builds(&made[0..1025]);
+fn load(file: &[u8], room: &mut [u8], tables: &mut [u16]) {
+    let mut answer: u64 = 0;
+    write(b"load");
+    bytes(file);
+    let number = marks_c::marks_load(file, room, tables, &mut answer);
+    tell(number, answer, room, tables);
 }
 
-// An empty word, an empty text, a word that is the text, and one that is a letter longer.
-fn searches_at_edges() {
-    searches(b"", b"");
-    searches(b"", b"abc");
-    searches(b"a", b"");
-    searches(b"a", b"a");
-    searches(b"a", b"b");
-    searches(b"aa", b"a");
-    searches(b"aa", b"aa");
-    searches(b"abc", b"ab");
-    searches(b"abc", b"abc");
+fn save(word: &[u8], out: &mut [u8], tables: &mut [u16]) {
+    let mut answer: u64 = 0;
+    write(b"save");
+    bytes(word);
+    let number = marks_c::marks_save(word, tables, out, &mut answer);
+    tell(number, answer, out, tables);
 }
 
-// Finds that overlap, finds side by side, and none.
-fn searches_for_finds() {
-    searches(b"a", b"aaaaa");
-    searches(b"aa", b"aaaa");
-    searches(b"ab", b"aab");
-    searches(b"aba", b"ababa");
-    searches(b"abc", b"xxxxxx");
-    searches(b"abc", b"xxabcxabcabcc");
+fn case(kind: u8, given: &[u8]) {
+    let mut room = [6u8; WORD_LIMIT];
+    let mut tables = [7u16; ENTRIES];
+    if kind == b'L' {
+        load(given, &mut room, &mut tables);
+        return;
+    }
+    save(given, &mut room, &mut tables);
 }
 
-// The oracle of `abbbaab` accepts `aba`, and that of `abcacdace` accepts `cace`, which are no factors of them. They are read here from the
-// end of a window, by searches for the words' mirrors, so that one letter more is read than a test for factors would.
-fn searches_past_factors() {
-    searches(b"baabbba", b"xxxxaba");
-    searches(b"ecadcacba", b"xxxxxecac");
-    searches(b"baabbba", b"bbbbababaabbbabaabbba");
-    searches(b"ecadcacba", b"xxxxxecacxecadcacbaecadcacba");
-    searches(b"abbbaab", b"aaabbaabbbaabbbaab");
+// A table of cases, each a kind (L: load, S: save), how many bytes are handed over, and these.
+fn cases(table: &[u8]) {
+    let mut at = 0;
+    while 2 <= table.len() - at {
+        let kind = table[at];
+        let long = table[at + 1] as usize;
+        let start = at + 2;
+        if table.len() - start < long {
+            return;
+        }
+        let end = start + long;
+        case(kind, &table[start..end]);
+        at = end;
+    }
 }
 
-// The least and the greatest byte.
-fn searches_for_bytes() {
-    searches(b"\x00", b"\x00\x00\xff\x00");
-    searches(b"\xff", b"\x00\xff\xff");
-    searches(b"\x00\xff", b"\xff\x00\xff\x00\xff\x00");
-    searches(b"\xff\x00\xff", b"\x00\xff\x00\xff\x00\xff");
-}
-
-// Words that the text begins with and that stand inside it, the whole text, one letter longer than the text, too long, and the text's last
-// letter.
-fn long_searches(made: &[u8])
-    requires { ⌜ length (now made) ≡ 3000 ⌝ }
-{
-    searches(&made[0..1024], made);
-    searches(&made[1000..2024], made);
-    searches(&made[0..1024], &made[0..1024]);
-    searches(&made[0..1024], &made[0..1023]);
-    searches(&made[0..1025], made);
-    searches(&made[2999..], made);
-}
-
-fn long(kind: u8) {
-    let made = make(kind);
-    long_builds(&made);
-    long_searches(&made);
-    factors(&made);
-    crossed_with_each(&made);
+// Loads a file that ends behind its letters: as many as the longest word has, whatever it declares.
+fn long_file(declared: u32, room: &mut [u8]) {
+    let mut file = [b'a'; WORD_LIMIT + 6];
+    let mut tables = [7u16; ENTRIES];
+    file[0] = 1;
+    let width = number::width(declared);
+    number::write(&mut file, number::Cursor { at: 1 }, declared);
+    let end = 1 + width + WORD_LIMIT;
+    load(&file[0..end], room, &mut tables);
 }
 
 fn main() {
-    short_builds();
-    searches_at_edges();
-    searches_for_finds();
-    searches_past_factors();
-    searches_for_bytes();
-    let mut kind: u8 = 0;
-    while kind < 5 {
-        long(kind);
-        kind += 1;
-    }
+    cases(
+        b"S\x01a\
+        S\x03aaa\
+        S\x07abbbaab\
+        S\x09abcacdace\
+        L\x06\x01\xff\xff\xff\xff\x0f\
+        L\x07\x01\x83\x00aaa\x00\
+        L\x00\
+        L\x02\x01\x00\
+        L\x06\x01\x03aaa\x03\
+        L\x05\x01\x03aaa\
+        L\x08\x01\x03aaa\x01\x00\x00\
+        L\x07\x01\x03aaa\x00\x00\
+        L\x05\x01\x02ab\x00\
+        L\x07\x01\x02ab\x01\x00\x00\
+        S\x02ab",
+    );
+    let mut room = [6u8; WORD_LIMIT];
+    let mut short = [6u8; WORD_LIMIT - 1];
+    long_file(WORD_LIMIT as u32 + 1, &mut room);
+    long_file(WORD_LIMIT as u32, &mut short);
+    long_file(WORD_LIMIT as u32, &mut room);
 }

@@ -1,15 +1,16 @@
+-- As `bytes`, with entries in the place of bytes.
 use lib.ListN.{length}
 use Prim.Native.Nat.{_-_, _≤_}
 use native.Mathlib.Omega.{arith}
 use borrow.Author.Needs.{needs}
-use Rattle.printed.proofs.sum_numbers.Statement.{statement}
-use Rattle.printed.proofs.sum_numbers.Tie as tie
+use Rattle.shown.proofs.entries.Statement.{statement}
+use Rattle.shown.proofs.entries.Tie as tie
 
 abbrev Inv-loop : tie.InvT-loop
-Inv-loop start list sum₀ i₀ sum i = i ≤ length list
+Inv-loop s last₀ i₀ last i = i ≤ length s
 
 abbrev μ-loop : tie.MeasureT-loop
-μ-loop start list sum₀ i₀ sum i = length list - i
+μ-loop s last₀ i₀ last i = length s - i
 
 loop-holds : tie.Need-loop-holds Inv-loop μ-loop
 loop-holds c = search needs
@@ -20,13 +21,11 @@ mul-x c = search needs
 shared-slice-read-x : tie.Need-shared-slice-read-x Inv-loop μ-loop
 shared-slice-read-x c = search needs
 
-cast-mixed : tie.Need-cast-mixed Inv-loop μ-loop
-cast-mixed c =
-    let at-loop = c .before .before in
-    omega (arith, c .shared-slice-known2 .given (at-loop .loop .i))
+cast-x : tie.Need-cast-x Inv-loop μ-loop
+cast-x c = omega (arith, c .shared-slice-known2 .given (c .before .before .loop .i))
 
-mixed-requires : tie.Need-mixed-requires Inv-loop μ-loop
-mixed-requires c κs = search needs
+from-requires : tie.Need-from-requires Inv-loop μ-loop
+from-requires c κs = search needs
 
 add-i : tie.Need-add-i Inv-loop μ-loop
 add-i c = search needs
@@ -40,8 +39,8 @@ loop-again c = search needs
 returns : tie.Need-returns Inv-loop μ-loop
 returns c = search needs
 
-pub sum-numbers-spec : {M : Type 1} → statement M
-sum-numbers-spec =
+pub entries-spec : {M : Type 1} → statement M
+entries-spec =
     tie.close
     (tie.spec
     Inv-loop
@@ -49,8 +48,8 @@ sum-numbers-spec =
     loop-holds
     mul-x
     shared-slice-read-x
-    cast-mixed
-    mixed-requires
+    cast-x
+    from-requires
     add-i
     loop-less
     loop-again
