@@ -14,12 +14,12 @@ use borrow.Author.Tests.{lt-ltb, le-ltb}
 use Rattle.words.specs.Words.{Word, part}
 use Rattle.words.specs.Limits.{longestWord}
 use Rattle.words.proofs.Words.{part-length}
-use Rattle.words.proofs.Limits.{words-fit}
+use Rattle.words.proofs.Limits.{words-fit, saved-some}
 use Rattle.table.specs.Table.{room, tableOf}
 use Rattle.table.proofs.Theorems.{table-size}
 use Rattle.loaded.specs.Load.{Front, letters, stop, front, Verdict, right, wrong, verdict}
-use Rattle.loaded.specs.declared.Verdict.{Verdict as Compared}
-use Rattle.loaded.specs.declared.Verdict.the-variants.{Right, Wrong}
+use Rattle.loaded.specs.declared.Compared.{Compared}
+use Rattle.loaded.specs.declared.Compared.the-variants.{Right, Wrong}
 use Rattle.loaded.specs.Answers.{verdictOf}
 use Rattle.loaded.specs.Cases.{FrontCase, VerdictCase}
 use Rattle.loaded.proofs.Fronts.{LettersIn, front-letters}
@@ -161,8 +161,11 @@ module _ (file R T : List ℕ) {m i : ℕ} (shown : front file ≡ letters m i) 
   lent : length (take m R) ≡ m
   lent = length-take-le m R fits
 
-  pub lent-sized : ((i + length (take m R) ≤ length file) × (length (take (room m) T) ≡ 6 * (length (take m R) + 1))) × ((1 ≤ length (take m R)) × (length (take m R) < 65535))
-  lent-sized = rw lent ((there .inside, length-take-le (room m) T enough), (there .least, omega (arith, there .most, words-fit)))
+  pub lent-sized : ((i + length (take m R) ≤ length file) × (length (take (room m) T) ≡ 6 * (length (take m R) + 1)))
+      × ((1 ≤ length (take m R)) × (length (take m R) < 65535))
+  lent-sized =
+      let some : 1 ≤ m = omega (arith, saved-some, there .least) in
+      rw lent ((there .inside, length-take-le (room m) T enough), (some, omega (arith, there .most, words-fit)))
 
   pub given-back : (r : SizeAnswer) {R′ T′ : List ℕ}
       → loadedAs r R′ T′ ≡ judged (verdict file (i + length (take m R)) (part file i (length (take m R)))) (part file i (length (take m R)))
@@ -186,7 +189,7 @@ loaded-stands file R T (LoadCase.accepted {m = m} {i = i} f h t v) =
     let size : length w ≡ m = letters-size file R T f h t in
     let table-sized : length (tableOf w) ≡ room m = table-size w ∙ ap room size in
     record {
-      least = I .least;
+      least = omega (arith, saved-some, I .least);
       most = I .most;
       inside = simp (length-append, size) (omega arith);
       enough = simp (length-append, table-sized) (omega arith);

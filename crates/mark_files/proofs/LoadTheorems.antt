@@ -9,7 +9,8 @@ use native.Mathlib.Decide.{decLt}
 use lib.ListN.{length, take, drop, replicate}
 use lib.Seq.{take-at}
 use Rattle.words.specs.Words.{Word, part}
-use Rattle.words.specs.Limits.{longestWord}
+use Rattle.words.specs.Limits.{leastSaved, longestWord}
+use Rattle.words.proofs.Limits.{saved-some}
 use Rattle.words.proofs.Words.{part-length}
 use Rattle.oracle.specs.SuffixRule.{oracle}
 use Rattle.table.specs.Table.{room, tableOf, readArrow}
@@ -48,22 +49,30 @@ module _ (R T : List ℕ) where
 
   -- ── Exactly the words' files ─────────────────────────────────────────────
 
-  module _ (w : Word) (least : 1 ≤ length w) (most : length w ≤ longestWord) (h : length w ≤ length R) (t : room (length w) ≤ length T) where
+  module _ (w : Word) (least : leastSaved ≤ length w) (most : length w ≤ longestWord)
+      (h : length w ≤ length R) (t : room (length w) ≤ length T) where
+    -- its outcome, where it is loaded
+    abbrev handed-over : Outcome
+    handed-over = outcome (done (length w)) (w ++ drop (length w) R) (tableOf w ++ drop (room (length w)) T)
+
     -- the file of a word is accepted: m is answered, the word and its table stand in the rooms, and the rest of them is as it was
-    pub file-loads : loadSays (spell w) R T ≡ outcome (done (length w)) (w ++ drop (length w) R) (tableOf w ++ drop (room (length w)) T)
+    pub file-loads : loadSays (spell w) R T ≡ handed-over
     file-loads = says-shown (file-accepted w least most) h t
 
-    -- the arrows that are read from the table it leaves are the oracle's, and so all that `oracle/Theorems` says of an oracle's walks holds of them
+    -- the arrows that are read from the table it leaves are the oracle's, so all that `oracle/Theorems` says of walks holds of them
     pub loaded-arrows : readArrow (length w) (take (room (length w)) (loadSays (spell w) R T .tables)) ≡ oracle w
     loaded-arrows =
-        let e : take (room (length w)) (loadSays (spell w) R T .tables) ≡ tableOf w =
-        ap (λ o. take (room (length w)) (o .tables)) file-loads ∙ take-at (tableOf w) (drop (room (length w)) T) (room (length w)) (table-size w) in
+        let n = room (length w) in
+        let e : take n (loadSays (spell w) R T .tables) ≡ tableOf w =
+        ap (λ o. take n (o .tables)) file-loads ∙ take-at (tableOf w) (drop n T) n (table-size w) in
         rw e (fun-ext (λ x. fun-ext (table-arrow w x)))
 
     -- what was saved is loaded again
     pub saved-loads : (T′ O : List ℕ) → room (length w) ≤ length T′ → length (spell w) ≤ length O
-        → loadSays (take (length (spell w)) (saveSays w T′ O .output)) R T ≡ outcome (done (length w)) (w ++ drop (length w) R) (tableOf w ++ drop (room (length w)) T)
-    saved-loads T′ O a b = ap (λ (f : List ℕ). loadSays f R T) (done-leaves w T′ O least most a b .file) ∙ file-loads
+        → loadSays (take (length (spell w)) (saveSays w T′ O .output)) R T ≡ handed-over
+    saved-loads T′ O a b =
+        let some : 1 ≤ length w = omega (arith, saved-some, least) in
+        ap (λ (f : List ℕ). loadSays f R T) (done-leaves w T′ O some most a b .file) ∙ file-loads
 
     -- a file that is cut short anywhere is refused with 5
     pub cut-refused : (n : ℕ) → n < length (spell w) → loadSays (take n (spell w)) R T .answer ≡ refused 5
@@ -103,13 +112,13 @@ module _ (R T : List ℕ) where
       there a =
           let r = loaded-files s bytes (a .1) in
           let f = r .1 in
-          (record { word = r .0; bytes = f .bytes; least = f .least; most = f .most; file = f .file }, r .3, r .4)
+          (record { word = r .0; savable = f .savable; file = f .file }, r .3, r .4)
 
       back : (f : Saved s) × (length (f .word) ≤ length R) × (room (length (f .word)) ≤ length T)
           → (m : ℕ) × (loadSays s R T .answer ≡ done m)
       back a =
           let f = a .0 in
-          let loads = file-loads (f .word) (f .least) (f .most) (a .1) (a .2) in
+          let loads = file-loads (f .word) (f .savable .least) (f .savable .most) (a .1) (a .2) in
           (length (f .word), ap (λ (file : List ℕ). loadSays file R T .answer) (f .file) ∙ ap (λ o. o .answer) loads)
 
   -- and that word, with its oracle, is what is handed over: m letters at the start of the word room, and arrows that are read from the tables
@@ -122,13 +131,13 @@ module _ (R T : List ℕ) where
           let w = a .0 in
           let f = a .1 in
           let word : w ≡ take (length w) (w ++ drop (length w) R) = sym (take-at w (drop (length w) R) (length w) refl) in
-          let told = file-loads w (f .least) (f .most) (a .3) (a .4) in
-          let read = rw told at (loaded-arrows w (f .least) (f .most) (a .3) (a .4)) in
+          let told = file-loads w (f .savable .least) (f .savable .most) (a .3) (a .4) in
+          let read = rw told at (loaded-arrows w (f .savable .least) (f .savable .most) (a .3) (a .4)) in
           rw (a .2, f .file, told) (record { size = ap length (sym word); file = ap spell word; arrows = read ∙ ap oracle word })
 
   -- files of different words are loaded differently
-  pub loads-apart : (w w′ : Word) → 1 ≤ length w → length w ≤ longestWord → length w ≤ length R → room (length w) ≤ length T
-      → 1 ≤ length w′ → length w′ ≤ longestWord → length w′ ≤ length R → room (length w′) ≤ length T
+  pub loads-apart : (w w′ : Word) → leastSaved ≤ length w → length w ≤ longestWord → length w ≤ length R → room (length w) ≤ length T
+      → leastSaved ≤ length w′ → length w′ ≤ longestWord → length w′ ≤ length R → room (length w′) ≤ length T
       → loadSays (spell w) R T ≡ loadSays (spell w′) R T → w ≡ w′
   loads-apart w w′ a b h t a′ b′ h′ t′ e = by (sym (file-loads w a b h t) ∙ e ∙ file-loads w′ a′ b′ h′ t′)
     where

@@ -10,7 +10,7 @@ use lib.ListN.{length, take, drop}
 use lib.Seq.{take-at, length-take-le}
 use borrow.Author.Tests.{lt-ltb, le-ltb}
 use Rattle.words.specs.Words.{Word, Place, mirror, occurrences}
-use Rattle.words.specs.Limits.{longestWord, longestText}
+use Rattle.words.specs.Limits.{leastSaved, longestWord, longestText}
 use Rattle.words.proofs.Limits.{words-fit, texts-fit}
 use Rattle.oracle.specs.SuffixRule.{oracle}
 use Rattle.backward.specs.Steps.{steps, backward}
@@ -145,13 +145,16 @@ module _ (file : List ℕ) (text : Word) (R T : List ℕ) (F : List Place) where
   -- ── What is found with a word's file ─────────────────────────────────────
 
   -- every occurrence of the mirror of the file's word is counted, the first of them are listed, and the letters are the published steps' own
-  pub file-searched : (w : Word) → 1 ≤ length w → length w ≤ longestWord → file ≡ spell w → length text ≤ longestText → length w ≤ length R
+  pub file-searched : (w : Word) → leastSaved ≤ length w → length w ≤ longestWord → file ≡ spell w → length text ≤ longestText
+      → length w ≤ length R
       → room (length w) ≤ length T
       → searchFileSays file text R T F
       ≡ outcome (done (found (mirror w) text)) (w ++ drop (length w) R) (tableOf w ++ drop (room (length w)) T)
       (filled (occurrences (mirror w) text) F)
   unfolding searchFileSays
-  file-searched w least most f short h t = rw (f, le-ltb longestText (length text) short, file-loads R T w least most h t, take-at w (drop (length w) R) (length w) refl)
+  file-searched w least most f short h t =
+      let loads = file-loads R T w least most h t in
+      rw (f, le-ltb longestText (length text) short, loads, take-at w (drop (length w) R) (length w) refl)
 
 -- ── One outcome ────────────────────────────────────────────────────────────
 
