@@ -14,6 +14,9 @@ use Rattle.answers.specs.Answers.{Answer, done, refused, refusedAt, size
 pub done-not-refused : {A B : Type 0} {a : A} {n : ℕ} → _≡_ {A = Answer A} (done a) (refused n) → B
 done-not-refused e = let z : _≡_ {A = ℕ} 0 1 = cc in absurd (omega arith)
 
+pub done-not-placed : {A B : Type 0} {a : A} {n p : ℕ} → _≡_ {A = Answer A} (done a) (refusedAt n p) → B
+done-not-placed e = let z : _≡_ {A = ℕ} 0 1 = cc in absurd (omega arith)
+
 -- ── Sizes ──────────────────────────────────────────────────────────────────
 
 sized : Answer ℕ → SizeAnswer

@@ -25,8 +25,8 @@ use Rattle.oracle.specs.FileOrder.{Extra, extra}
 use Rattle.backward.specs.Steps.{backward}
 use Rattle.table.specs.Table.{room}
 use Rattle.saved.specs.File.{spell}
-use Rattle.marks.specs.Answers.{Answer, done, refused}
-use Rattle.marks.specs.Load.{Outcome, loadSays}
+use Rattle.answers.specs.Answers.{Answer, done, refused, refusedAt}
+use Rattle.mark_files.specs.Load.{Outcome, loadSays}
 
 -- an extra arrow as 01 writes it, 0-2: its letter is that of the state it leads to
 abbrev pub _to_ : State → State → Extra
@@ -74,6 +74,7 @@ gives S i (y ∷ l) = is (S i) y && gives S (suc i) l
 unfoldable pub isRefused : Answer ℕ → ℕ → Bool
 isRefused (done m) n = false
 isRefused (refused r) n = eqb r n
+isRefused (refusedAt r p) n = false
 
 -- refused with n, both rooms as they were
 unfoldable pub refusedWith : ℕ → List ℕ → List ℕ → Outcome → Bool

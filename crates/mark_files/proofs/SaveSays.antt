@@ -10,12 +10,13 @@ use lib.ListN.{length, take, drop, replicate}
 use lib.Seq.{take-at, drop-at}
 use borrow.Author.Tests.{lt-ltb, le-ltb}
 use Rattle.words.specs.Words.{Word}
-use Rattle.words.specs.Limits.{longestWord}
+use Rattle.words.specs.Limits.{longestWord, greatestFile}
 use Rattle.words.proofs.Limits.{words-fit}
 use Rattle.table.specs.Table.{room, tableOf}
 use Rattle.table.proofs.Theorems.{table-size}
 use Rattle.saved.specs.File.{spell}
 use Rattle.saved.specs.Stepping.{Tabled}
+use Rattle.saved.proofs.Theorems.{size-most}
 use Rattle.answers.specs.declared.SizeAnswer.{SizeAnswer}
 use Rattle.answers.specs.Answers.{done, refused, emptyWord, longWord, shortRoom, shortOutput}
 use Rattle.answers.proofs.Answers.{done-not-refused, size-answer-one}
@@ -114,6 +115,17 @@ module _ (word : Word) (T O : List ℕ) where
       by (SaveCase.long-word h l) e = (refl, inl refl)
       by (SaveCase.short-room h l s) e = (refl, inl refl)
       by (SaveCase.short-output h l s o) e = (refl, inr refl)
+      by (SaveCase.accepted h l s o) e = done-not-refused e
+
+  -- as much output as the limits promise is never too little
+  pub enough-output : greatestFile ≤ length O → saveSays word T O .answer ≡ refused shortOutput → ⊥
+  enough-output room = by case
+    where
+      by : {o : Outcome} → SaveCase word T O o → o .answer ≡ refused shortOutput → ⊥
+      by (SaveCase.empty-word h) e = let z : _≡_ {A = ℕ} 1 12 = cc in omega arith
+      by (SaveCase.long-word h l) e = let z : _≡_ {A = ℕ} 2 12 = cc in omega arith
+      by (SaveCase.short-room h l s) e = let z : _≡_ {A = ℕ} 3 12 = cc in omega arith
+      by (SaveCase.short-output h l s o) e = omega (arith, size-most word h l)
       by (SaveCase.accepted h l s o) e = done-not-refused e
 
 -- ── What the code's steps come to ──────────────────────────────────────────

@@ -29,14 +29,15 @@ use Rattle.answers.specs.declared.SizeAnswer.{SizeAnswer}
 use Rattle.answers.specs.declared.SizeAnswer.the-variants.{Done, Refused}
 use Rattle.answers.specs.declared.TallyAnswer.{TallyAnswer}
 use Rattle.answers.specs.Answers.{Answer, done, refused, refusedAt, refusedAs, sizeAnswer, longText}
-use Rattle.answers.proofs.Answers.{done-not-refused, tally-answer-one}
+use Rattle.answers.proofs.Answers.{done-not-refused, done-not-placed, tally-answer-one}
 use Rattle.mark_files.specs.Load.{loadedAs, loadSays}
 use Rattle.mark_files.specs.Load
 use Rattle.marks.specs.Search.{found}
 use Rattle.mark_files.specs.SearchFile.{Outcome, outcome, fileSearched, afterLoad, searchFileSays}
 use Rattle.mark_files.specs.Cases.{LoadCase, SearchFileCase, AfterRefusal}
-use Rattle.saved.specs.File.{spell}
-use Rattle.mark_files.proofs.LoadTheorems.{file-loads}
+use Rattle.number.specs.Number.{Bytes}
+use Rattle.saved.specs.File.{spell, Saved}
+use Rattle.mark_files.proofs.LoadTheorems.{file-loads, accepted-exactly as loads-exactly}
 use Rattle.mark_files.proofs.LoadSays.{load-is, Standing, told-stands}
 use Rattle.mark_files.proofs.LoadSays
 
@@ -155,6 +156,26 @@ module _ (file : List ℕ) (text : Word) (R T : List ℕ) (F : List Place) where
   file-searched w least most f short h t =
       let loads = file-loads R T w least most h t in
       rw (f, le-ltb longestText (length text) short, loads, take-at w (drop (length w) R) (length w) refl)
+
+  -- with a text within the limit, exactly the files that loading accepts are
+  pub accepted-exactly : Bytes file → length text ≤ longestText
+      → ((t : Tally) × (searchFileSays file text R T F .answer ≡ done t))
+      ↔ ((f : Saved file) × (length (f .word) ≤ length R) × (room (length (f .word)) ≤ length T))
+  accepted-exactly bytes short = (λ a. loads-exactly R T file bytes .0 (there (loadSays file R T .answer) refl (a .1)), back)
+    where
+      after : (a : Answer ℕ) → loadSays file R T .answer ≡ a
+          → searchFileSays file text R T F .answer ≡ afterLoad a text (loadSays file R T .word) (loadSays file R T .tables) F .answer
+      after a e = ap (λ o. o .answer) (says-after short refl) ∙ rw e
+
+      there : (a : Answer ℕ) → loadSays file R T .answer ≡ a → {t : Tally} → searchFileSays file text R T F .answer ≡ done t
+          → (m : ℕ) × (loadSays file R T .answer ≡ done m)
+      there (done m) e h = (m, e)
+      there (refused n) e h = done-not-refused (sym h ∙ after (refused n) e)
+      there (refusedAt n p) e h = done-not-placed (sym h ∙ after (refusedAt n p) e)
+
+      back : (f : Saved file) × (length (f .word) ≤ length R) × (room (length (f .word)) ≤ length T)
+          → (t : Tally) × (searchFileSays file text R T F .answer ≡ done t)
+      back f = let a = loads-exactly R T file bytes .1 f in (_, after (done (a .0)) (a .1))
 
 -- ── One outcome ────────────────────────────────────────────────────────────
 
