@@ -7,7 +7,7 @@ use mathlib.Core.Logic.{_⊎_, inl, inr}
 use mathlib.Core.Option.{some}
 use mathlib.Core.List.{List, [], _∷_, _++_}
 use Prim.Native.Nat.{ℕ, zero, suc, _+_, _-_, _≤_, _<_}
-use native.Mathlib.Nat.{le-refl}
+use native.Mathlib.Nat.{le-refl, le-trans}
 use native.Mathlib.Omega.{arith}
 use lib.ListN.{length, length-append, length-map, drop}
 use lib.Dec.{eqb}
@@ -42,11 +42,11 @@ unfolding extrasAfter missing
 extras-length p zero = le-refl 0
 extras-length p (suc i) =
     let h = far (target (extrasAfter p i ++ spine p)) 0 (suc i) (drop (suc i) p) in
-    rw (length-append (mend p h) (extrasAfter p i)) (omega (arith, mend-length p h, extras-length p i))
+    simp length-append (omega (arith, mend-length p h, extras-length p i))
 
 pub extra-arrows-few : (p : Word) → length (extraArrows p) ≤ length p - 1
 unfolding extraArrows
-extra-arrows-few p = extras-length p (length p - 1)
+extra-arrows-few p = le-trans (extras-length p _) (omega arith)
 
 -- ── The length of suffix paths ─────────────────────────────────────────────
 
