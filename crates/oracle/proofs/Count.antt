@@ -2,8 +2,7 @@
 -- length of its last state's suffix path within twice its letters: a step along the path pays for the arrow that it adds. This is what
 -- leaves a slot free while a table is built.
 use mathlib.Core.Path.{_≡_, refl, sym, ap, _∙_}
-use mathlib.Core.Bool.{Bool, true, false, cond}
-use mathlib.Core.Logic.{_⊎_, inl, inr}
+use mathlib.Core.Logic.{⊎-elim}
 use mathlib.Core.Option.{some}
 use mathlib.Core.List.{List, [], _∷_, _++_}
 use Prim.Native.Nat.{ℕ, zero, suc, _+_, _-_, _≤_, _<_}
@@ -13,8 +12,8 @@ use lib.ListN.{length, length-append, length-map, drop}
 use lib.Dec.{eqb}
 use Rattle.words.specs.Lists.{from}
 use Rattle.words.specs.Words.{Letter, Word, letter}
-use Rattle.words.proofs.Lists.{from-length}
-use Rattle.oracle.specs.Arrows.{State, Arrow, Delta, target, spine}
+use Rattle.words.proofs.Lists.{test-cases, from-length}
+use Rattle.oracle.specs.Arrows.{State, Delta, target, spine}
 use Rattle.oracle.specs.SuffixRule.{Halt, far, mend, missing, extrasAfter, extraArrows}
 use Rattle.oracle.specs.SuffixPath.{SuffixPath, ended, falls}
 use Rattle.oracle.specs.LetterRule.{addLetter, builtUpTo, sourcesOf}
@@ -31,11 +30,7 @@ spine-length p = length-map (from 0 (length p)) _ ∙ from-length 0 (length p)
 
 mend-length : (p : Word) (h : Halt) → length (mend p h) ≤ 1
 unfolding mend
-mend-length p h = by (eqb (h .upTo) (length p)) _
-  where
-    by : (b : Bool) (a : Arrow) → length (cond b [] (a ∷ [])) ≤ 1
-    by true a = omega arith
-    by false a = le-refl 1
+mend-length p h = test-cases (eqb (h .upTo) (length p)) (λ e. rw e (omega arith)) (λ e. rw e (le-refl 1))
 
 extras-length : (p : Word) (i : ℕ) → length (extrasAfter p i) ≤ i
 unfolding extrasAfter missing
@@ -78,13 +73,10 @@ module _ {m : ℕ} {w : ℕ → Letter} {δ : Delta} {S : State → State} (O : 
       let z : S y ≡ 0 = O .bottom c y (rw q at e) in
       omega (arith, path-of-zero (r ∙ z) d)
   arrow-path {c = c} {y = y} (falls {x = k} {y = k′} {l = l} p q d) e (falls {y = y′} {l = l′} p′ q′ d′) =
-      by (O .answers k c y e) (λ f. arrow-path d (rw (← q) at f) (falls p′ q′ d′)) (λ f. arrow-path d (rw (← q) at f) (rw q′ at d′))
-    where
-      by : (δ (S k) c ≡ some y) ⊎ (δ (S k) c ≡ some (S y)) → (δ (S k) c ≡ some y → suc (length l′) ≤ suc (length l))
-          → (δ (S k) c ≡ some (S y) → length l′ ≤ suc (length l))
-          → suc (length l′) ≤ suc (suc (length l))
-      by (inl f) r r′ = omega (arith, r f)
-      by (inr f) r r′ = omega (arith, r′ f)
+      ⊎-elim
+      (λ f. omega (arith, arrow-path d (rw (← q) at f) (falls p′ q′ d′)))
+      (λ f. omega (arith, arrow-path d (rw (← q) at f) (rw q′ at d′)))
+      (O .answers k c y e)
 
   -- the sources of a climb and the path of where it lands
   climb-path : {c : Letter} {k : State} {l : List State} {y : State} {l′ xs : List State} → Climb δ S c k xs y → SuffixPath S k l
@@ -99,14 +91,11 @@ module _ {m : ℕ} {w : ℕ → Letter} {δ : Delta} {S : State → State} (O : 
       → arrows + length l ≤ m + m
       → ((x : State) → x ≤ m → S′ x ≡ S x) → S′ (suc m) ≡ y
       → (l′ : List State) × SuffixPath S′ (suc m) (y ∷ l′) × (length xs + arrows + suc (length l′) ≤ suc m + suc m)
-  path-grows arrows {y} {l} {xs} S′ C D b kept given = by (path-within y y (le-refl y) (climb-below O C))
-    where
-      by : (l′ : List State) × SuffixPath S y l′
-          → (l′ : List State) × SuffixPath S′ (suc m) (y ∷ l′) × (length xs + arrows + suc (length l′) ≤ suc m + suc m)
-      by r =
-          let p : 0 < suc m = omega arith in
-          let d : SuffixPath S′ y (r .0) = path-agree S S′ (λ x h. omega (arith, supply-below O x h)) kept (climb-below O C) (r .1) in
-          (r .0, falls p (sym given) d, omega (arith, climb-path C D (r .1)))
+  path-grows arrows {y} {l} {xs} S′ C D b kept given =
+      let r = path-within y y (le-refl y) (climb-below O C) in
+      let p : 0 < suc m = omega arith in
+      let d : SuffixPath S′ y (r .0) = path-agree S S′ (λ x h. omega (arith, supply-below O x h)) kept (climb-below O C) (r .1) in
+      (r .0, falls p (sym given) d, omega (arith, climb-path C D (r .1)))
 
 -- ── The letter-by-letter rule ──────────────────────────────────────────────
 
