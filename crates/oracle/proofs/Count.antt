@@ -53,16 +53,12 @@ module _ {m : ℕ} {w : ℕ → Letter} {δ : Delta} {S : State → State} (O : 
   -- the first number only bounds the state
   path-within : (f x : State) → x ≤ f → x ≤ m → (l : List State) × SuffixPath S x l
   path-within zero x h b = let e : x ≡ 0 = omega arith in ([], ended e)
-  path-within (suc f) x h b = by x h b (λ y l g. path-within f y l g)
-    where
-      by : (x : State) → x ≤ suc f → x ≤ m → ((y : State) → y ≤ f → y ≤ m → (l : List State) × SuffixPath S y l)
-          → (l : List State) × SuffixPath S x l
-      by zero h b rec = ([], ended refl)
-      by (suc x) h b rec =
-          let d = O .down x b in
-          let r = rec (S (suc x)) (omega arith) (omega arith) in
-          let p : 0 < suc x = omega arith in
-          (S (suc x) ∷ r .0, falls p refl (r .1))
+  path-within (suc f) zero h b = ([], ended refl)
+  path-within (suc f) (suc x) h b =
+      let d = O .down x b in
+      let r = path-within f (S (suc x)) (omega arith) (omega arith) in
+      let p : 0 < suc x = omega arith in
+      (S (suc x) ∷ r .0, falls p refl (r .1))
 
   -- an arrow leads to a path longer by one at most
   arrow-path : {k : State} {l : List State} {c : Letter} {y : State} {l′ : List State} → SuffixPath S k l → δ k c ≡ some y

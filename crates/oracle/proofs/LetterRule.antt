@@ -149,15 +149,9 @@ built-sound p zero = record {
     bottom = λ c y e. never refl e;
   };
   size = refl;
-  path = λ x h. by x (omega arith);
+  path = λ x h. let e : x ≡ 0 = omega arith in rw e (ended refl);
   one = tt;
 }
-  where
-    b : Automaton
-    b = record { arrows = []; paths = [] ∷ [] }
-
-    by : (x : State) → x ≡ 0 → SuffixPath (supplies b) x (pathOf b x)
-    by x e = rw e (ended refl)
 built-sound p (suc t) = sound-next (built-sound p t)
 
 -- ── Prefixes ───────────────────────────────────────────────────────────────

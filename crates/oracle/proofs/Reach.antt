@@ -11,7 +11,7 @@ use native.Mathlib.Omega.{arith}
 use Rattle.words.specs.Words.{Letter}
 use Rattle.oracle.specs.Arrows.{State, Delta}
 use Rattle.oracle.proofs.Targets.{never}
-use Rattle.oracle.proofs.Chain.{On, here, next, Into, Supplied, on-below, on-zero, zero-on, Near, on-near, near-arrow, chain-arrow}
+use Rattle.oracle.proofs.Chain.{On, here, next, Supplied, on-below, on-zero, zero-on, Near, on-near, near-arrow, chain-arrow}
 
 -- 0 where an arrow is missing, which no factor's walk meets
 pub reach : (ℕ → Letter) → Delta → ℕ → ℕ → State

@@ -11,7 +11,7 @@
 --   At the end: every arrow of δ has its source on a chain, so some suffix uses it, so it was added.
 use mathlib.Core.Path.{_≡_, refl, sym, ap, _∙_}
 use mathlib.Core.Logic.{⊎-elim, by-cases}
-use mathlib.Core.Option.{Option, none, some}
+use mathlib.Core.Option.{none, some}
 use mathlib.Core.List.{List, [], _∷_, _++_, map, append-assoc}
 use Prim.Native.Nat.{ℕ, zero, suc, _+_, _-_, _≤_, _<_}
 use native.Mathlib.Nat.{zero-add, add-zero, add-suc}
@@ -103,7 +103,13 @@ module _ (p : Word) {δ : Delta} {S : State → State} (O : Supplied (length p) 
   far-halts B i within [] len k e q b f =
       let ended : 0 ≡ m - k = ap length q ∙ length-drop k p in
       record { len = len; state = refl; upTo = e; inside = omega arith; followed = f; lacks = λ h. absurd (omega arith) }
-  far-halts B i within (c ∷ v) len k e q b f = by (B (to i len) c) refl (far-halts B i within v (suc len) (suc k))
+  far-halts B i within (c ∷ v) len k e q b f = option-cases (B (to i len) c)
+      (λ d.
+      let within-word : i + len ≤ m = omega (arith, inside) in
+      rw (d, far) (record { len = len; state = refl; upTo = e; inside = within-word; followed = f; lacks = λ h. rw on at d }))
+      (λ y d.
+      let next : y ≡ to i (suc len) = sym (reach-next w δ i len (rw on at (within (to i len) c y d))) in
+      rw (d, far, next) (far-halts B i within v (suc len) (suc k) (omega arith) (cc (split)) inside (more (rw (on, next) at d))))
     where
       inside : k < m
       inside = omega (arith, ap length q ∙ length-drop k p)
@@ -116,17 +122,6 @@ module _ (p : Word) {δ : Delta} {S : State → State} (O : Supplied (length p) 
 
       more : Uses B i len → (n : ℕ) → n < suc len → Uses B i n
       more u n h = by-cases (ℕ-discrete n len) (λ g. rw g u) (λ g. f n (omega arith))
-
-      by : (o : Option State) → B (to i len) c ≡ o
-          → (suc k ≡ i + suc len → v ≡ drop (suc k) p → suc k ≤ m → ((n : ℕ) → n < suc len → Uses B i n)
-          → Halted B i (far B (to i (suc len)) (suc k) v))
-          → Halted B i (far B (to i len) k (c ∷ v))
-      by none d rec =
-          let within-word : i + len ≤ m = omega (arith, inside) in
-          rw (d, far) (record { len = len; state = refl; upTo = e; inside = within-word; followed = f; lacks = λ h. rw on at d })
-      by (some y) d rec =
-          let q : y ≡ to i (suc len) = sym (reach-next w δ i len (rw on at (within (to i len) c y d))) in
-          rw (d, far, q) (rec (omega arith) (cc (split)) inside (more (rw (on, q) at d)))
 
   -- nothing is lacking
   whole : (B : Delta) (i : ℕ) → Part B i → ((n : ℕ) → i + n < m → Uses B i n) → Part B (suc i)

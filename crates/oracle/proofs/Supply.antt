@@ -2,7 +2,7 @@
 -- definition that looks for that end. The longest end that is not walked to k is walked to the supply of k. The longest repeated end is no
 -- longer, for repeated ends are walked below k, and leads no lower, for the supply's shortest word is a repeated end itself.
 use mathlib.Core.Path.{_≡_, refl, sym, ap, _∙_, fun-ext}
-use mathlib.Core.Bool.{Bool, true, false}
+use mathlib.Core.Bool.{Bool, true, false, false≢true}
 use mathlib.Core.Logic.{⊎-elim, by-cases}
 use mathlib.Core.Option.{Option, none, some}
 use mathlib.Core.List.{[], _∷_, _++_}
@@ -15,7 +15,8 @@ use lib.Seq.{take-length, length-take-le}
 use borrow.Author.Tests.{le-leb, leb-true}
 use Rattle.words.specs.Lists.{from, only, first}
 use Rattle.words.specs.Words.{Word, letter, part, same, stands, occurrences}
-use Rattle.words.proofs.Lists.{test-cases, member, not-empty, from-snoc, from-in, in-from, only-yes, only-append, only-in, in-only, first-yes, first-not}
+use Rattle.words.proofs.Lists.{test-cases, member, not-empty, from-snoc, from-in, in-from}
+use Rattle.words.proofs.Lists.{only-yes, only-append, only-in, in-only, first-yes, first-not}
 use Rattle.words.proofs.Greatest.{Greatest, Least, greatest-passing}
 use Rattle.words.proofs.Words.{part-of-part}
 use Rattle.words.proofs.Occurrences.{stands-part, part-stands}
@@ -26,7 +27,7 @@ use Rattle.oracle.proofs.Chain.{Supplied, supply-below, Near}
 use Rattle.oracle.proofs.Reach.{reach, reach-0, reach-spine, reach-below, reach-near, reach-falls}
 use Rattle.oracle.proofs.SuffixRule.{suffix-rule-arrows}
 use Rattle.oracle.proofs.Walks.{factor-walk}
-use Rattle.oracle.proofs.Shortest.{Shortest, shortest, ShortestAtEnd, shortest-at-end, reach-same}
+use Rattle.oracle.proofs.Shortest.{shortest, shortest-at-end, reach-same}
 
 -- ── As numbers ─────────────────────────────────────────────────────────────
 
@@ -76,31 +77,25 @@ module _ (p : Word) {δ : Delta} {S : State → State} (O : Supplied (length p) 
       near
 
   pub least-repeated-leads : (a : ℕ) → Least (Repeats p k) k a → up a ≡ S k
-  least-repeated-leads a L = by (shortest-at-end p O (S k) U (suc E) (k - suc E) (omega (arith, low)) (omega (arith, before-end)) next-is-supply)
+  least-repeated-leads a L =
+      let low = supply-below O k b in
+      let U = shortest p O (S k) (omega arith) in
+      let H = shortest-at-end p O (S k) U (suc E) (k - suc E) (omega arith) (omega (arith, before-end)) next-is-supply in
+      -- the supply's shortest word ends the letters up to k from c on, and stands earlier too
+      let c = suc E + H .skipped in
+      let n : k - c ≡ U .len = omega (arith, H .size, before-end) in
+      let le : c ≤ k = omega (arith, H .size, before-end) in
+      let again : Repeats p k c = (U .start, omega (arith, U .place, H .size, before-end), rw n (sym (H .same))) in
+      let led = reach-same p O c (U .start) (U .len) (omega arith) (omega (arith, U .place)) (H .same) in
+      let same : up c ≡ S k = rw n (led ∙ U .walked) in
+      let high = up-falls (suc E) a late (L .within) in
+      let deep = up-falls a c (L .least c le again) le in
+      omega (arith, next-is-supply)
     where
-      low : S k ≤ k - 1
-      low = supply-below O k b
-
-      U : Shortest p O (S k)
-      U = shortest p O (S k) (omega (arith, low))
-
       late : suc E ≤ a
       late = by-cases (decLe (suc E) a) (λ h. h) (λ h.
           let falls = up-falls a E (omega arith) (last-to-k .within) in
           absurd (omega (arith, last-to-k .passes, repeated-below a (L .within) (L .passes))))
-
-      -- the supply's shortest word ends the letters up to k from c on, and stands earlier too
-      by : ShortestAtEnd p O (S k) U (suc E) (k - suc E) → up a ≡ S k
-      by H =
-          let c = suc E + H .skipped in
-          let n : k - c ≡ U .len = omega (arith, H .size, before-end) in
-          let le : c ≤ k = omega (arith, H .size, before-end) in
-          let again : Repeats p k c = (U .start, omega (arith, U .place, H .size, low, before-end), rw n (sym (H .same))) in
-          let led = reach-same p O c (U .start) (U .len) (omega arith) (omega (arith, U .place, low)) (H .same) in
-          let same : up c ≡ S k = rw n (led ∙ U .walked) in
-          let high = up-falls (suc E) a late (L .within) in
-          let deep = up-falls a c (L .least c le again) le in
-          omega (arith, next-is-supply)
 
 -- ── The longest end that stands twice ──────────────────────────────────────
 
@@ -209,30 +204,23 @@ module _ (p : Word) {δ : Delta} {S : State → State} (O : Supplied (length p) 
       let z : k - k ≡ 0 = omega arith in
       rw e at (repeats-twice k (le-refl k) (0, pos, rw z refl))
 
+  longest : FirstEnd (twice u) u
+  longest = first-end (twice u) u empty-twice
+
+  longest-least : Least (Repeats p k) k (longest .at)
+  longest-least =
+      let le : longest .at ≤ k = omega (arith, longest .within, size) in
+      let first : (c : ℕ) → c ≤ k → Repeats p k c → longest .at ≤ c = λ c l r. by-cases (decLe (longest .at) c)
+      (λ h. h)
+      (λ h. absurd (false≢true (sym (longest .before c (omega arith)) ∙ repeats-twice c l r))) in
+      record { within = le; passes = twice-repeats (longest .at) le (longest .passes); least = first }
+
   -- the supply of each state above 0 is the one of 001's definition
   pub supply-is-defined : supply p k ≡ some (S k)
   unfolding supply repeated
-  supply-is-defined = by (first-end (twice u) u empty-twice)
-    where
-      arrows : oracle p ≡ δ
-      arrows = fun-ext (λ x. fun-ext (λ c. suffix-rule-arrows p O x c))
-
-      by : FirstEnd (twice u) u → supply p k ≡ some (S k)
-      by F =
-          rw (F .is, supply, arrows, end-part a le)
-          (factor-walk p O a (k - a) (omega (arith, le)) ∙ ap {B = Option State} some (least-repeated-leads p O k pos b a L))
-        where
-          a : ℕ
-          a = F .at
-
-          le : a ≤ k
-          le = omega (arith, F .within, size)
-
-          no-earlier : (c : ℕ) → c ≤ k → Repeats p k c → Dec (a ≤ c) → a ≤ c
-          no-earlier c l r (yes h) = h
-          no-earlier c l r (no h) =
-              let z : _≡_ {A = ℕ} 0 1 = cc (F .before c (omega arith), repeats-twice c l r) in
-              absurd (omega arith)
-
-          L : Least (Repeats p k) k a
-          L = record { within = le; passes = twice-repeats a le (F .passes); least = λ c l r. no-earlier c l r (decLe a c) }
+  supply-is-defined =
+      let a = longest .at in
+      let le : a ≤ k = longest-least .within in
+      let arrows : oracle p ≡ δ = fun-ext (λ x. fun-ext (λ c. suffix-rule-arrows p O x c)) in
+      rw (longest .is, supply, arrows, end-part a le)
+      (factor-walk p O a (k - a) (omega arith) ∙ ap {B = Option State} some (least-repeated-leads p O k pos b a longest-least))

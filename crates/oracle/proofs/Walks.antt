@@ -1,7 +1,7 @@
 -- WALKS OF WORDS, as lists: every factor is walked, each letter climbs, and a walk as long as the word is the word's own, since no letter
 -- of it may climb by more than 1. All that the search needs of an oracle is here.
 use mathlib.Core.Path.{_≡_, refl, sym, ap, _∙_}
-use mathlib.Core.Option.{Option, none, some}
+use mathlib.Core.Option.{Option, some}
 use mathlib.Core.List.{[], _∷_, _++_}
 use Prim.Native.Nat.{ℕ, zero, suc, _+_, _≤_}
 use native.Mathlib.Omega.{arith}

@@ -1,6 +1,5 @@
 -- The greatest and the least of the numbers up to a bound that pass. Where each can be tested and 0 passes there is a greatest: either the
 -- bound itself, or the greatest below it.
-use mathlib.Core.Path.{_≡_}
 use mathlib.Core.Logic.{by-cases}
 use Prim.Native.Nat.{ℕ, zero, suc, _≤_}
 use native.Mathlib.Nat.{le-refl}
