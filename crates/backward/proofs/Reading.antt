@@ -2,7 +2,7 @@
 -- walked; where it does not fail, all the window's letters are read, and their mirror is walked. Each goes by one induction over the
 -- letters that are left: none, a letter that fails, a letter that is read.
 use mathlib.Core.Path.{_≡_, refl, ap, _∙_}
-use mathlib.Core.Option.{Option, none, some}
+use mathlib.Core.Option.{none, some}
 use Prim.Native.Nat.{ℕ, zero, suc, _+_, _-_, _≤_, _<_}
 use native.Mathlib.Nat.{le-refl, add-zero}
 use native.Mathlib.Omega.{arith}
@@ -10,7 +10,7 @@ use lib.ListN.{length}
 use Rattle.words.specs.Words.{Word, Place, letter, part, mirror}
 use Rattle.words.proofs.Words.{mirror-snoc}
 use Rattle.oracle.specs.Arrows.{State, Delta, walk}
-use Rattle.oracle.proofs.Targets.{never}
+use Rattle.oracle.proofs.Targets.{never, option-cases}
 use Rattle.backward.specs.Steps.{Reading, readAll, failsAt, oneMore, readDown}
 
 -- ── Walks of mirrors ───────────────────────────────────────────────────────
@@ -58,12 +58,9 @@ module _ (δ : Delta) (t : Word) (s : Place) where
       → ((k : ℕ) (x y : State) (r : Reading) → δ x (letter t (s + k)) ≡ some y → P k y r → P (suc k) x (oneMore r))
       → (k : ℕ) (x : State) → P k x (readDown δ t s k x)
   reading-induction P done fails goes zero x = rw (read-done x) (done x)
-  reading-induction P done fails goes (suc k) x = by (δ x (letter t (s + k))) refl (λ y. reading-induction P done fails goes k y)
-    where
-      by : (o : Option State) → δ x (letter t (s + k)) ≡ o → ((y : State) → P k y (readDown δ t s k y))
-          → P (suc k) x (readDown δ t s (suc k) x)
-      by none e rec = rw (read-fails k x e) (fails k x e)
-      by (some y) e rec = rw (read-goes k x y e) (goes k x y (readDown δ t s k y) e (rec y))
+  reading-induction P done fails goes (suc k) x = option-cases (δ x (letter t (s + k)))
+      (λ e. rw (read-fails k x e) (fails k x e))
+      (λ y e. rw (read-goes k x y e) (goes k x y (readDown δ t s k y) e (reading-induction P done fails goes k y)))
 
   -- the failing letter is one of the window's, and the letters read are those from it on: it counts one itself
   pub failed-place : (k : ℕ) (x : State) (f : Place) → readDown δ t s k x .failed ≡ some f

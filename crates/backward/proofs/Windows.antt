@@ -3,6 +3,7 @@
 -- window. Both go by one induction over the windows: past the last, nothing; else one window and the later ones.
 use mathlib.Core.Path.{_≡_, refl, sym, ap, _∙_, fun-ext}
 use mathlib.Core.Bool.{true}
+use mathlib.Core.Logic.{by-cases}
 use mathlib.Core.Option.{Option, none, some}
 use mathlib.Core.List.{List, _∷_}
 use Prim.Native.Nat.{ℕ, zero, suc, _+_, _-_, _*_, _≤_, _<_}
@@ -101,11 +102,9 @@ module _ (δ : Delta) (w t : Word) where
       → ((s : Place) (later : Sweep) → s + length w ≤ length t → P (next s) later → P s (with-window s later))
       → (k : ℕ) (s : Place) → length t < k + s → P s (windows δ w t k s)
   windows-induction P past one zero s h = rw (windows-past zero s (omega arith)) (past s (omega arith))
-  windows-induction P past one (suc k) s h = by (decLe (s + length w) (length t)) (windows-induction P past one k)
-    where
-      by : Dec (s + length w ≤ length t) → ((s : Place) → length t < k + s → P s (windows δ w t k s)) → P s (windows δ w t (suc k) s)
-      by (yes l) rec = rw (windows-one k s l) (one s _ l (rec _ (omega (arith, next-moves s))))
-      by (no l) rec = rw (windows-past (suc k) s (omega arith)) (past s (omega arith))
+  windows-induction P past one (suc k) s h = by-cases (decLe (s + length w) (length t))
+      (λ l. rw (windows-one k s l) (one s _ l (windows-induction P past one k _ (omega (arith, next-moves s)))))
+      (λ l. rw (windows-past (suc k) s (omega arith)) (past s (omega arith)))
 
   -- the bound on the windows does not matter, if it is enough
   pub windows-enough : (k k′ : ℕ) (s : Place) → length t < k + s → length t < k′ + s → windows δ w t k s ≡ windows δ w t k′ s

@@ -3,7 +3,7 @@
 -- its table. Laws of all states go by induction on the last of them, whose targets are appended.
 use mathlib.Core.Path.{_≡_, refl, sym, ap, _∙_}
 use mathlib.Core.Bool.{true}
-use mathlib.Core.Logic.{_⊎_, inl, inr, _≢_}
+use mathlib.Core.Logic.{⊎-elim, _≢_, by-cases}
 use mathlib.Core.Option.{Option, none, some}
 use mathlib.Core.List.{List, [], _++_, map, append-nil, append-assoc, List·Memᴰ, List·Memᴰ·append-cases, Memᴰ·map, Memᴰ·of-map}
 use Prim.Native.Nat.{ℕ, zero, suc, pred, _+_, _-_, _≤_, _<_}
@@ -66,14 +66,9 @@ module _ (δ : Delta) (p : Word) where
       → (rest : List State) × (targetsBefore δ p k ≡ targetsBefore δ p x ++ (extraTargets δ p x ++ rest))
   unfolding targetsBefore
   before-grows x zero h = absurd (omega arith)
-  before-grows x (suc k) h = by (ℕ-discrete x k) (before-grows x k)
-    where
-      Behind : State → Type 0
-      Behind k = (rest : List State) × (targetsBefore δ p k ≡ targetsBefore δ p x ++ (extraTargets δ p x ++ rest))
-
-      by : Dec (x ≡ k) → (x < k → Behind k) → Behind (suc k)
-      by (yes e) rec = ([], rw (e, append-nil (extraTargets δ p k)))
-      by (no e) rec = let r = rec (omega arith) in (r .0 ++ extraTargets δ p k, rw (r .1) (simp append-assoc))
+  before-grows x (suc k) h = by-cases (ℕ-discrete x k)
+      (λ e. ([], rw (e, append-nil (extraTargets δ p k))))
+      (λ e. let r = before-grows x k (omega arith) in (r .0 ++ extraTargets δ p k, rw (r .1) (simp append-assoc)))
 
   -- so there is room for both
   pub before-room : (x k : State) → x < k → length (targetsBefore δ p x) + length (extraTargets δ p x) ≤ length (targetsBefore δ p k)
@@ -83,12 +78,7 @@ module _ (δ : Delta) (p : Word) where
   pub before-bound : (k : State) {y : State} → List·Memᴰ y (targetsBefore δ p k) → y ≤ length p
   unfolding targetsBefore
   before-bound zero m = absurd (elim m [ ])
-  before-bound (suc x) {y} m = by (List·Memᴰ·append-cases (targetsBefore δ p x) m) (before-bound x)
-    where
-      by : List·Memᴰ y (targetsBefore δ p x) ⊎ List·Memᴰ y (extraTargets δ p x) → (List·Memᴰ y (targetsBefore δ p x) → y ≤ length p)
-          → y ≤ length p
-      by (inl n) rec = rec n
-      by (inr n) rec = extra-target x n .1
+  before-bound (suc x) m = ⊎-elim (before-bound x) (λ n. extra-target x n .1) (List·Memᴰ·append-cases (targetsBefore δ p x) m)
 
   -- and so for what is looked up in the list, within its length or not
   pub before-at : (k : State) (s : ℕ) → getD (targetsBefore δ p k) s 0 ≤ length p
@@ -112,15 +102,10 @@ module _ (δ : Delta) (p : Word) where
       → (a .source < k) × List·Memᴰ (a .to) (extraTargets δ p (a .source))
   unfolding extrasBefore
   extra-before zero m = absurd (elim m [ ])
-  extra-before (suc k) {a} m = by (List·Memᴰ·append-cases (extrasBefore δ p k) m) (extra-before k)
-    where
-      LeavesBefore : State → Type 0
-      LeavesBefore k = (a .source < k) × List·Memᴰ (a .to) (extraTargets δ p (a .source))
-
-      by : List·Memᴰ a (extrasBefore δ p k) ⊎ List·Memᴰ a (map (extra k) (extraTargets δ p k))
-          → (List·Memᴰ a (extrasBefore δ p k) → LeavesBefore k) → LeavesBefore (suc k)
-      by (inl n) rec = let r = rec n in (omega (arith, r .0), r .1)
-      by (inr n) rec = let r = Memᴰ·of-map (extra k) (extraTargets δ p k) n in rw (← r .2) (omega arith, r .1)
+  extra-before (suc k) m = ⊎-elim
+      (λ n. let r = extra-before k n in (omega (arith, r .0), r .1))
+      (λ n. let r = Memᴰ·of-map (extra k) (extraTargets δ p k) n in rw (← r .2) (omega arith, r .1))
+      (List·Memᴰ·append-cases (extrasBefore δ p k) m)
 
   -- ── By slots ─────────────────────────────────────────────────────────────
 
@@ -136,24 +121,16 @@ module _ (δ : Delta) (p : Word) where
     pub slot-arrow : (k : State) → x < k → getD (extrasBefore δ p k) s (extra x 0) ≡ extra x (getD (targetsBefore δ p k) s 0)
     unfolding extrasBefore targetsBefore
     slot-arrow zero h = absurd (omega arith)
-    slot-arrow (suc k) h = by (ℕ-discrete x k) (slot-arrow k)
-      where
-        E : List Extra
-        E = extrasBefore δ p k
-
-        T : List State
-        T = targetsBefore δ p k
-
-        Says : List Extra → List State → Type 0
-        Says e t = getD e s (extra x 0) ≡ extra x (getD t s 0)
-
-        by : Dec (x ≡ k) → (x < k → Says E T) → Says (E ++ map (extra k) (extraTargets δ p k)) (T ++ extraTargets δ p k)
-        by (yes e) rec = rw e (map-behind (extra k) 0 E T (extraTargets δ p k) s (extras-length k) (rw e at (own .0)))
-        by (no e) rec =
-            let i = slot-inside k (omega arith) in
-            List·getD-append E _ (extra x 0) s i
-            ∙ rec (omega arith)
-            ∙ ap (extra x) (sym (List·getD-append T _ 0 s (omega (arith, extras-length k))))
+    slot-arrow (suc k) h =
+        let E = extrasBefore δ p k in
+        let T = targetsBefore δ p k in
+        by-cases (ℕ-discrete x k)
+        (λ e. rw e (map-behind (extra k) 0 E T (extraTargets δ p k) s (extras-length k) (rw e at (own .0))))
+        (λ e.
+        let i = slot-inside k (omega arith) in
+        List·getD-append E _ (extra x 0) s i
+        ∙ slot-arrow k (omega arith)
+        ∙ ap (extra x) (sym (List·getD-append T _ 0 s (omega (arith, extras-length k)))))
 
     -- and its target is one of x
     pub slot-target : (k : State) → x < k → (x + 2 ≤ getD (targetsBefore δ p k) s 0) × (getD (targetsBefore δ p k) s 0 ≤ length p)
@@ -216,11 +193,7 @@ module _ (p : Word) where
 
   -- an arrow that climbs by 2 or more stands in front of the spine
   pub climbing-extra : (E : List Arrow) {a : Arrow} → List·Memᴰ a (E ++ spine p) → a .source + 2 ≤ a .to → List·Memᴰ a E
-  climbing-extra E {a} m h = by (List·Memᴰ·append-cases E m)
-    where
-      by : List·Memᴰ a E ⊎ List·Memᴰ a (spine p) → List·Memᴰ a E
-      by (inl n) = n
-      by (inr n) = absurd (omega (arith, spine-member n .2))
+  climbing-extra E m h = ⊎-elim (λ n. n) (λ n. absurd (omega (arith, spine-member n .2))) (List·Memᴰ·append-cases E m)
 
   -- a word of m letters has at most m - 1 extra targets
   pub oracle-extras-fit : (k : State) → length (targetsBefore (oracle p) p k) ≤ length p - 1

@@ -2,7 +2,7 @@
 -- of the first t letters stays as it is while more are added. By induction on the letters: what the rule does along its list is the climb
 -- of `Grow`, which keeps the record.
 use mathlib.Core.Path.{_≡_, refl, sym, ap, _∙_}
-use mathlib.Core.Logic.{_⊎_, inl, inr, _↔_}
+use mathlib.Core.Logic.{_⊎_, ⊎-elim, _↔_, by-cases}
 use mathlib.Core.Option.{Option, none, some, Option·getD}
 use mathlib.Core.List.{List, [], _∷_, _++_, head?, List·Memᴰ}
 use Prim.Native.Nat.{ℕ, zero, suc, _+_, _≤_, _<_}
@@ -15,7 +15,7 @@ use Rattle.words.specs.Words.{Letter, Word, letter}
 use Rattle.oracle.specs.Arrows.{State, Arrow, Delta, target, OneEach}
 use Rattle.oracle.specs.SuffixPath.{SuffixPath, ended, falls}
 use Rattle.oracle.specs.LetterRule.{Automaton, pathOf, supplyMade, NewState, climb, addLetter, builtUpTo}
-use Rattle.oracle.proofs.Targets.{never, into, target-new, target-old}
+use Rattle.oracle.proofs.Targets.{never, option-cases, into, target-new, target-old}
 use Rattle.oracle.proofs.Chain.{Supplied, supply-below, on-below, arrow-up}
 use Rattle.oracle.proofs.Grow.{Climb, stop, out, go, source-on, last-free, climb-below, arrow-stays, arrow-was, grown}
 
@@ -46,12 +46,10 @@ climb-is : {δ : Delta} {S : State → State} {k : State} {l : List State} (c : 
     → Climb δ S c k (k ∷ climb δ c l .sources) (climb δ c l .supply)
 unfolding climb
 climb-is c e (ended z) = out z refl e
-climb-is {δ} {S} {k} c e (falls {y = y} {l = l} p q r) = go p e (climb-at q (by (δ y c) refl (λ f. climb-is c f r)))
-  where
-    by : (o : Option State) → δ y c ≡ o → (δ y c ≡ none → Climb δ S c y (y ∷ climb δ c l .sources) (climb δ c l .supply))
-        → Climb δ S c y (climb δ c (y ∷ l) .sources) (climb δ c (y ∷ l) .supply)
-    by (some z) f rec = rw (f, climb) (stop f)
-    by none f rec = rw (f, climb) (rec f)
+climb-is {δ} {S} {k} c e (falls {y = y} {l = l} p q r) =
+    let C : Climb δ S c y (climb δ c (y ∷ l) .sources) (climb δ c (y ∷ l) .supply) =
+    option-cases (δ y c) (λ f. rw (f, climb) (climb-is c f r)) (λ z f. rw (f, climb) (stop f)) in
+    go p e (climb-at q C)
 
 -- ── One letter ─────────────────────────────────────────────────────────────
 
@@ -68,11 +66,11 @@ one-each : (A : List Arrow) {S : State → State} {m : ℕ} {w : ℕ → Letter}
 unfolding OneEach
 one-each A O h z b (stop e) = h
 one-each A O h z b (out q r e) = (e, h)
-one-each A O h {c} {k} z b (go {xs = xs} p e r) = (by (target-old A c z xs k c), one-each A O h z (omega (arith, supply-below O k b)) r)
-  where
-    by : (target (into c z xs ++ A) k c ≡ target A k c) ⊎ ((c ≡ c) × List·Memᴰ k xs) → target (into c z xs ++ A) k c ≡ none
-    by (inl d) = d ∙ e
-    by (inr d) = absurd (omega (arith, supply-below O k b, on-below O (omega (arith, supply-below O k b)) (source-on r (d .1))))
+one-each A {S = S} {m = m} O h {c} {k} z b (go {xs = xs} p e r) =
+    let low = supply-below O k b in
+    let behind : S k ≤ m = omega arith in
+    let free = ⊎-elim (λ d. d ∙ e) (λ d. absurd (omega (arith, on-below O behind (source-on r (d .1))))) (target-old A c z xs k c) in
+    (free, one-each A O h z behind r)
 
 module _ {t : State} {w : ℕ → Letter} {b : Automaton} (G : Sound t w b) where
   abbrev r : NewState
@@ -122,19 +120,20 @@ module _ {t : State} {w : ℕ → Letter} {b : Automaton} (G : Sound t w b) wher
   sound-next = record {
     supplied = grown (G .supplied) letter-climb old-arrows new-arrows supply-kept supply-new;
     size = length-append (b .paths) _ ∙ rw (G .size) (omega arith);
-    path = λ x h. by x (decLt x (suc t)) h;
+    path = path;
     one = one-each (b .arrows) (G .supplied) (G .one) (suc t) (le-refl t) letter-climb;
   }
     where
       stays : (x : State) → x ≤ t → SuffixPath (supplies b′) x (pathOf b x)
       stays x h = path-agree (supplies b) (supplies b′) falling supply-kept h (G .path x h)
 
-      by : (x : State) → Dec (x < suc t) → x ≤ suc t → SuffixPath (supplies b′) x (pathOf b′ x)
-      by x (yes l) h = rw (path-kept x (omega arith)) (stays x (omega arith))
-      by x (no l) h =
+      path : (x : State) → x ≤ suc t → SuffixPath (supplies b′) x (pathOf b′ x)
+      path x h = by-cases (decLt x (suc t))
+          (λ l. rw (path-kept x (omega arith)) (stays x (omega arith)))
+          (λ l.
           let e : x ≡ suc t = omega arith in
           let p : 0 < suc t = omega arith in
-          rw (e, path-new) (falls p (sym supply-new) (stays (r .supply) (climb-below (G .supplied) letter-climb)))
+          rw (e, path-new) (falls p (sym supply-new) (stays (r .supply) (climb-below (G .supplied) letter-climb))))
 
 -- ── All letters ────────────────────────────────────────────────────────────
 
@@ -150,15 +149,9 @@ built-sound p zero = record {
     bottom = λ c y e. never refl e;
   };
   size = refl;
-  path = λ x h. by x (omega arith);
+  path = λ x h. let e : x ≡ 0 = omega arith in rw e (ended refl);
   one = tt;
 }
-  where
-    b : Automaton
-    b = record { arrows = []; paths = [] ∷ [] }
-
-    by : (x : State) → x ≡ 0 → SuffixPath (supplies b) x (pathOf b x)
-    by x e = rw e (ended refl)
 built-sound p (suc t) = sound-next (built-sound p t)
 
 -- ── Prefixes ───────────────────────────────────────────────────────────────
@@ -170,14 +163,9 @@ module _ (p : Word) where
   -- one letter more: the arrows up to state t are those that were there
   letter-restricts : (t : ℕ) (x : State) (c : Letter) (y : State) → y ≤ t → (arrowsOf t x c ≡ some y) ↔ (arrowsOf (suc t) x c ≡ some y)
   unfolding builtUpTo
-  letter-restricts t x c y h = (letter-stays G x c y, λ e. by (letter-was G x c y e))
-    where
-      G : Sound t (letter p) (builtUpTo p t)
-      G = built-sound p t
-
-      by : {M : Type 0} → (arrowsOf t x c ≡ some y) ⊎ ((c ≡ letter p t) × (y ≡ suc t) × M) → arrowsOf t x c ≡ some y
-      by (inl d) = d
-      by (inr d) = absurd (omega (arith, d .1))
+  letter-restricts t x c y h =
+      let G = built-sound p t in
+      (letter-stays G x c y, λ e. ⊎-elim (λ d. d) (λ d. absurd (omega (arith, d .1))) (letter-was G x c y e))
 
   -- the arrows made of the first t letters are those of every later build that lead up to state t
   pub built-restricts : (t d : ℕ) (x : State) (c : Letter) (y : State)

@@ -2,7 +2,7 @@
 -- in the word, at that state's place for the first time. The meaning of supplies rests on it. By induction on the state z + 1: the factor
 -- is the letters up to z + 1 from the latest start that leads there; a word's last arrow leaves a state on z's chain, whose own shortest
 -- word stands before it.
-use mathlib.Core.Path.{_≡_, refl, sym, ap, _∙_}
+use mathlib.Core.Path.{_≡_, sym, ap, _∙_}
 use mathlib.Core.Option.{Option, some}
 use mathlib.Core.List.{[], _∷_, _++_, append-nil, append-assoc}
 use Prim.Native.Nat.{ℕ, zero, suc, _+_, _-_, _≤_, _<_}
@@ -15,7 +15,7 @@ use Rattle.words.proofs.Lists.{last-of}
 use Rattle.words.proofs.Greatest.{Greatest, greatest-passing}
 use Rattle.words.proofs.Words.{part-length, part-snoc, part-split, part-ends-in}
 use Rattle.oracle.specs.Arrows.{State, Delta, walk}
-use Rattle.oracle.proofs.Chain.{On, Into, Supplied, on-below}
+use Rattle.oracle.proofs.Chain.{Supplied, on-below}
 use Rattle.oracle.proofs.Reach.{reach, reach-0, reach-next, reach-spine, reach-below, chain-reached}
 use Rattle.oracle.proofs.Walks.{walk-append, walk-first, factor-walk}
 
@@ -46,15 +46,11 @@ module _ (p : Word) {δ : Delta} {S : State → State} (O : Supplied (length p) 
     pub same : part p (i + skipped) (U .len) ≡ part p (U .start) (U .len)
 
   pub shortest-at-end : (x : State) (U : Shortest x) (i n : ℕ) → x ≤ length p → i + n ≤ length p → to i n ≡ x → ShortestAtEnd x U i n
-  shortest-at-end x U i n b h e = by (U .ends (part p i n) (factor-walk p O i n h ∙ ap {B = Option State} some e))
-    where
-      len : length (part p (U .start) (U .len)) ≡ U .len
-      len = part-length p (U .start) (U .len) (omega (arith, U .place))
-
-      by : (u : Word) × (part p i n ≡ u ++ part p (U .start) (U .len)) → ShortestAtEnd x U i n
-      by r =
-          let t = part-ends-in p i n (r .0) (part p (U .start) (U .len)) h (r .1) in
-          record { skipped = length (r .0); size = rw len at (t .0); same = rw len at (t .1) }
+  shortest-at-end x U i n b h e =
+      let len = part-length p (U .start) (U .len) (omega (arith, U .place)) in
+      let r = U .ends (part p i n) (factor-walk p O i n h ∙ ap {B = Option State} some e) in
+      let t = part-ends-in p i n (r .0) (part p (U .start) (U .len)) h (r .1) in
+      record { skipped = length (r .0); size = rw len at (t .0); same = rw len at (t .1) }
 
   shortest-0 : Shortest 0
   shortest-0 = record { start = 0; len = 0; place = omega arith; walked = reach-0 w δ 0; ends = λ v e. (v, sym (append-nil v)) }
@@ -65,7 +61,9 @@ module _ (p : Word) {δ : Delta} {S : State → State} (O : Supplied (length p) 
     LeadsThere e = to e (suc z - e) ≡ suc z
 
     latest : Greatest LeadsThere (suc z)
-    latest = greatest-passing LeadsThere (λ e. ℕ-discrete (to e (suc z - e)) (suc z)) (rw (sub-zero (suc z)) (reach-spine O (suc z) h)) (suc z)
+    latest =
+        let all : LeadsThere 0 = rw (sub-zero (suc z)) (reach-spine O (suc z) h) in
+        greatest-passing LeadsThere (λ e. ℕ-discrete (to e (suc z - e)) (suc z)) all (suc z)
 
     abbrev E : ℕ
     E = latest .at
@@ -107,18 +105,15 @@ module _ (p : Word) {δ : Delta} {S : State → State} (O : Supplied (length p) 
     -- the source y of the last arrow is on z's chain, so some factor up to z is walked to y, and holds y's shortest word at its end
     last-arrow : (v : Word) (y : State) (d : Letter) → walk δ 0 v ≡ some y → δ y d ≡ some (suc z)
         → (u : Word) × (v ++ (d ∷ []) ≡ u ++ part p E N)
-    last-arrow v y d e a = by (O .into y d (suc z) a)
-      where
-        from-chain : On S y z → d ≡ w z → (u : Word) × (v ++ (d ∷ []) ≡ u ++ part p E N)
-        from-chain on q =
-            let r = chain-reached O z (omega arith) on in
-            let le = on-below O (omega arith) on in
-            let Y = below y le in
-            let H = shortest-at-end y Y (r .0) (r .1) (omega arith) (omega (arith, r .2)) (r .3) in
-            rw q (last-step v y Y (r .0 + H .skipped) le e (rw q at a) (omega (arith, H .size, r .2)) (H .same))
-
-        by : Into (length p) w S y d (suc z) → (u : Word) × (v ++ (d ∷ []) ≡ u ++ part p E N)
-        by I = let q : I .z ≡ z = omega (arith, I .to) in from-chain (rw q at (I .on)) (rw q at (I .letter))
+    last-arrow v y d e a =
+        let I = O .into y d (suc z) a in
+        let f : I .z ≡ z = omega (arith, I .to) in
+        let on = rw f at (I .on) in
+        let q : d ≡ w z = rw f at (I .letter) in
+        let r = chain-reached O z (omega arith) on in
+        let le = on-below O (omega arith) on in
+        let H = shortest-at-end y (below y le) (r .0) (r .1) (omega arith) (omega (arith, r .2)) (r .3) in
+        rw q (last-step v y (below y le) (r .0 + H .skipped) le e (rw q at a) (omega (arith, H .size, r .2)) (H .same))
 
     ends-in : (v : Word) → walk δ 0 v ≡ some (suc z) → (u : Word) × (v ≡ u ++ part p E N)
     unfolding walk
@@ -135,11 +130,8 @@ module _ (p : Word) {δ : Delta} {S : State → State} (O : Supplied (length p) 
   -- the first number only bounds the state
   shortest-within : (n x : State) → x ≤ n → x ≤ length p → Shortest x
   shortest-within zero x h b = let e : x ≡ 0 = omega arith in rw e shortest-0
-  shortest-within (suc n) x h b = by x h b (λ y l g. shortest-within n y l g)
-    where
-      by : (x : State) → x ≤ suc n → x ≤ length p → ((y : State) → y ≤ n → y ≤ length p → Shortest y) → Shortest x
-      by zero h b rec = shortest-0
-      by (suc z) h b rec = shortest-suc z b (λ y l. rec y (omega arith) (omega arith))
+  shortest-within (suc n) zero h b = shortest-0
+  shortest-within (suc n) (suc z) h b = shortest-suc z b (λ y l. shortest-within n y (omega arith) (omega arith))
 
   pub shortest : (x : State) → x ≤ length p → Shortest x
   shortest x b = shortest-within x x (le-refl x) b

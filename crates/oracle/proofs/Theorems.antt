@@ -1,7 +1,7 @@
 -- THE THEOREMS on oracles, for every word of whatever length, each a sentence about the definitions alone. The proofs are in the other
 -- files; what ties them together is that both rules' arrows, with the rule's supplies, have the record of `Chain`.
 use mathlib.Core.Path.{_≡_, refl, sym, _∙_, fun-ext}
-use mathlib.Core.Logic.{_↔_}
+use mathlib.Core.Logic.{_↔_, by-cases}
 use mathlib.Core.Option.{none, some}
 use mathlib.Core.List.{[], _∷_, List·Memᴰ, Memᴰ·append-left}
 use Prim.Native.Nat.{ℕ, zero, suc, _+_, _-_, _≤_, _<_}
@@ -101,20 +101,19 @@ module _ (p : Word) where
   -- every extra arrow climbs by at least 2
   pub extra-climbs : (a : Arrow) → List·Memᴰ a (extraArrows p) → a .source + 2 ≤ a .to
   unfolding suffixRule
-  extra-climbs a i = by (ℕ-discrete (a .to) (suc (a .source))) (arrow-letter a among)
+  extra-climbs a i = by-cases (ℕ-discrete (a .to) (suc (a .source)))
+      (λ e.
+      let r = arrow-letter a among in
+      let q : r .0 ≡ a .source = omega (arith, r .1) in
+      let s = spine-target p (a .source) (omega (arith, up .0, up .1)) in
+      never (rw (r .3, q) at (apart (extraArrows p) (spine p) suffix-rule-one-each i)) s)
+      (λ e. omega (arith, up .0))
     where
       among : List·Memᴰ a (suffixRule p)
       among = Memᴰ·append-left (spine p) i
 
       up : (a .source < a .to) × (a .to ≤ length p)
       up = arrow-up oracle-supplied (a .source) (a .on) (a .to) (listed-arrow a among)
-
-      by : Dec (a .to ≡ suc (a .source)) → (z : State) × (a .to ≡ suc z) × (z < length p) × (a .on ≡ letter p z) → a .source + 2 ≤ a .to
-      by (no e) r = omega (arith, up .0)
-      by (yes e) r =
-          let q : r .0 ≡ a .source = omega (arith, r .1) in
-          let s = spine-target p (a .source) (omega (arith, up .0, up .1)) in
-          never (rw (r .3, q) at (apart (extraArrows p) (spine p) suffix-rule-one-each i)) s
 
   -- ── 3. Walks and counts ──────────────────────────────────────────────────
 

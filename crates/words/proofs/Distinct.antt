@@ -1,7 +1,7 @@
 -- Lists in which nothing stands twice. Such a list is no longer than any list that has all its members: each member is taken out of the
 -- other list in turn, and the others stay in it.
 use mathlib.Core.Path.{_≡_, refl, sym, ap, _∙_}
-use mathlib.Core.Logic.{_⊎_, inl, inr, _≢_}
+use mathlib.Core.Logic.{⊎-elim, _≢_}
 use mathlib.Core.List.{List, [], _∷_, _++_, List·Memᴰ, List·Memᴰ·head, List·Memᴰ·tail, List·Memᴰ·append-cases}
 use Prim.Native.Nat.{suc, _≤_}
 use native.Mathlib.Omega.{arith}
@@ -15,12 +15,9 @@ module _ {A : Type 0} where
   pub distinct-append : {l r : List A} → Distinct l → Distinct r → ((a b : A) → List·Memᴰ a l → List·Memᴰ b r → b ≢ a)
       → Distinct (l ++ r)
   distinct-append empty R f = R
-  distinct-append {r = r} (more {a = a} {l = l} n L) R f =
-      more (λ b m. by b (List·Memᴰ·append-cases l m)) (distinct-append L R (λ c b m. f c b (List·Memᴰ·tail m)))
-    where
-      by : (b : A) → List·Memᴰ b l ⊎ List·Memᴰ b r → b ≢ a
-      by b (inl m) = n b m
-      by b (inr m) = f a b (List·Memᴰ·head refl) m
+  distinct-append (more {a = a} {l = l} n L) R f = more
+      (λ b m. ⊎-elim (n b) (f a b (List·Memᴰ·head refl)) (List·Memᴰ·append-cases l m))
+      (distinct-append L R (λ c b m. f c b (List·Memᴰ·tail m)))
 
   -- E without the place at which a stands
   without : {a : A} (E : List A) → List·Memᴰ a E → List A

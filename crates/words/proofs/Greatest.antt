@@ -1,6 +1,6 @@
 -- The greatest and the least of the numbers up to a bound that pass. Where each can be tested and 0 passes there is a greatest: either the
 -- bound itself, or the greatest below it.
-use mathlib.Core.Path.{_≡_}
+use mathlib.Core.Logic.{by-cases}
 use Prim.Native.Nat.{ℕ, zero, suc, _≤_}
 use native.Mathlib.Nat.{le-refl}
 use native.Mathlib.Decide.{ℕ-discrete}
@@ -19,17 +19,11 @@ pub record Least (P : ℕ → Type 0) (n a : ℕ) : Type 0 where
 
 pub greatest-passing : (P : ℕ → Type 0) → ((e : ℕ) → Dec (P e)) → P 0 → (n : ℕ) → Greatest P n
 greatest-passing P dec p0 zero = record { at = 0; within = le-refl 0; passes = p0; last = λ e h q. h }
-greatest-passing P dec p0 (suc n) = by (dec (suc n)) (greatest-passing P dec p0 n)
+greatest-passing P dec p0 (suc n) =
+    let g = greatest-passing P dec p0 n in
+    by-cases (dec (suc n))
+    (λ q. record { at = suc n; within = le-refl _; passes = q; last = λ e h r. h })
+    (λ q. record { at = g .at; within = omega (arith, g .within); passes = g .passes; last = λ e h r. below g q e h r })
   where
-    by : Dec (P (suc n)) → Greatest P n → Greatest P (suc n)
-    by (yes q) g = record { at = suc n; within = le-refl _; passes = q; last = λ e h r. h }
-    by (no q) g = record {
-      at = g .at;
-      within = omega (arith, g .within);
-      passes = g .passes;
-      last = λ e h r. below e h r (ℕ-discrete e (suc n));
-    }
-      where
-        below : (e : ℕ) → e ≤ suc n → P e → Dec (e ≡ suc n) → e ≤ g .at
-        below e h r (yes s) = absurd (q (rw s at r))
-        below e h r (no s) = g .last e (omega arith) r
+    below : (g : Greatest P n) → (P (suc n) → ⊥) → (e : ℕ) → e ≤ suc n → P e → e ≤ g .at
+    below g q e h r = by-cases (ℕ-discrete e (suc n)) (λ s. absurd (q (rw s at r))) (λ s. g .last e (omega arith) r)

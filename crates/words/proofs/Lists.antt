@@ -1,9 +1,10 @@
 -- Laws of lists in general, of `from`, `only` and `first`, and of lists that rise: what is in such a list, where, and in which order. Each
 -- goes by induction on the list or on how many numbers `from` has; where a test decides, by its two cases.
 use mathlib.Core.Path.{_≡_, refl, sym, ap, _∙_}
-use mathlib.Core.Bool.{Bool, true, false, cond, _&&_}
+use mathlib.Core.Bool.{Bool, true, false, _&&_}
+use mathlib.Core.Logic.{⊎-elim, by-cases}
 use mathlib.Core.Option.{Option, none, some}
-use mathlib.Core.List.{List, [], _∷_, _++_, map, List·Memᴰ, List·Memᴰ·head, List·Memᴰ·tail}
+use mathlib.Core.List.{List, [], _∷_, _++_, map, List·Memᴰ, List·Memᴰ·head, List·Memᴰ·tail, List·Memᴰ·cases-cons}
 use Prim.Native.Nat.{ℕ, zero, suc, _+_, _-_, _≤_, _<_}
 use native.Mathlib.Nat.{le-refl, add-zero, add-suc, suc-add, sub-zero, zero-sub, suc-sub-suc}
 use native.Mathlib.Decide.{ℕ-discrete}
@@ -17,6 +18,10 @@ use Rattle.words.specs.Lists.{at, from, only, first, Rising, end, up}
 pub and-true : {a b : Bool} → a && b ≡ true → (a ≡ true) × (b ≡ true)
 and-true {a = true} e = (refl, e)
 and-true {a = false} e = (e, cc)
+
+pub test-cases : {C : Type 0} (b : Bool) → (b ≡ true → C) → (b ≡ false → C) → C
+test-cases true f g = f refl
+test-cases false f g = g refl
 
 -- ── Members and entries ────────────────────────────────────────────────────
 
@@ -89,11 +94,8 @@ from-in a (suc k) (List·Memᴰ·tail m) = let r = from-in (suc a) k m in (omega
 pub in-from : (a k j : ℕ) → a ≤ j → j < a + k → List·Memᴰ j (from a k)
 unfolding from
 in-from a zero j h l = absurd (omega arith)
-in-from a (suc k) j h l = by (ℕ-discrete j a) (in-from (suc a) k j)
-  where
-    by : Dec (j ≡ a) → (suc a ≤ j → j < suc a + k → List·Memᴰ j (from (suc a) k)) → List·Memᴰ j (from a (suc k))
-    by (yes e) rec = List·Memᴰ·head e
-    by (no e) rec = List·Memᴰ·tail (rec (omega arith) (omega arith))
+in-from a (suc k) j h l =
+    by-cases (ℕ-discrete j a) (λ e. List·Memᴰ·head e) (λ e. List·Memᴰ·tail (in-from (suc a) k j (omega arith) (omega arith)))
 
 -- ── only ───────────────────────────────────────────────────────────────────
 
@@ -109,33 +111,21 @@ module _ {A : Type 0} (P : A → Bool) where
   pub only-append : (l r : List A) → only P (l ++ r) ≡ only P l ++ only P r
   unfolding only
   only-append [] r = refl
-  only-append (a ∷ l) r = by (P a) (only-append l r)
-    where
-      by : (b : Bool) → only P (l ++ r) ≡ only P l ++ only P r
-          → cond b (a ∷ only P (l ++ r)) (only P (l ++ r)) ≡ cond b (a ∷ only P l) (only P l) ++ only P r
-      by true rec = rw rec
-      by false rec = rec
+  only-append (a ∷ l) r = test-cases (P a) (λ e. rw (e, only-append l r)) (λ e. rw (e, only-append l r))
 
   pub only-in : (l : List A) {a : A} → List·Memᴰ a (only P l) → List·Memᴰ a l × (P a ≡ true)
   unfolding only
   only-in [] m = absurd (elim m [ ])
-  only-in (x ∷ l) {a} m = by (P x) refl m (only-in l)
-    where
-      by : (b : Bool) → P x ≡ b → List·Memᴰ a (cond b (x ∷ only P l) (only P l))
-          → (List·Memᴰ a (only P l) → List·Memᴰ a l × (P a ≡ true))
-          → List·Memᴰ a (x ∷ l) × (P a ≡ true)
-      by true e (List·Memᴰ·head q) rec = (List·Memᴰ·head q, rw q e)
-      by true e (List·Memᴰ·tail n) rec = let r = rec n in (List·Memᴰ·tail (r .0), r .1)
-      by false e n rec = let r = rec n in (List·Memᴰ·tail (r .0), r .1)
+  only-in (x ∷ l) {a} m =
+      let later : List·Memᴰ a (only P l) → List·Memᴰ a (x ∷ l) × (P a ≡ true) = λ n. let r = only-in l n in (List·Memᴰ·tail (r .0), r .1) in
+      test-cases (P x)
+      (λ e. ⊎-elim (λ q. (List·Memᴰ·head q, rw q e)) later (List·Memᴰ·cases-cons (rw e at m)))
+      (λ e. later (rw e at m))
 
   pub in-only : (l : List A) {a : A} → List·Memᴰ a l → P a ≡ true → List·Memᴰ a (only P l)
   unfolding only
   in-only (x ∷ l) (List·Memᴰ·head q) e = rw (only-yes x l (rw q at e)) (List·Memᴰ·head q)
-  in-only (x ∷ l) {a} (List·Memᴰ·tail m) e = by (P x) (in-only l m e)
-    where
-      by : (b : Bool) → List·Memᴰ a (only P l) → List·Memᴰ a (cond b (x ∷ only P l) (only P l))
-      by true n = List·Memᴰ·tail n
-      by false n = n
+  in-only (x ∷ l) (List·Memᴰ·tail m) e = test-cases (P x) (λ f. rw f (List·Memᴰ·tail (in-only l m e))) (λ f. rw f (in-only l m e))
 
 -- ── only of from ───────────────────────────────────────────────────────────
 
@@ -176,11 +166,9 @@ module _ {A : Type 0} (P : A → Bool) where
       → first P l ≡ some a
   unfolding first
   first-only (b ∷ l) (List·Memᴰ·head q) e f = rw q (first-yes b l (rw q at e))
-  first-only (b ∷ l) {a} (List·Memᴰ·tail m) e f = by (P b) refl (first-only l m e (λ d n. f d (List·Memᴰ·tail n)))
-    where
-      by : (t : Bool) → P b ≡ t → first P l ≡ some a → first P (b ∷ l) ≡ some a
-      by true g rec = first-yes b l g ∙ ap {B = Option A} some (f b (List·Memᴰ·head refl) g)
-      by false g rec = first-not b l g ∙ rec
+  first-only (b ∷ l) (List·Memᴰ·tail m) e f = test-cases (P b)
+      (λ g. first-yes b l g ∙ ap {B = Option A} some (f b (List·Memᴰ·head refl) g))
+      (λ g. first-not b l g ∙ first-only l m e (λ d n. f d (List·Memᴰ·tail n)))
 
 -- ── Lists that rise ────────────────────────────────────────────────────────
 
@@ -196,8 +184,6 @@ rising-above (up g r) (List·Memᴰ·tail m) = omega (arith, rising-above r m)
 pub rising-from : (P : ℕ → Bool) (a k : ℕ) → Rising a (only P (from a k))
 unfolding from only
 rising-from P a zero = end
-rising-from P a (suc k) = by (P a) (rising-from P (suc a) k)
-  where
-    by : (b : Bool) {l : List ℕ} → Rising (suc a) l → Rising a (cond b (a ∷ l) l)
-    by true r = up (le-refl a) r
-    by false r = rising-lower (omega arith) r
+rising-from P a (suc k) = test-cases (P a)
+    (λ e. rw e (up (le-refl a) (rising-from P (suc a) k)))
+    (λ e. rw e (rising-lower (omega arith) (rising-from P (suc a) k)))
