@@ -61,7 +61,9 @@ module _ {m w : ℕ} (narrow : (v : ℕ) → v ≤ m → length (spellNumber v) 
       omega (arith, file-length p, narrow (length p) (omega arith), narrow (length (ownSteps p)) (omega arith))
     where
       ends : (a : Extra) → List·Memᴰ a (fileArrows p) → (a .source ≤ m) × (a .to ≤ m)
-      ends a i = let r = extra-before (oracle p) p (length p) i in (omega (arith, r .0), omega (arith, extra-target (oracle p) p (a .source) (r .1) .1))
+      ends a i =
+          let r = extra-before (oracle p) p (length p) i in
+          (omega (arith, r .0), omega (arith, extra-target (oracle p) p (a .source) (r .1) .1))
 
 -- far below what 64 bits hold
 pub file-fits : (p : Word) → 1 ≤ length p → length p < 65535 → length (spell p) < 1000000

@@ -37,10 +37,10 @@ size-least f S =
     let more = spelling-length (length (ownSteps p)) .0 in
     rw (S .file) (omega (arith, S .savable .least, file-length p))
 
--- and there is such a file: that of the shortest word of one letter alone
+-- and one has no more: that of the letter a, repeated as often as the least word asks
 pub least-reached : (f : List ℕ) × Saved f × (length f ≡ leastSaved + 3)
-unfolding leastSaved from only first target walk spine far mend missing extrasAfter extraArrows suffixRule leadsTo extraTargets extrasBefore fileArrows
-    groups spellNumber edition stepsFrom spellSteps ownSteps body spell
+unfolding leastSaved from only first target walk spine far mend missing extrasAfter extraArrows suffixRule
+    leadsTo extraTargets extrasBefore fileArrows groups spellNumber edition stepsFrom spellSteps ownSteps body spell
 least-reached = (
   spell shortest,
   record {
