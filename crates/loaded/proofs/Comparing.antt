@@ -37,16 +37,17 @@ module _ (w : Word) (x : State) (slot : ℕ) where
   -- the word has no steps ahead
   none-ahead : length (ownSteps w) ≤ slot → stepsAhead w x slot ≡ []
   unfolding stepsFrom ownSteps
-  none-ahead g = let n = steps-length 0 (fileArrows w) in let h : length (fileArrows w) ≤ slot = omega arith in simp (drop-of-length-le (fileArrows w) h)
+  none-ahead g = simp (drop-of-length-le (fileArrows w) {i = slot} (omega (arith, steps-length 0 (fileArrows w))))
 
   -- it has some
   some-ahead : slot < length (ownSteps w) → none-left (stepsAhead w x slot) ≡ false
   unfolding stepsFrom ownSteps
-  some-ahead h = let n = steps-length 0 (fileArrows w) in simp (drop-cons (fileArrows w) slot (extra 0 0) (omega arith))
+  some-ahead h = simp (drop-cons (fileArrows w) slot (extra 0 0) (omega (arith, steps-length 0 (fileArrows w))))
 
 -- ── All of them ────────────────────────────────────────────────────────────
 
--- of n declared arrows from place i on, `left` are still to be read, from place j on; the word's own are ahead from `slot` on, x being the source before
+-- of n declared arrows from place i on, `left` are still to be read, from place j on; the word's own are ahead from `slot` on, x being
+-- the source before
 pub record Comparing (w : Word) (s : List ℕ) (i n j left slot : ℕ) (x : State) : Type 0 where
   pub same : arrowsAt s j left (stepsAhead w x slot) ≡ arrowsAt s i n (ownSteps w)
   pub stands : Standing w x slot
