@@ -17,7 +17,8 @@ use Rattle.oracle.proofs.FileArrows.{file-arrow-climbs}
 use Rattle.number.specs.Number.{greatest, spellNumber}
 use Rattle.saved.specs.File.{edition, stepsFrom, spellSteps, ownSteps, body, spell}
 use Rattle.saved.proofs.Slots.{own-few}
-use Rattle.loaded.specs.Load.{Ending, behind, Verdict, wrong, closed, verdict}
+use Rattle.saved.proofs.Spelled.{edition-number}
+use Rattle.loaded.specs.Load.{Ending, behind, wrong, closed, verdict}
 use Rattle.loaded.specs.Accepts.{ShownAt, Judged, Accepts}
 use Rattle.loaded.specs.Cases.{letters-there, ArrowsCase, arrow-agrees, all-agree, count-fits}
 use Rattle.loaded.proofs.Cases.{case-front, case-ending}
@@ -29,10 +30,6 @@ unfolding verdict
 shown-judged {s} A = record { place = A .place; shown = A .shown; word = A .word; judged = ap (closed s) (A .judged) }
 
 -- ── Read where they stand ──────────────────────────────────────────────────
-
-edition-small : edition ≤ greatest
-unfolding edition
-edition-small = omega arith
 
 -- arrows that stand from place i on and end before place p, in their spelling, are read up to there
 arrows-spelled : (s : List ℕ) (i : Place) (x : State) (l : List Extra) (p : Place) (r : List ℕ)
@@ -61,7 +58,7 @@ module _ (w : Word) (least : leastSaved ≤ length w) (most : length w ≤ longe
   spelled-shown s o l e =
       let steps = spellSteps (ownSteps w) in
       let arrows = spellNumber (length (ownSteps w)) ++ steps in
-      let first = reads-spelled s o edition (body w) l edition-small e in
+      let first = reads-spelled s o edition (body w) l (omega (arith, edition-number)) e in
       let second = reads-spelled s (first .next) (length w) (w ++ arrows) l (omega (arith, words-fit)) (first .rest) in
       let i = second .next in
       let rest : drop i s ≡ w ++ (arrows ++ l) = second .rest ∙ append-assoc w arrows l in

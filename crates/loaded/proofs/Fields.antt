@@ -9,7 +9,7 @@ use native.Mathlib.Omega.{arith}
 use lib.ListN.{length, drop}
 use lib.Seq.{drop-drop, drop-append-seam, drop-append-le}
 use Rattle.words.specs.Words.{Place}
-use Rattle.number.specs.declared.Number.the-variants.{Value, Refused}
+use Rattle.number.specs.declared.Number.the-variants.{Refused}
 use Rattle.number.specs.Number.{greatest, spellNumber, Seen, number, ends, refused, seeNumber, numberAt}
 use Rattle.number.proofs.Theorems.{read-append, number-at-spelled, number-at-inside, cut-exactly, bad-exactly}
 use Rattle.loaded.specs.Cases.{Reads, Unread, cut-off, bad-byte}

@@ -1,9 +1,9 @@
 -- THE THEOREMS on the file of a word, each a sentence about the definitions alone: how many bytes it has at most and at least.
-use mathlib.Core.Path.{_≡_, refl, sym}
+use mathlib.Core.Path.{_≡_, refl}
 use Prim.Native.Nat.{ℕ, zero, suc, _+_, _*_, _≤_, _<_}
 use native.Mathlib.Omega.{arith}
 use mathlib.Core.List.{List}
-use lib.ListN.{length, replicate, length-replicate}
+use lib.ListN.{length, replicate}
 use Rattle.words.specs.Lists.{from, only, first}
 use Rattle.words.specs.Words.{Word}
 use Rattle.words.specs.Limits.{leastSaved, longestWord, greatestFile}

@@ -2,8 +2,8 @@
 use mathlib.Core.Path.{sym, _∙_}
 use borrow.Author.Tests.{eq-eqb, ne-eqb}
 use borrow.Author.Needs.{needs}
+use Rattle.saved.proofs.Spelled.{edition-number}
 use Rattle.loaded.specs.Load.{frontAt}
-use Rattle.loaded.proofs.Fronts.{edition-number}
 use Rattle.loaded.proofs.read_front.Statement.{statement}
 use Rattle.loaded.proofs.read_front.Tie as tie
 
