@@ -1,8 +1,8 @@
--- The ways of `specs/Cases` are those that `frontAt`, `arrowsAt`, `ending` and `verdict` go: for each, first that some way leads to what it shows, then
--- that every way that applies leads there.
+-- The ways of `specs/Cases` are those that `frontAt`, `arrowsAt`, `ending` and `verdict` go: for each, first that some way leads to what it
+-- shows, then that every way that applies leads there.
 use mathlib.Core.Path.{_≡_, refl}
 use mathlib.Core.Bool.{Bool, true, false, _&&_, cond}
-use mathlib.Core.Logic.{_⊎_, inl, inr}
+use mathlib.Core.Logic.{inl, inr}
 use mathlib.Core.List.{List, [], _∷_}
 use Prim.Native.Nat.{ℕ, zero, suc, _+_, _-_, _≤_, _<_}
 use native.Mathlib.Omega.{arith}
@@ -21,8 +21,10 @@ use Rattle.saved.specs.File.{edition, Step, ownSteps}
 use Rattle.loaded.specs.Load.{taking, field, Front, stop, frontAt, neither, twoAt, nextIs, takingTwo}
 use Rattle.loaded.specs.Load.{Ending, behind, broken, arrowsAt, ending, Verdict, closed, verdict}
 use Rattle.loaded.specs.Cases.{Reads, Unread, cut-off, bad-byte}
-use Rattle.loaded.specs.Cases.{BadLength, FrontCaseAt, edition-unread, edition-other, length-unread, length-bad, letters-missing, letters-there}
-use Rattle.loaded.specs.Cases.{ArrowsCase, arrow-agrees, up-unread, over-unread, arrow-differs, no-arrow-left, arrows-missing, all-agree}
+use Rattle.loaded.specs.Cases.{BadLength, FrontCaseAt, edition-unread, edition-other, length-unread, length-bad}
+use Rattle.loaded.specs.Cases.{letters-missing, letters-there}
+use Rattle.loaded.specs.Cases.{ArrowsCase, arrow-agrees, up-unread, over-unread, arrow-differs, no-arrow-left}
+use Rattle.loaded.specs.Cases.{arrows-missing, all-agree}
 use Rattle.loaded.specs.Cases.{EndingCase, count-unread, count-too-large, count-fits}
 use Rattle.loaded.specs.Cases.{VerdictCase, arrows-wrong, leftovers, all-read}
 
@@ -125,7 +127,8 @@ module _ (s : List ℕ) where
   arrows-case i zero [] = all-agree
   arrows-case i zero (t ∷ l) = arrows-missing
   arrows-case i (suc n) [] =
-      two-case (ArrowsCase s i (suc n) []) i broken _ (λ r p u. up-unread u) (λ a j r p h u. over-unread h u) (λ a j b k h g. no-arrow-left h g)
+      two-case (ArrowsCase s i (suc n) []) i broken _ (λ r p u. up-unread u) (λ a j r p h u. over-unread h u)
+      (λ a j b k h g. no-arrow-left h g)
   arrows-case i (suc n) (t ∷ l) =
       two-case (ArrowsCase s i (suc n) (t ∷ l)) i broken _ (λ r p u. up-unread u) (λ a j r p h u. over-unread h u) (λ a j b k h g.
       test-case (ArrowsCase s i (suc n) (t ∷ l)) (nextIs a b (t ∷ l)) (λ e. let q = and-true {a = eqb a (t .up)} e in
@@ -168,7 +171,8 @@ module _ (s : List ℕ) where
     where
       by : (e : Ending) → EndingCase s i w e → VerdictCase s i w (closed s e)
       by (behind p) c =
-          test-case (VerdictCase s i w) (ltb p (length s)) (λ t. leftovers c (ltb-true p (length s) t)) (λ t. all-read c (ltb-false p (length s) t))
+          test-case (VerdictCase s i w) (ltb p (length s))
+          (λ t. leftovers c (ltb-true p (length s) t)) (λ t. all-read c (ltb-false p (length s) t))
       by (broken r p) c = arrows-wrong c
 
   -- and every way that applies leads there

@@ -2,14 +2,14 @@
 -- stood there is a law of the numbers, `number-at-stood`.
 use mathlib.Core.Path.{_≡_, refl, sym, ap, _∙_}
 use mathlib.Core.Logic.{_⊎_, inl, inr}
-use mathlib.Core.List.{List, _++_}
+use mathlib.Core.List.{List, _++_, append-assoc}
 use Prim.Native.Nat.{ℕ, _+_, _≤_, _<_}
 use native.Mathlib.Decide.{decLe}
 use native.Mathlib.Omega.{arith}
 use lib.ListN.{length, drop}
 use lib.Seq.{drop-drop, drop-append-seam, drop-append-le}
 use Rattle.words.specs.Words.{Place}
-use Rattle.number.specs.declared.Number.the-variants.{Value, Refused}
+use Rattle.number.specs.declared.Number.the-variants.{Refused}
 use Rattle.number.specs.Number.{greatest, spellNumber, Seen, number, ends, refused, seeNumber, numberAt}
 use Rattle.number.proofs.Theorems.{read-append, number-at-spelled, number-at-inside, cut-exactly, bad-exactly}
 use Rattle.loaded.specs.Cases.{Reads, Unread, cut-off, bad-byte}
@@ -23,14 +23,18 @@ pub record ReadsBefore (s : List ℕ) (i v : ℕ) (l : List ℕ) : Type 0 where
   pub rest : drop next s ≡ l
   pub size : next ≡ i + length (spellNumber v)
 
--- a number that stands there is read
-pub reads-spelled : (s : List ℕ) (i v : ℕ) {l : List ℕ} → v ≤ greatest → drop i s ≡ spellNumber v ++ l → ReadsBefore s i v l
-reads-spelled s i v {l} h e = record {
-  next = i + length (spellNumber v);
-  read = number-at-spelled s i v l h e;
-  rest = sym (drop-drop (length (spellNumber v)) i s) ∙ ap (drop (length (spellNumber v))) e ∙ drop-append-seam (spellNumber v) l;
-  size = refl;
-}
+-- a number that stands there, before x and what follows, is read
+pub reads-spelled : (s : List ℕ) (i v : ℕ) (x l : List ℕ) → v ≤ greatest → drop i s ≡ (spellNumber v ++ x) ++ l
+    → ReadsBefore s i v (x ++ l)
+reads-spelled s i v x l h e =
+    let n = length (spellNumber v) in
+    let split = e ∙ append-assoc (spellNumber v) x l in
+    record {
+      next = i + n;
+      read = number-at-spelled s i v (x ++ l) h split;
+      rest = sym (drop-drop n i s) ∙ ap (drop n) split ∙ drop-append-seam (spellNumber v) (x ++ l);
+      size = refl;
+    }
 
 -- ── Where they stand ───────────────────────────────────────────────────────
 

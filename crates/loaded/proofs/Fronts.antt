@@ -1,6 +1,6 @@
 -- THE FILE UP TO ITS LETTERS: what it shows, from the numbers that were read; and what a caller may take from the answer that the letters
 -- are there.
-use mathlib.Core.Path.{_≡_, refl}
+use mathlib.Core.Path.{_≡_}
 use mathlib.Core.Bool.{true, false, _&&_}
 use mathlib.Core.List.{List}
 use Prim.Native.Nat.{ℕ, _+_, _-_, _≤_, _<_}
@@ -14,15 +14,9 @@ use Rattle.words.proofs.Limits.{saved-some}
 use Rattle.number.specs.declared.Cursor.{Cursor}
 use Rattle.number.specs.declared.Number.the-variants.{Value}
 use Rattle.number.specs.Number.{numberAt}
-use Rattle.saved.specs.File.{edition}
 use Rattle.loaded.specs.Cases.{FrontCaseAt, edition-unread, edition-other, length-unread, length-bad, letters-missing, letters-there}
 use Rattle.loaded.proofs.Cases.{front-case}
 use Rattle.loaded.specs.Load.{Front, letters, stop, lettersAt, frontAt, front}
-
--- the code's constant
-pub edition-number : edition ≡ 1
-unfolding edition
-edition-number = refl
 
 -- ── From the number of letters ─────────────────────────────────────────────
 

@@ -3,7 +3,7 @@
 use mathlib.Core.Path.{_≡_, refl, sym, _∙_}
 use mathlib.Core.Logic.{_⊎_, _↔_}
 use mathlib.Core.List.{List, _∷_, _++_}
-use Prim.Native.Nat.{ℕ, suc, _+_, _-_, _≤_, _<_}
+use Prim.Native.Nat.{ℕ, suc, _+_, _≤_, _<_}
 use native.Mathlib.Omega.{arith}
 use lib.ListN.{length, take, drop}
 use lib.Seq.{split-at, length-take-le}
@@ -41,11 +41,11 @@ saved-exactly s bytes = (
   λ f. (f .word, spelled-accepted (f .word) (f .savable .least) (f .savable .most) s (f .file)),
 )
 
--- ── 1b. A file among other bytes ───────────────────────────────────────────
+-- ── 2. A file among other bytes ────────────────────────────────────────────
 
 -- the file of a word within the limit is read wherever it stands, and ends where it ends
-pub file-shown-at : (s : List ℕ) (o : Place) (w : Word) (l : List ℕ) → leastSaved ≤ length w → length w ≤ longestWord → drop o s ≡ spell w ++ l
-    → ShownAt s o w (behind (o + length (spell w)))
+pub file-shown-at : (s : List ℕ) (o : Place) (w : Word) (l : List ℕ) → leastSaved ≤ length w → length w ≤ longestWord
+    → drop o s ≡ spell w ++ l → ShownAt s o w (behind (o + length (spell w)))
 file-shown-at s o w l least most e = spelled-shown w least most s o l e
 
 -- what is read as a file from place o on is the file of the word that it shows, and ends where that ends
@@ -59,7 +59,7 @@ only-files-at s bytes o {w} {p} a =
     let ends : behind p ≡ behind (o + length (spell w)) = sym (a .judged) ∙ rw place (b .judged) in
     (S .savable, S .there, cc)
 
--- ── 2. No two words have the same file ────────────────────────────────────
+-- ── 3. No two words have the same file ────────────────────────────────────
 
 -- a file shows one word
 pub one-word : {s : List ℕ} {w w′ : Word} {v v′ : Verdict} → Judged s w v → Judged s w′ v′ → w ≡ w′
@@ -74,7 +74,7 @@ pub spell-injective : (w w′ : Word) → leastSaved ≤ length w → length w �
     → spell w ≡ spell w′ → w ≡ w′
 spell-injective w w′ least most least′ most′ e = one-word (file-accepted w least most) (spelled-accepted w′ least′ most′ (spell w) e)
 
--- ── 3. Beginnings and longer files ─────────────────────────────────────────
+-- ── 4. Beginnings and longer files ─────────────────────────────────────────
 
 module _ (w : Word) (least : leastSaved ≤ length w) (most : length w ≤ longestWord) where
   -- every proper beginning of a file shows 5 at its end: before the letters are all there, or behind them
@@ -82,14 +82,16 @@ module _ (w : Word) (least : leastSaved ≤ length w) (most : length w ≤ longe
   beginning-refused n h =
       let s = take n (spell w) in
       let size : length s ≡ n = length-take-le n (spell w) (omega arith) in
-      let whole : Accepts (s ++ at (spell w) n ∷ drop (suc n) (spell w)) w = spelled-accepted w least most _ (sym (split-at (spell w) n 0 h)) in
-      rw size at (shorter-cut s (at (spell w) n) (drop (suc n) (spell w)) whole)
+      let b = at (spell w) n in
+      let l = drop (suc n) (spell w) in
+      let whole : Accepts (s ++ b ∷ l) w = spelled-accepted w least most (s ++ b ∷ l) (sym (split-at (spell w) n 0 h)) in
+      rw size at (shorter-cut s b l whole)
 
   -- every longer file shows the same word, and then 11 where the word's file ends
   pub longer-refused : (b : ℕ) (l : List ℕ) → Judged (spell w ++ b ∷ l) w (wrong 11 (length (spell w)))
   longer-refused b l = spelled-left w least most b l
 
--- ── 4. Exactly when ────────────────────────────────────────────────────────
+-- ── 5. Exactly when ────────────────────────────────────────────────────────
 
 -- what a file shows up to its letters, by cases on its bytes
 pub front-at-is : (s : List ℕ) (o : Place) (f : Front) → (frontAt s o ≡ f) ↔ FrontCaseAt s o f

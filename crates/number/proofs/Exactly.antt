@@ -1,7 +1,7 @@
 -- WHAT IS SEEN, SAID OF THE BYTES: a number ends within them; they end too soon where fewer than five of the number are left and each says
 -- that another follows; and a byte is refused where those before it say so. First that what is seen is so, byte by byte; then the other
 -- way round.
-use mathlib.Core.Path.{_≡_, refl, sym, ap, _∙_}
+use mathlib.Core.Path.{_≡_, refl, ap, _∙_}
 use mathlib.Core.List.{List, [], _∷_}
 use Prim.Native.Nat.{ℕ, zero, suc, _+_, _%_, _≤_, _<_}
 use native.Mathlib.Decide.{decLt}

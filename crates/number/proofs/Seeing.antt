@@ -7,7 +7,7 @@ use mathlib.Core.List.{List, [], _∷_, _++_}
 use Prim.Native.Nat.{ℕ, zero, suc, _+_, _*_, _/_, _%_, _≤_, _<_}
 use native.Mathlib.Decide.{decLt}
 use native.Mathlib.Omega.{arith}
-use lib.ListN.{length, take}
+use lib.ListN.{length}
 use lib.Dec.{eqb, ltb}
 use borrow.Author.Tests.{ltb-true, lt-ltb, le-ltb, eqb-true, eq-eqb, ne-eqb}
 use Rattle.words.proofs.Lists.{and-true}
@@ -172,13 +172,17 @@ group-number x (refused m) e = let z : _≡_ {A = ℕ} 0 1 = cc in absurd (omega
 pub see-stood : {n k v m : ℕ} (l : List ℕ) → Bytes l → n + k ≡ 4 → see n l ≡ number v m → Stood n k l v m
 unfolding see
 see-stood [] bytes q e = let z : _≡_ {A = ℕ} 0 1 = cc in absurd (omega arith)
-see-stood {n} {k} {v} {m} (b ∷ l) bytes q e = by (kind-of n b) k q (λ j u r f. see-stood {n = suc n} {k = j} {v = u} {m = m} l (λ i. bytes (suc i)) r f)
+see-stood {n} {k} {v} {m} (b ∷ l) bytes q e =
+    by (kind-of n b) k q (λ j u r f. see-stood {n = suc n} {k = j} {v = u} {m = m} l (λ i. bytes (suc i)) r f)
   where
     Later : Type 0
     Later = (j u : ℕ) → suc n + j ≡ 4 → see (suc n) l ≡ number u m → Stood (suc n) j l u m
 
     by : Kind n b → (k : ℕ) → n + k ≡ 4 → Later → Stood n k (b ∷ l) v m
-    by (is-refused r) k q later = let f : refused n ≡ number v m = sym (see-refused n b l r) ∙ e in let z : _≡_ {A = ℕ} 0 1 = cc in absurd (omega arith)
+    by (is-refused r) k q later =
+        let f : refused n ≡ number v m = sym (see-refused n b l r) ∙ e in
+        let z : _≡_ {A = ℕ} 0 1 = cc in
+        absurd (omega arith)
     by (is-last p h) k q later =
         let f : number b (suc n) ≡ number v m = sym (see-last l p h) ∙ e in
         let w : v ≡ b = cc in

@@ -53,7 +53,10 @@ read-stood {l} {v} {n} bytes e = by (see-stood l bytes (omega arith) e)
 pub spelling-prefix-free : {u v : ℕ} {k l : List ℕ} → u ≤ greatest → v ≤ greatest → spellNumber u ++ k ≡ spellNumber v ++ l
     → (u ≡ v) × (k ≡ l)
 spelling-prefix-free {u} {v} {k} {l} h g e =
-    let seen : number u (length (spellNumber u)) ≡ number v (length (spellNumber v)) = sym (read-spelled u k h) ∙ ap seeNumber e ∙ read-spelled v l g in
+    let seen : number u (length (spellNumber u)) ≡ number v (length (spellNumber v)) =
+    sym (read-spelled u k h)
+    ∙ ap seeNumber e
+    ∙ read-spelled v l g in
     let same : u ≡ v = cc in
     (same, sym (drop-append-seam (spellNumber u) k) ∙ rw (e, same) (drop-append-seam (spellNumber v) l))
 

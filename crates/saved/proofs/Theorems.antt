@@ -1,9 +1,9 @@
 -- THE THEOREMS on the file of a word, each a sentence about the definitions alone: how many bytes it has at most and at least.
-use mathlib.Core.Path.{_≡_, refl, sym}
+use mathlib.Core.Path.{_≡_, refl}
 use Prim.Native.Nat.{ℕ, zero, suc, _+_, _*_, _≤_, _<_}
 use native.Mathlib.Omega.{arith}
 use mathlib.Core.List.{List}
-use lib.ListN.{length, replicate, length-replicate}
+use lib.ListN.{length, replicate}
 use Rattle.words.specs.Lists.{from, only, first}
 use Rattle.words.specs.Words.{Word}
 use Rattle.words.specs.Limits.{leastSaved, longestWord, greatestFile}
@@ -37,10 +37,10 @@ size-least f S =
     let more = spelling-length (length (ownSteps p)) .0 in
     rw (S .file) (omega (arith, S .savable .least, file-length p))
 
--- and there is such a file: that of the shortest word of one letter alone
+-- and one has no more: that of the letter a, repeated as often as the least word asks
 pub least-reached : (f : List ℕ) × Saved f × (length f ≡ leastSaved + 3)
-unfolding leastSaved from only first target walk spine far mend missing extrasAfter extraArrows suffixRule leadsTo extraTargets extrasBefore fileArrows
-    groups spellNumber edition stepsFrom spellSteps ownSteps body spell
+unfolding leastSaved from only first target walk spine far mend missing extrasAfter extraArrows suffixRule
+    leadsTo extraTargets extrasBefore fileArrows groups spellNumber edition stepsFrom spellSteps ownSteps body spell
 least-reached = (
   spell shortest,
   record {
