@@ -23,7 +23,7 @@
 #define SLIP 0
 #endif
 
-enum { MOST_LETTERS = 1024, MOST_TEXT = 16777216, MOST_FILE = 8192, NUMBERS = 13, GUARD = 256, NOISE = 1 << 16 };
+enum { NUMBERS = 13, GUARD = 256, NOISE = 1 << 16 };
 
 /* ---- numbers by chance, the same for the same seed ---- */
 
@@ -248,6 +248,24 @@ static size_t file_of(const uint8_t *word, size_t m, uint8_t *file)
     return length;
 }
 
+/* a number in so many groups, zeros at the end where it needs fewer */
+static size_t spell_in(uint32_t number, size_t groups, uint8_t *out)
+{
+    for (size_t g = 0; g < groups; g++) {
+        out[g] = (uint8_t)(number % 128 + (g + 1 < groups ? 128 : 0));
+        number /= 128;
+    }
+    return groups;
+}
+
+static size_t groups_of(uint32_t number)
+{
+    size_t groups = 1;
+    while (number >>= 7)
+        groups++;
+    return groups;
+}
+
 static void mirror(const uint8_t *word, size_t m, uint8_t *out)
 {
     for (size_t i = 0; i < m; i++)
@@ -367,6 +385,39 @@ static void both_searches(const uint8_t *word, size_t m, const uint8_t *text, si
     run_search(SEARCH_FILE, file, size, m, text, n, lists[below(3)]);
 }
 
+/* both searches with lists of no entry, of one, one fewer than the finds, as many, one more */
+static void every_list(const uint8_t *word, size_t m, const uint8_t *text, size_t n)
+{
+    uint8_t mirrored[MOST_LETTERS], file[MOST_FILE];
+    mirror(word, m, mirrored);
+    size_t size = file_of(mirrored, m, file);
+    size_t count = run_search(SEARCH, word, m, m, text, n, 0).answer[0];
+    size_t lists[] = {0, 1, count > 0 ? count - 1 : 0, count, count + 1};
+    for (size_t i = 0; i < sizeof lists / sizeof *lists; i++) {
+        run_search(SEARCH, word, m, m, text, n, lists[i]);
+        run_search(SEARCH_FILE, file, size, m, text, n, lists[i]);
+    }
+}
+
+/* a file loaded, in rooms for m letters that are exact, sometimes in shorter or longer ones, and sometimes searched with */
+static void try_file(const uint8_t *file, size_t len, size_t m)
+{
+    static const uint8_t text[] = "abbaabbbaaabbaabbacdeacaacdacbaca";
+    struct asked a = ask(LOAD, file, len, m);
+    a.fill = (enum fill)below(FILLS);
+    compare(&a);
+    if (below(4) == 0) {
+        a.len[below(2) ? TABLES : ROOM] -= 1;
+        compare(&a);
+    } else if (below(4) == 0) {
+        a.len[TABLES] += 1 + below(80);
+        a.len[ROOM] += 1 + below(13);
+        compare(&a);
+    }
+    if (below(2) == 0)
+        run_search(SEARCH_FILE, file, len, m, text, sizeof text - 1, below(6));
+}
+
 /* ---- the scope document's worked examples, whose values are written out ---- */
 
 static void expect(bool right, const char *what)
@@ -422,12 +473,36 @@ static void example_arrows(const char *word, const uint16_t *pairs, size_t arrow
         expect(t[n + i] == supplies[i - 1], word);
 }
 
+/* a file that declares some number of letters and has as many as the longest word, all the same, and the bytes behind; of it all but the
+   last so many, in rooms for m letters */
+static void example_long(uint32_t declared, const char *behind, size_t cut, size_t m, uint32_t number)
+{
+    uint8_t file[MOST_FILE] = {1};
+    size_t front = 1 + spell_in(declared, groups_of(declared), file + 1), len = front + MOST_LETTERS;
+    memset(file + front, 'a', MOST_LETTERS);
+    len += from_hex(behind, file + len) - cut;
+    expect(run_plain(LOAD, file, len, m).number == number, "a file of the longest word, or one that declares a longer or a shorter one");
+}
+
+static void examples_at_the_limit(void)
+{
+    example_long(MOST_LETTERS, "", 0, MOST_LETTERS, 5);
+    example_long(MOST_LETTERS, "", 0, MOST_LETTERS - 1, 3);
+    example_long(MOST_LETTERS, "", 1, MOST_LETTERS, 5);
+    example_long(MOST_LETTERS, "", MOST_LETTERS, MOST_LETTERS, 5);
+    example_long(MOST_LETTERS, "00", 0, MOST_LETTERS, 0);
+    example_long(MOST_LETTERS, "00 61", 0, MOST_LETTERS, 11);
+    example_long(MOST_LETTERS, "01", 0, MOST_LETTERS, 5);
+    example_long(MOST_LETTERS, "01 00 00", 0, MOST_LETTERS, 10);
+    example_long(MOST_LETTERS + 1, "", 0, MOST_LETTERS, 8);
+    example_long(MOST_LETTERS + 1, "61 00", 0, MOST_LETTERS, 8);
+    example_long(MOST_LETTERS - 1, "00", 0, MOST_LETTERS, 5);
+}
+
 static void examples_of_loading(void)
 {
-    uint8_t file[2000] = {1, 0x80, 8};
     example_refused("", 5);
     example_refused("01 00", 8);
-    example_refused("01 81 08", 8);
     example_refused("01 FF FF FF FF 0F", 8);
     example_refused("01 83 00 61 61 61 00", 6);
     example_refused("01 03 61 61 61 03", 9);
@@ -435,10 +510,7 @@ static void examples_of_loading(void)
     example_refused("01 03 61 61 61 01 00 00", 10);
     example_refused("01 03 61 61 61 00 00", 11);
     example_refused("01 02 61 62 00", 10);
-    memset(file + 3, 'a', 1024);
-    expect(run_plain(LOAD, file, 1027, 1024).number == 5, "01 80 08 and 1,024 letters, with room");
-    expect(run_plain(LOAD, file, 1027, 1023).number == 3, "01 80 08 and 1,024 letters, without room");
-    expect(run_plain(LOAD, file, 1028, 1024).number == 0, "01 80 08, 1,024 times the same letter, 00");
+    examples_at_the_limit();
 }
 
 static void examples(void)
@@ -494,7 +566,8 @@ static void short_words(void)
 
 static void longer_words(void)
 {
-    static const size_t lengths[] = {9, 16, 31, 32, 33, 100, 127, 128, 129, 254, 255, 256, 257, 511, 512, 513, 1000, 1023, 1024};
+    static const size_t lengths[] = {
+        9, 16, 31, 32, 33, 100, 127, 128, 129, 254, 255, 256, 257, 511, 512, 513, 1000, MOST_LETTERS - 1, MOST_LETTERS};
     static const unsigned alphabets[] = {2, 4, 256};
     static uint8_t word[MOST_LETTERS], text[4096], file[MOST_FILE];
     for (size_t l = 0; l < sizeof lengths / sizeof *lengths; l++)
@@ -503,10 +576,58 @@ static void longer_words(void)
                 size_t m = lengths[l], n = below(2) ? some_length(4096) : m + below(4096 - m);
                 choose_palette(alphabets[a]);
                 make_word(word, m, (enum kind)kind);
-                there_and_back(word, m, file);
+                size_t size = there_and_back(word, m, file);
+                run_save(word, m, ALWAYS_ENOUGH);
                 make_text(text, n, word, m, (unsigned)chance());
                 both_searches(word, m, text, n);
+                for (size_t cut = 0; m == MOST_LETTERS && cut < size; cut += 1 + size / 20)
+                    try_file(file, cut, m);
             }
+}
+
+/* ---- lists of finds that are too short, exact and too long ---- */
+
+static void lists_of(const char *word, const char *text)
+{
+    every_list((const uint8_t *)word, strlen(word), (const uint8_t *)text, strlen(text));
+}
+
+/* a text shorter than the word, the word itself, none; finds that overlap, touch, or are none; what the oracles of abbbaab and abcacdace
+   accept beside their factors, read backwards */
+static void short_lists(void)
+{
+    lists_of("a", "");
+    lists_of("a", "a");
+    lists_of("a", "b");
+    lists_of("aa", "a");
+    lists_of("abc", "ab");
+    lists_of("abc", "abc");
+    lists_of("a", "aaaaa");
+    lists_of("aa", "aaaa");
+    lists_of("aba", "ababa");
+    lists_of("abc", "xxabcxabcabcc");
+    lists_of("baabbba", "xxxxaba");
+    lists_of("baabbba", "bbbbababaabbbabaabbba");
+    lists_of("ecadcacba", "xxxxxecac");
+    lists_of("ecadcacba", "xxxxxecacxecadcacbaecadcacba");
+    every_list((const uint8_t *)"\0\xFF", 2, (const uint8_t *)"\xFF\0\xFF\0\xFF\0", 6);
+    every_list((const uint8_t *)"\xFF\0\xFF", 3, (const uint8_t *)"\0\xFF\0\xFF\0\xFF", 6);
+}
+
+/* the longest words: where the text begins, inside it, all of it, more than it; and the text's last letter */
+static void lists(void)
+{
+    static uint8_t text[3 * MOST_LETTERS];
+    short_lists();
+    for (int kind = 0; kind < KINDS; kind++) {
+        choose_palette(kind % 2 ? 4 : 2);
+        make_word(text, sizeof text, (enum kind)kind);
+        every_list(text, MOST_LETTERS, text, sizeof text);
+        every_list(text + MOST_LETTERS - 20, MOST_LETTERS, text, sizeof text);
+        every_list(text, MOST_LETTERS, text, MOST_LETTERS);
+        every_list(text, MOST_LETTERS, text, MOST_LETTERS - 1);
+        every_list(text + sizeof text - 1, 1, text, sizeof text);
+    }
 }
 
 /* ---- rooms: one short, exact, one long, for every buffer; every refusal with what stands in them before ---- */
@@ -515,7 +636,7 @@ static const size_t room_choices = 4;
 
 static size_t room_choice(size_t need, size_t choice)
 {
-    return choice == 0 ? 0 : choice == 1 ? (need > 0 ? need - 1 : 0) : choice == 2 ? need : need + 1 + below(40);
+    return choice == 0 ? 0 : choice == 1 ? (need > 0 ? need - 1 : 0) : choice == 2 ? need : need + 1 + (below(2) ? 0 : below(40));
 }
 
 static void rooms_for(enum entry entry, const uint8_t *input, size_t input_len, size_t m, size_t file_size, size_t n)
@@ -557,8 +678,24 @@ static void rooms_of_word(const uint8_t *word, size_t m)
 
 static void rooms(void)
 {
-    static const size_t lengths[] = {0, 1, 2, 3, 5, 9, 30, 128, 1023, 1024, 1025, 1026, 1500, 65536, 65537, 65600};
-    static uint8_t word[65600];
+    enum { PAST_16_BITS = 65536 };
+    static const size_t lengths[] = {0,
+                                     1,
+                                     2,
+                                     3,
+                                     5,
+                                     9,
+                                     30,
+                                     128,
+                                     MOST_LETTERS - 1,
+                                     MOST_LETTERS,
+                                     MOST_LETTERS + 1,
+                                     MOST_LETTERS + 2,
+                                     2 * MOST_LETTERS,
+                                     PAST_16_BITS,
+                                     PAST_16_BITS + 1,
+                                     PAST_16_BITS + MOST_LETTERS};
+    static uint8_t word[PAST_16_BITS + MOST_LETTERS];
     for (size_t l = 0; l < sizeof lengths / sizeof *lengths; l++)
         for (int turn = 0; turn < (lengths[l] < 100 ? 4 : 1); turn++) {
             choose_palette(turn % 2 ? 4 : 2);
@@ -568,20 +705,6 @@ static void rooms(void)
 }
 
 /* ---- files: cut, changed, bytes put in and taken out, numbers replaced ---- */
-
-static void try_file(const uint8_t *file, size_t len, size_t m)
-{
-    static const uint8_t text[] = "abbaabbbaaabbaabbacdeacaacdacbaca";
-    struct asked a = ask(LOAD, file, len, m);
-    a.fill = (enum fill)below(FILLS);
-    compare(&a);
-    if (below(4) == 0) {
-        a.len[below(2) ? TABLES : ROOM] -= 1;
-        compare(&a);
-    }
-    if (below(2) == 0)
-        run_search(SEARCH_FILE, file, len, m, text, sizeof text - 1, below(6));
-}
 
 static size_t spliced(const uint8_t *file, size_t len, size_t from, size_t to, const uint8_t *put, size_t put_len, uint8_t *out)
 {
@@ -626,7 +749,7 @@ static void move_bytes(const uint8_t *file, size_t len, size_t m)
     for (size_t at = 0; at <= len; at++) {
         uint8_t put = below(2) ? puts[below(sizeof puts)] : (uint8_t)chance();
         try_file(other, spliced(file, len, at, at, &put, 1, other), m);
-        size_t from = below(at + 1);
+        size_t from = below(at);
         try_file(other, spliced(file, len, at, at, file + from, at - from < 4 ? at - from : 4, other), m);
         if (at < len)
             try_file(other, spliced(file, len, at, at + 1, file, 0, other), m);
@@ -638,30 +761,35 @@ static void move_bytes(const uint8_t *file, size_t len, size_t m)
     }
 }
 
-/* a number in so many groups, zeros at the end where it needs fewer */
-static size_t spell_in(uint32_t number, size_t groups, uint8_t *out)
-{
-    for (size_t g = 0; g < groups; g++) {
-        out[g] = (uint8_t)(number % 128 + (g + 1 < groups ? 128 : 0));
-        number /= 128;
-    }
-    return groups;
-}
-
-static size_t groups_of(uint32_t number)
-{
-    size_t groups = 1;
-    while (number >>= 7)
-        groups++;
-    return groups;
-}
-
 /* the number that stands in file[from..to) replaced: by extreme ones, near ones, and by longer spellings of itself and of others */
 static void replace_number(const uint8_t *file, size_t len, size_t m, size_t from, size_t to)
 {
-    static const uint32_t extremes[] = {0,       1,         2,         126,        127,      128,         129,         255,        256,
-                                        1023,    1024,      1025,      16383,      16384,    65535,       65536,       65537,      2097151,
-                                        2097152, 268435455, 268435456, 2147483647, 1u << 31, 4294967040u, 4294967294u, 4294967295u};
+    static const uint32_t extremes[] = {0,
+                                        1,
+                                        2,
+                                        126,
+                                        127,
+                                        128,
+                                        129,
+                                        255,
+                                        256,
+                                        16383,
+                                        16384,
+                                        65535,
+                                        65536,
+                                        65537,
+                                        2097151,
+                                        2097152,
+                                        268435455,
+                                        268435456,
+                                        2147483647,
+                                        1u << 31,
+                                        4294967040u,
+                                        4294967294u,
+                                        4294967295u,
+                                        MOST_LETTERS - 1,
+                                        MOST_LETTERS,
+                                        MOST_LETTERS + 1};
     static const char *const raw[] = {"80",           "8080",         "808080",     "80808080",     "8000",
                                       "808000",       "80808000",     "8080808000", "8080808080",   "8080808010",
                                       "FFFFFFFF10",   "FFFFFFFF1F",   "FFFFFFFF7F", "FFFFFFFF8F",   "FFFFFFFFFF",
@@ -711,13 +839,24 @@ static void damage(const uint8_t *word, size_t m, bool every_value)
     replace_numbers(file, len, m);
 }
 
+/* every byte changed of a file with one byte too many */
+static void damage_longer(const uint8_t *word, size_t m)
+{
+    static uint8_t file[MOST_FILE];
+    size_t len = file_of(word, m, file);
+    file[len] = 0;
+    change_bytes(file, len + 1, m, true);
+}
+
 static void damaged_files(void)
 {
     static const char *const short_ones[] = {"a", "ab", "aaa", "abbbaab", "abcacdace"};
     static const size_t lengths[] = {12, 20, 60, 127, 128, 130, 200};
     static uint8_t word[MOST_LETTERS];
-    for (size_t i = 0; i < sizeof short_ones / sizeof *short_ones; i++)
+    for (size_t i = 0; i < sizeof short_ones / sizeof *short_ones; i++) {
         damage((const uint8_t *)short_ones[i], strlen(short_ones[i]), true);
+        damage_longer((const uint8_t *)short_ones[i], strlen(short_ones[i]));
+    }
     for (size_t i = 0; i < sizeof lengths / sizeof *lengths; i++) {
         choose_palette(i % 2 ? 4 : 2);
         make_word(word, lengths[i], i == 4 ? PERIODIC : RANDOM);
@@ -777,7 +916,7 @@ static void texts_at_the_limit(void)
     free(text);
 }
 
-/* 300 a's in 16,777,216 a's: the letters read pass 32 bits; every find has its entry */
+/* 300 a's in the longest text, of a's alone: the letters read pass 32 bits; every find has its entry */
 static void hostile_at_the_limit(void)
 {
     uint8_t *text = reserve(NULL, MOST_TEXT);
@@ -958,8 +1097,8 @@ static void long_damaged_files(void)
     static uint8_t word[MOST_LETTERS];
     for (int turn = 0; turn < 2; turn++) {
         choose_palette(turn ? 4 : 2);
-        make_word(word, MOST_LETTERS - (size_t)turn * 500, RANDOM);
-        damage(word, MOST_LETTERS - (size_t)turn * 500, false);
+        make_word(word, MOST_LETTERS >> turn, RANDOM);
+        damage(word, MOST_LETTERS >> turn, false);
     }
 }
 
@@ -995,13 +1134,14 @@ static void all_parts(bool costly)
     part("rooms too short, exact and too long; words empty and too long", rooms);
     part("damaged files", damaged_files);
     part("files of random bytes", random_files);
-    part("words of 9 to 1,024 letters, of each kind over 2, 4 and 256 letters", longer_words);
-    part("texts of 16,777,216 and 16,777,217 bytes", texts_at_the_limit);
+    part("words of 9 letters to the most, of each kind over 2, 4 and 256 letters", longer_words);
+    part("lists of finds too short, exact and too long", lists);
+    part("texts of the most bytes and of one more", texts_at_the_limit);
     part("slices of more than 4,294,967,296 elements", vast_slices);
     part("all of it mixed", mixed_cases);
     if (costly) {
-        part("damaged files of 1,024 and 524 letters", long_damaged_files);
-        part("300 a's in 16,777,216 a's", hostile_at_the_limit);
+        part("damaged files of the most letters, and of half as many", long_damaged_files);
+        part("300 a's in the longest text, of a's alone", hostile_at_the_limit);
     }
     if (until > 0)
         part("more of it mixed", more_mixed_cases);

@@ -27,7 +27,7 @@
 #define SLIP 0
 #endif
 
-enum { MOST_LETTERS = 1024, MOST_TEXT = 16777216, MOST_FILE = 8192, MOST_INPUT = 8192, ROOM_BYTES = 65536, BESIDE = 256 };
+enum { MOST_INPUT = MOST_FILE, ROOM_BYTES = 65536, BESIDE = 256 };
 
 /* ---- memory for the library: between two inaccessible pages ---- */
 
@@ -37,7 +37,7 @@ static struct {
     size_t at;      /* where the lent part begins */
 } region[SLICES];
 
-static uint8_t *whole_text; /* 16,777,217 bytes that a search must refuse without reading */
+static uint8_t *whole_text; /* one byte too many, which a search must refuse without reading */
 
 static void *must(void *p)
 {
@@ -282,7 +282,7 @@ static void seed(unsigned call, uint8_t flags, const uint8_t *input, size_t inpu
 
 static void seed_word(const uint8_t *word, size_t m)
 {
-    uint8_t file[MOST_FILE], text[3 * 1100];
+    uint8_t file[MOST_FILE], text[2 * (MOST_LETTERS + 1)];
     size_t size = m >= 1 && m <= MOST_LETTERS ? file_of(word, m, file) : 0;
     for (size_t i = 0; i < 2 * m; i++)
         text[i] = i < m ? word[i] : word[2 * m - 1 - i];
@@ -361,8 +361,8 @@ static void write_seeds(void)
                                         "01036161610000",
                                         "0102616200",
                                         "01026162010000"};
-    static const size_t lengths[] = {16, 64, 127, 128, 129, 300, 1024, 1025};
-    uint8_t word[1100];
+    static const size_t lengths[] = {16, 64, 127, 128, 129, 300, MOST_LETTERS, MOST_LETTERS + 1};
+    uint8_t word[MOST_LETTERS + 1];
     uint32_t state = 1;
     for (size_t i = 0; i < sizeof words / sizeof *words; i++)
         seed_word((const uint8_t *)words[i], strlen(words[i]));

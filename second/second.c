@@ -13,11 +13,11 @@
      slip 8: search judges 3 before 4
      slip 9: an arrow is judged before its second number is read
      slip 10: bytes behind the last arrow are let through
-     slip 11: a word of 1,025 letters is taken by build
+     slip 11: a word one letter too long is taken by build
      slip 12: a fifth byte of 16 is read
      slip 13: missing arrows are let through
      slip 14: a refusal behind 3 leaves the word room as it was
-     slip 15: a text of 16,777,217 bytes is taken
+     slip 15: a text one byte too long is taken
      slip 16: the count stops at the end of the list
      slip 17: search leaves the tables of the word and not of its mirror
      slip 18: the new arrow points at the nearest state with the letter
@@ -28,7 +28,7 @@
      slip 23: a refusal writes an answer
      slip 24: a find is listed behind the list's end
      slip 25: leftovers (11) are judged before missing arrows (10)
-     slip 26: m declared as 1,024 is refused
+     slip 26: the longest word that may be declared is refused
      slip 27: the edition is not judged
      slip 28: searching with a file looks for the file's word and not for its mirror
      slip 29: a short text is answered before the tables are filled
@@ -43,12 +43,7 @@
 #define SLIP 0
 #endif
 
-enum {
-    MOST_LETTERS = 1024,
-    STATES = MOST_LETTERS + 1 + (SLIP == 11),
-    MOST_TEXT = 16777216 + (SLIP == 15),
-    MOST_FILE = 8192 /* more than any file has; the scope document says 5,121 */
-};
+enum { STATES = MOST_LETTERS + 1 + (SLIP == 11), LONGEST_TEXT = MOST_TEXT + (SLIP == 15) };
 
 /* ---- the oracle: one at a time, as a full matrix ---- */
 
@@ -387,7 +382,7 @@ uint32_t second_search(const uint8_t *word, size_t word_len, const uint8_t *text
         return 2;
     if (SLIP == 8 && tables_len < entries(word_len))
         return 3;
-    if (text_len > MOST_TEXT)
+    if (text_len > LONGEST_TEXT)
         return 4;
     if (tables_len < entries(word_len))
         return 3;
@@ -409,7 +404,7 @@ uint32_t second_search_file(const uint8_t *file, size_t file_len, const uint8_t 
 {
     uint8_t sought[MOST_LETTERS];
     uint64_t m;
-    if (text_len > MOST_TEXT)
+    if (text_len > LONGEST_TEXT)
         return 4;
     uint32_t no = second_load(file, file_len, room, room_len, tables, tables_len, &m);
     if (no != 0)

@@ -9,6 +9,14 @@
 #include <stddef.h>
 #include <stdint.h>
 
+/* The scope document's limits; nothing in second/ has them as numbers. */
+enum {
+    MOST_LETTERS = 1024,         /* of a word */
+    MOST_TEXT = 16777216,        /* bytes of a text */
+    ALWAYS_ENOUGH = 5121,        /* bytes of output, for the file of any word */
+    MOST_FILE = 8 * MOST_LETTERS /* a room of our own for a file: more than any has */
+};
+
 uint32_t second_build(const uint8_t *word, size_t word_len, uint16_t *tables, size_t tables_len, uint64_t *m);
 
 uint32_t second_save(const uint8_t *word, size_t word_len, uint16_t *tables, size_t tables_len, uint8_t *out, size_t out_len,

@@ -1,21 +1,19 @@
 // Runs 01's worked examples of files by the entries for C, and writes a line for each: what is handed over, the number returned and the
-// answer, and what the lent buffers hold afterwards. `tools/expect` computes the same lines another way, from 01 alone; the file `stdout` is
-// what it writes. Before a call each lent byte is 6, each table entry 7 and the answer 0.
+// answer, and what the lent buffers hold afterwards. `tools/expect` computes the same lines another way, from 01 alone, and they are the file
+// `stdout`. Before a call each lent byte is 6, each table entry 7 and the answer 0.
+use io::print_decimal;
+use io::write_all;
 use libc::STDOUT_FILENO;
 use words::WORD_LIMIT;
 
 // Table entries for every word.
 const ENTRIES: usize = 6 * (WORD_LIMIT + 1);
 
-fn write(s: &[u8]) {
-    io::write_all(STDOUT_FILENO, s);
-}
-
 fn from(place: usize, value: u64) {
-    write(b" ");
-    io::print_decimal(STDOUT_FILENO, place as u64);
-    write(b":");
-    io::print_decimal(STDOUT_FILENO, value);
+    write_all(STDOUT_FILENO, b" ");
+    print_decimal(STDOUT_FILENO, place as u64);
+    write_all(STDOUT_FILENO, b":");
+    print_decimal(STDOUT_FILENO, value);
 }
 
 // Each place where another value begins, with it; so with table entries.
@@ -46,47 +44,39 @@ fn entries(s: &[u16]) {
 }
 
 fn tell(number: u32, answer: u64, room: &[u8], tables: &[u16]) {
-    write(b"; number ");
-    io::print_decimal(STDOUT_FILENO, number as u64);
-    write(b", answer ");
-    io::print_decimal(STDOUT_FILENO, answer);
-    write(b"; bytes");
+    write_all(STDOUT_FILENO, b"; number ");
+    print_decimal(STDOUT_FILENO, number as u64);
+    write_all(STDOUT_FILENO, b", answer ");
+    print_decimal(STDOUT_FILENO, answer);
+    write_all(STDOUT_FILENO, b"; bytes");
     bytes(room);
-    write(b"; entries");
+    write_all(STDOUT_FILENO, b"; entries");
     entries(tables);
-    write(b"\n");
+    write_all(STDOUT_FILENO, b"\n");
 }
 
-fn load(file: &[u8], room: &mut [u8], tables: &mut [u16]) {
+// One load (L) or one save (S), in lent rooms.
+fn run(kind: u8, given: &[u8], room: &mut [u8], tables: &mut [u16]) {
     let mut answer: u64 = 0;
-    write(b"load");
-    bytes(file);
-    let number = marks_c::marks_load(file, room, tables, &mut answer);
+    if kind == b'L' {
+        write_all(STDOUT_FILENO, b"load");
+        bytes(given);
+        let number = marks_c::marks_load(given, room, tables, &mut answer);
+        tell(number, answer, room, tables);
+        return;
+    }
+    write_all(STDOUT_FILENO, b"save");
+    bytes(given);
+    let number = marks_c::marks_save(given, tables, room, &mut answer);
     tell(number, answer, room, tables);
 }
 
-fn save(word: &[u8], out: &mut [u8], tables: &mut [u16]) {
-    let mut answer: u64 = 0;
-    write(b"save");
-    bytes(word);
-    let number = marks_c::marks_save(word, tables, out, &mut answer);
-    tell(number, answer, out, tables);
-}
-
-fn case(kind: u8, given: &[u8]) {
-    let mut room = [6u8; WORD_LIMIT];
-    let mut tables = [7u16; ENTRIES];
-    if kind == b'L' {
-        load(given, &mut room, &mut tables);
-        return;
-    }
-    save(given, &mut room, &mut tables);
-}
-
-// A table of cases, each a kind (L: load, S: save), how many bytes are handed over, and these.
+// A table of cases: for each its kind, how many bytes are handed over, and these. The rooms are enough for every word.
 fn cases(table: &[u8]) {
     let mut at = 0;
     while 2 <= table.len() - at {
+        let mut room = [6u8; WORD_LIMIT];
+        let mut tables = [7u16; ENTRIES];
         let kind = table[at];
         let long = table[at + 1] as usize;
         let start = at + 2;
@@ -94,7 +84,7 @@ fn cases(table: &[u8]) {
             return;
         }
         let end = start + long;
-        case(kind, &table[start..end]);
+        run(kind, &table[start..end], &mut room, &mut tables);
         at = end;
     }
 }
@@ -107,7 +97,7 @@ fn long_file(declared: u32, room: &mut [u8]) {
     let width = number::width(declared);
     number::write(&mut file, number::Cursor { at: 1 }, declared);
     let end = 1 + width + WORD_LIMIT;
-    load(&file[0..end], room, &mut tables);
+    run(b'L', &file[0..end], room, &mut tables);
 }
 
 fn main() {

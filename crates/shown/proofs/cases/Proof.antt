@@ -43,17 +43,23 @@ returns c = search needs
 add-end : tie.Need-add-end Inv-loop μ-loop
 add-end c = search needs
 
-sub-case : tie.Need-sub-case Inv-loop μ-loop
-sub-case c = search needs
+sub-run : tie.Need-sub-run Inv-loop μ-loop
+sub-run c = search needs
 
-part-case-start : tie.Need-part-case-start Inv-loop μ-loop
-part-case-start c = search needs
+part-run-start : tie.Need-part-run-start Inv-loop μ-loop
+part-run-start c = search needs
 
-part-case-end : tie.Need-part-case-end Inv-loop μ-loop
-part-case-end c = search needs
+part-run-end : tie.Need-part-run-end Inv-loop μ-loop
+part-run-end c = search needs
 
-case-requires : tie.Need-case-requires Inv-loop μ-loop
-case-requires c κs = search needs
+slice-aggregate-run : tie.Need-slice-aggregate-run Inv-loop μ-loop
+slice-aggregate-run c = search needs
+
+slice-aggregate-run-2 : tie.Need-slice-aggregate-run-2 Inv-loop μ-loop
+slice-aggregate-run-2 c = search needs
+
+run-requires : tie.Need-run-requires Inv-loop μ-loop
+run-requires c κs = search needs
 
 loop-less : tie.Need-loop-less Inv-loop μ-loop
 loop-less c = search needs
@@ -80,10 +86,12 @@ cases-spec =
     sub-if1
     returns
     add-end
-    sub-case
-    part-case-start
-    part-case-end
-    case-requires
+    sub-run
+    part-run-start
+    part-run-end
+    slice-aggregate-run
+    slice-aggregate-run-2
+    run-requires
     loop-less
     loop-again
     returns-2)
