@@ -39,20 +39,21 @@ use Rattle.mark_files.proofs.SearchFileSays
 -- ── 'Any word, text, file and room may be handed to any public entry.' ─────
 
 -- Of the code, crates/marks/src/lib.rt and crates/mark_files/src/lib.rt: an entry has no `requires`, and its one `ensures` says that its
--- answer and every lent buffer as it is left are `buildSays`, `saveSays`, `searchSays`, `loadSays` or `searchFileSays` of what is handed over.
--- These are functions on all lists of numbers.
+-- answer and every lent buffer as it is left are `buildSays`, `saveSays`, `searchSays`, `loadSays` or `searchFileSays` of what is handed
+-- over. These are functions on all lists of numbers.
 
 -- ── 'Each entry comes to an end with an answer, or refuses with a number from the written table,' ──
 
--- Of the code: every function is proved to end. What it ends with is `answers/Answers/Answer`: done with an answer, or refused with a number.
+-- Of the code: every function is proved to end. What it ends with is `answers/Answers/Answer`: done with an answer, or refused with a
+-- number.
 
 -- the numbers of the written table
 pub table-numbers : map (λ r. r .number) refusals ≡ 1 ∷ 2 ∷ 3 ∷ 4 ∷ 5 ∷ 6 ∷ 7 ∷ 8 ∷ 9 ∷ 10 ∷ 11 ∷ 12 ∷ []
 unfolding refusals
 table-numbers = refl
 
--- for every word, text and file, and every word room R, tables T, output O and list F: each entry is done, or refuses with one of its numbers,
--- and 'a refusal returns its number only'
+-- for every word, text and file, and every word room R, tables T, output O and list F: each entry is done, or refuses with one of its
+-- numbers, and, as 01 has it, 'a refusal returns its number only'
 module _ (word text : Word) (file R T O : List ℕ) (F : List Place) where
   pub build-numbers : refusesOnly (1 ∷ 2 ∷ 3 ∷ []) (buildSays word T .answer) ≡ true
   build-numbers = WordNumbers.build-numbers word T
@@ -71,7 +72,8 @@ module _ (word text : Word) (file R T O : List ℕ) (F : List Place) where
 
   -- ── 'exactly when the table says and at no other time.' ──────────────────
 
-  -- The table with its order is `marks/Cases` and `mark_files/Cases`: a line is a constructor, with what word, bytes and rooms have to be for it, and its outcome.
+  -- The table with its order is `marks/Cases` and `mark_files/Cases`: a line is a constructor, with what word, bytes and rooms have to be for
+  -- it, and its outcome.
 
   pub build-exactly : (o : Build.Outcome) → (buildSays word T ≡ o) ↔ BuildCase word T o
   build-exactly = BuildSays.build-is word T
@@ -95,7 +97,8 @@ module _ (word text : Word) (file R T O : List ℕ) (F : List Place) where
 
   -- ── 'What a refusal leaves in every lent buffer is fixed,' ───────────────
 
-  -- before the rooms were found large enough nothing is changed, after it the word's part of them is zero; outputs and lists are never touched
+  -- before the rooms were found large enough nothing is changed, after it the word's part of them is zero; outputs and lists are never
+  -- touched
   module _ {n : ℕ} where
     pub build-refusal : buildSays word T .answer ≡ refused n → buildSays word T .tables ≡ T
     build-refusal = BuildSays.refusal-leaves word T
@@ -118,7 +121,8 @@ module _ (word text : Word) (file R T O : List ℕ) (F : List Place) where
     search-file-refusal = SearchFileSays.refusal-leaves file text R T F
 
   -- and any two outcomes that an entry's promise allows are equal: the code's answers r and r′, and all that is left
-  pub build-fixed : (r r′ : SizeAnswer) (T₁ T₂ : List ℕ) → built r T₁ ≡ buildSays word T → built r′ T₂ ≡ buildSays word T → (r ≡ r′) × (T₁ ≡ T₂)
+  pub build-fixed : (r r′ : SizeAnswer) (T₁ T₂ : List ℕ) → built r T₁ ≡ buildSays word T → built r′ T₂ ≡ buildSays word T
+      → (r ≡ r′) × (T₁ ≡ T₂)
   build-fixed = BuildSays.build-one word T
 
   pub save-fixed : (r r′ : SizeAnswer) (T₁ T₂ O₁ O₂ : List ℕ) → savedAs r T₁ O₁ ≡ saveSays word T O → savedAs r′ T₂ O₂ ≡ saveSays word T O
@@ -172,8 +176,8 @@ module _ (word text : Word) (file R T O : List ℕ) (F : List Place) where
   -- ── Shut out: refusals in another order ──────────────────────────────────
 
   -- letters that are missing are refused with 5, however short the rooms are: 3 comes behind them
-  pub letters-before-rooms : {i m j : ℕ} → Reads file 0 edition i → Reads file i m j → leastSaved ≤ m → m ≤ longestWord → length file < j + m
-      → loadSays file R T ≡ Load.outcome (refused 5) R T
+  pub letters-before-rooms : {i m j : ℕ} → Reads file 0 edition i → Reads file i m j → leastSaved ≤ m → m ≤ longestWord
+      → length file < j + m → loadSays file R T ≡ Load.outcome (refused 5) R T
   letters-before-rooms e r least most cut = load-exactly _ .1 (LoadCase.head-refused (letters-missing e r least most cut))
 
   -- ── Shut out: an entry that refuses everything ───────────────────────────

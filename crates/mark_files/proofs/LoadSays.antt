@@ -28,7 +28,7 @@ use Rattle.answers.specs.declared.SizeAnswer.{SizeAnswer}
 use Rattle.answers.specs.declared.SizeAnswer.the-variants.{Done}
 use Rattle.answers.specs.Answers.{Answer, done, refused, shortRoom}
 use Rattle.answers.proofs.Answers.{done-not-refused, size-answer-one}
-use Rattle.mark_files.specs.Load.{Outcome, outcome, loadedAs, judged, loadSays}
+use Rattle.mark_files.specs.Load.{Outcome, outcome, loadedAs, judgedAt, loadSays}
 use Rattle.mark_files.specs.Cases.{LoadCase, AfterRefusal}
 
 module _ (file R T : List ℕ) where
@@ -60,7 +60,7 @@ module _ (file R T : List ℕ) where
             let k : ltb (length R) m ≡ false = le-ltb (length R) m (omega arith) in
             rw (e, k, lt-ltb (length T) (room m) h)
 
-    pub says-judged : m ≤ length R → room m ≤ length T → loadSays file R T ≡ put m (judged (verdict file (i + m) word) word)
+    pub says-judged : m ≤ length R → room m ≤ length T → loadSays file R T ≡ put m (judgedAt file i m)
     unfolding loadSays
     says-judged h s = rw (e, le-ltb (length R) m h, le-ltb (length T) (room m) s)
 
@@ -142,13 +142,13 @@ module _ (file : List ℕ) (i m : ℕ) (inside : i + m ≤ length file) where
 
   module _ {R T : List ℕ} (copied : R ≡ shown-letters) (table : T ≡ tableOf shown-letters) (said : Compared)
       (told : verdictOf said ≡ verdict file (i + m) shown-letters) where
-    pub taken-right : said ≡ Right → outcome (done m) R T ≡ judged (verdict file (i + m) (part file i m)) (part file i m)
+    pub taken-right : said ≡ Right → outcome (done m) R T ≡ judgedAt file i m
     taken-right e =
         let v : verdict file (i + m) (part file i m) ≡ right = ap (verdict file (i + m)) (sym is-part) ∙ sym told ∙ ap verdictOf e in
         rw (v, copied, table, is-part, size)
 
     pub taken-wrong : {n j : ℕ} → said ≡ Wrong n j → {R′ T′ : List ℕ} → R′ ≡ replicate (length R) 0 → T′ ≡ replicate (length T) 0
-        → outcome (refused n) R′ T′ ≡ judged (verdict file (i + m) (part file i m)) (part file i m)
+        → outcome (refused n) R′ T′ ≡ judgedAt file i m
     taken-wrong {n} {j} e r t =
         let v : verdict file (i + m) (part file i m) ≡ wrong n j = ap (verdict file (i + m)) (sym is-part) ∙ sym told ∙ ap verdictOf e in
         rw (v, r, t, copied, table, is-part, table-size (part file i m))
@@ -168,7 +168,7 @@ module _ (file R T : List ℕ) {m i : ℕ} (shown : front file ≡ letters m i) 
       rw lent ((there .inside, length-take-le (room m) T enough), (some, omega (arith, there .most, words-fit)))
 
   pub given-back : (r : SizeAnswer) {R′ T′ : List ℕ}
-      → loadedAs r R′ T′ ≡ judged (verdict file (i + length (take m R)) (part file i (length (take m R)))) (part file i (length (take m R)))
+      → loadedAs r R′ T′ ≡ judgedAt file i (length (take m R))
       → loadedAs r (R′ ++ drop m R) (T′ ++ drop (room m) T) ≡ loadSays file R T
   given-back r e = ap (put file R T m) (rw lent at e) ∙ sym (says-judged file R T m i shown fits enough)
 
@@ -196,8 +196,8 @@ loaded-stands file R T (LoadCase.accepted {m = m} {i = i} f h t v) =
       table = take-at (tableOf w) (drop (room m) T) (room m) table-sized ∙ ap tableOf (sym (take-at w (drop m R) m size));
     }
 
-pub told-stands : (file R T : List ℕ) {said : SizeAnswer} {R′ T′ : List ℕ} → loadedAs said R′ T′ ≡ loadSays file R T → {m : ℕ} → said ≡ Done m
-    → Standing m R′ T′
+pub told-stands : (file R T : List ℕ) {said : SizeAnswer} {R′ T′ : List ℕ} → loadedAs said R′ T′ ≡ loadSays file R T
+    → {m : ℕ} → said ≡ Done m → Standing m R′ T′
 told-stands file R T {said} {R′} {T′} told e =
     loaded-stands file R T (load-is file R T _ .0 (sym told ∙ ap (λ (s : SizeAnswer). loadedAs s R′ T′) e))
 

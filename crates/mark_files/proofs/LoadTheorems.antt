@@ -99,12 +99,14 @@ module _ (R T : List ℕ) where
           let shown : front s ≡ letters m i = front-is s (letters m i) .1 f in
           let size : length w ≡ m = part-length s i m (front-letters s shown .inside) in
           let judged : verdict s (i + m) w ≡ right = verdict-is s (i + m) w right .1 v in
-          let file : FileOf s w = only-files s bytes (record { place = i; shown = rw size shown; word = rw size; judged = rw size judged }) in
+          let accepts = record { place = i; shown = rw size shown; word = rw size; judged = rw size judged } in
+          let file : FileOf s w = only-files s bytes accepts in
           (w, file, sym size, rw size h, rw size t)
 
   -- both at once: it is accepted exactly if it is in the set of files, and there is room for its word
   pub accepted-exactly : (s : List ℕ) → Bytes s
-      → ((m : ℕ) × (loadSays s R T .answer ≡ done m)) ↔ ((f : Saved s) × (length (f .word) ≤ length R) × (room (length (f .word)) ≤ length T))
+      → ((m : ℕ) × (loadSays s R T .answer ≡ done m))
+      ↔ ((f : Saved s) × (length (f .word) ≤ length R) × (room (length (f .word)) ≤ length T))
   accepted-exactly s bytes = (there, back)
     where
       there : (m : ℕ) × (loadSays s R T .answer ≡ done m)
@@ -121,7 +123,7 @@ module _ (R T : List ℕ) where
           let loads = file-loads (f .word) (f .savable .least) (f .savable .most) (a .1) (a .2) in
           (length (f .word), ap (λ (file : List ℕ). loadSays file R T .answer) (f .file) ∙ ap (λ o. o .answer) loads)
 
-  -- and that word, with its oracle, is what is handed over: m letters at the start of the word room, and arrows that are read from the tables
+  -- and that word, with its oracle, is what is handed over: m letters at the start of the word room, and arrows read from the tables
   pub loaded-hands : (s : List ℕ) → Bytes s → {m : ℕ} → loadSays s R T .answer ≡ done m → Handed s (loadSays s R T) m
   loaded-hands s bytes e = by (loaded-files s bytes e)
     where

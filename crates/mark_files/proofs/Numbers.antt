@@ -1,5 +1,5 @@
--- THE NUMBERS that each entry over files may refuse with: those that 01's table has for it, and nothing but the number. By its cases, and by
--- the ways of loading.
+-- THE NUMBERS that each entry over files may refuse with: those that 01's table has for it, and nothing but the number. By its cases, and
+-- by the ways of loading.
 use mathlib.Core.Path.{_≡_, refl}
 use mathlib.Core.Bool.{true}
 use mathlib.Core.List.{List, [], _∷_}

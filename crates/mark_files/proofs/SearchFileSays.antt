@@ -145,7 +145,7 @@ module _ (file : List ℕ) (text : Word) (R T : List ℕ) (F : List Place) where
 
   -- ── What is found with a word's file ─────────────────────────────────────
 
-  -- every occurrence of the mirror of the file's word is counted, the first of them are listed, and the letters are the published steps' own
+  -- every occurrence of the mirror of the file's word is counted, the first of them are listed, and the letters are the steps' own
   pub file-searched : (w : Word) → leastSaved ≤ length w → length w ≤ longestWord → file ≡ spell w → length text ≤ longestText
       → length w ≤ length R
       → room (length w) ≤ length T
@@ -180,7 +180,8 @@ module _ (file : List ℕ) (text : Word) (R T : List ℕ) (F : List Place) where
 -- ── One outcome ────────────────────────────────────────────────────────────
 
 -- two outcomes that the promise of a search with a file allows are equal
-pub search-file-one : (file : List ℕ) (text : Word) (R T : List ℕ) (F : List Place) (r s : TallyAnswer) (A B C D : List ℕ) (G H : List Place)
+pub search-file-one : (file : List ℕ) (text : Word) (R T : List ℕ) (F : List Place)
+    (r s : TallyAnswer) (A B C D : List ℕ) (G H : List Place)
     → fileSearched r A C G ≡ searchFileSays file text R T F → fileSearched s B D H ≡ searchFileSays file text R T F
     → (r ≡ s) × (A ≡ B) × (C ≡ D) × (G ≡ H)
 search-file-one file text R T F r s A B C D G H e f =

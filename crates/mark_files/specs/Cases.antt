@@ -69,4 +69,5 @@ pub data SearchFileCase (file : List ℕ) (text : Word) (R T : List ℕ) (F : Li
 -- before the rooms were found large enough, nothing is changed; after it, the first m letters' part of both is zero
 pub data AfterRefusal (R T : List ℕ) : List ℕ → List ℕ → Type 0 where
   unchanged : AfterRefusal R T R T
-  zeroed : {m : ℕ} → m ≤ length R → room m ≤ length T → AfterRefusal R T (replicate m 0 ++ drop m R) (replicate (room m) 0 ++ drop (room m) T)
+  zeroed : {m : ℕ} → m ≤ length R → room m ≤ length T
+      → AfterRefusal R T (replicate m 0 ++ drop m R) (replicate (room m) 0 ++ drop (room m) T)

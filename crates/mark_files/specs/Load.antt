@@ -12,7 +12,7 @@ use mathlib.Core.List.{List, _++_}
 use Prim.Native.Nat.{ℕ, _+_}
 use lib.ListN.{length, drop, replicate}
 use lib.Dec.{ltb}
-use Rattle.words.specs.Words.{Word, part}
+use Rattle.words.specs.Words.{Word, Place, part}
 use Rattle.table.specs.Table.{room, tableOf}
 use Rattle.loaded.specs.Load.{Front, letters, stop, front, Verdict, right, wrong, verdict}
 use Rattle.answers.specs.declared.SizeAnswer.{SizeAnswer}
@@ -34,11 +34,16 @@ abbrev pub judged : Verdict → Word → Outcome
 judged right w = outcome (done (length w)) w (tableOf w)
 judged (wrong n i) w = outcome (refused n) (replicate (length w) 0) (replicate (room (length w)) 0)
 
+-- the m letters that stand in the file from place i on, with the arrows behind them
+abbrev pub judgedAt : List ℕ → Place → ℕ → Outcome
+judgedAt file i m =
+    let w = part file i m in
+    judged (verdict file (i + m) w) w
+
 abbrev pub lettersRead : Front → List ℕ → List ℕ → List ℕ → Outcome
 lettersRead (stop n i) file R T = outcome (refused n) R T
 lettersRead (letters m i) file R T =
-    let w = part file i m in
-    let o = judged (verdict file (i + m) w) w in
+    let o = judgedAt file i m in
     cond (ltb (length R) m || ltb (length T) (room m)) (outcome (refused shortRoom) R T)
     (outcome (o .answer) (o .word ++ drop m R) (o .tables ++ drop (room m) T))
 

@@ -3,10 +3,8 @@
 ghost use mathlib.Core.Path.{_≡_};
 ghost use Prim.Native.Nat.{_+_, _*_, _<_, _≤_};
 ghost use lib.ListN.{length, replicate};
-ghost use Rattle.words.specs.Words.{part};
-ghost use Rattle.loaded.specs.Load.{verdict};
 ghost use Rattle.mark_files.specs.Save.{savedAs, saveSays};
-ghost use Rattle.mark_files.specs.Load.{loadedAs, judged, loadSays};
+ghost use Rattle.mark_files.specs.Load.{loadedAs, judgedAt, loadSays};
 ghost use Rattle.mark_files.specs.SearchFile.{fileSearched, searchFileSays};
 use answers::Refusal;
 use answers::SizeAnswer;
@@ -54,7 +52,7 @@ fn take_word(file: &[u8], at: usize, room: &mut [u8], table: &mut [u16]) -> Size
     requires { do ⌜ (at + (← ⟦room.len()⟧) ≤ (← ⟦file.len()⟧)) × ((← ⟦table.len()⟧) ≡ 6 * ((← ⟦room.len()⟧) + 1)) ⌝ }
     requires { do ⌜ (1 ≤ (← ⟦room.len()⟧)) × ((← ⟦room.len()⟧) < 65535) ⌝ }
     ensures { λ r. ⌜ loadedAs r (now (room .exit)) (now (table .exit))
-        ≡ judged (verdict (now (file .entry)) (at + length (now (room .entry))) (part (now (file .entry)) at (length (now (room .entry))))) (part (now (file .entry)) at (length (now (room .entry)))) ⌝ }
+        ≡ judgedAt (now (file .entry)) at (length (now (room .entry))) ⌝ }
 {
     let m = room.len();
     let end = at + m;

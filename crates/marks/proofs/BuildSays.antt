@@ -74,7 +74,7 @@ module _ (word : Word) (T : List ℕ) where
 
   -- ── What it leaves ───────────────────────────────────────────────────────
 
-  -- a success: the word, the suffix rule's arrows and 001's supplies are read from the first 6(m+1) entries, and the others are as they were
+  -- a success: the word, the suffix rule's arrows and 001's supplies are read from the first 6(m+1) entries, and the others are kept
   pub record Left (L : List ℕ) : Type 0 where
     pub entries : take (room m) L ≡ tableOf word
     pub word-read : readWord m (take (room m) L) ≡ word

@@ -120,10 +120,14 @@ module _ (word text : Word) (T : List ℕ) (F : List Place) where
 
     -- the first 6(m+1) entries are the mirrored word's table, and the others are as they were
     pub entries-left : take (room m) (searchSays word text T F .tables) ≡ tableOf (mirror word)
-    entries-left = ap (λ o. take (room m) (o .tables)) is-counted ∙ take-at (tableOf (mirror word)) (drop (room m) T) (room m) (mirror-size word)
+    entries-left =
+        ap (λ o. take (room m) (o .tables)) is-counted
+        ∙ take-at (tableOf (mirror word)) (drop (room m) T) (room m) (mirror-size word)
 
     pub others-left : drop (room m) (searchSays word text T F .tables) ≡ drop (room m) T
-    others-left = ap (λ o. drop (room m) (o .tables)) is-counted ∙ drop-at (tableOf (mirror word)) (drop (room m) T) (room m) (mirror-size word)
+    others-left =
+        ap (λ o. drop (room m) (o .tables)) is-counted
+        ∙ drop-at (tableOf (mirror word)) (drop (room m) T) (room m) (mirror-size word)
 
   -- a refusal changes nothing
   pub refusal-leaves : {n : ℕ} → searchSays word text T F .answer ≡ refused n

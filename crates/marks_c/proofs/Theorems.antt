@@ -1,5 +1,5 @@
--- THE THEOREMS on calls from C: a call's promise allows one outcome, and its result is 0 exactly if the entry is done. The second rests on the
--- numbers that each entry may refuse with, none of which is 0.
+-- THE THEOREMS on calls from C: a call's promise allows one outcome, and its result is 0 exactly if the entry is done. The second rests on
+-- the numbers that each entry may refuse with, none of which is 0.
 use mathlib.Core.Path.{_≡_, refl, sym, _∙_}
 use mathlib.Core.Bool.{Bool, true, false}
 use mathlib.Core.Logic.{_↔_}

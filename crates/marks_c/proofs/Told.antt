@@ -25,4 +25,5 @@ size-refused {why = why} {v = v} e q = rw e (q ∙ refusal-number ℕ why, refus
 
 pub tally-refused : {answer : TallyAnswer} {why : Refusal} {n v w : ℕ} → answer ≡ TallyRefused why → n ≡ numberOf why
     → (n ≡ resultOf (tallyAnswer answer)) × (v ≡ countGiven v (tallyAnswer answer)) × (w ≡ lettersGiven w (tallyAnswer answer))
-tally-refused {why = why} {v = v} {w = w} e q = rw e (q ∙ refusal-number Tally why, refusal-gives v (λ t. t .count) why, refusal-gives w (λ t. t .letters) why)
+tally-refused {why = why} {v = v} {w = w} e q =
+    rw e (q ∙ refusal-number Tally why, refusal-gives v (λ t. t .count) why, refusal-gives w (λ t. t .letters) why)

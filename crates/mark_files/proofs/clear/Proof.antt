@@ -7,8 +7,6 @@ use Rattle.table.proofs.Rows.{zeros-at}
 use Rattle.table.proofs.Copying.{Copied, copy-start, copy-step, copy-end}
 use Rattle.mark_files.proofs.clear.Statement.{statement}
 use Rattle.mark_files.proofs.clear.Tie as tie
-use Rattle.mark_files.proofs.clear.Reads as reads
-use Rattle.mark_files.proofs.clear.Lts as lts
 
 abbrev Inv-loop : tie.InvT-loop
 Inv-loop letters₀ i₀ letters i = Copied letters₀ (replicate (length letters₀) 0) letters i
@@ -18,15 +16,6 @@ abbrev μ-loop : tie.MeasureT-loop
 
 loop-holds : tie.Need-loop-holds Inv-loop μ-loop
 loop-holds c = copy-start _ _
-
-slice-write-letters : tie.Need-slice-write-letters Inv-loop μ-loop
-slice-write-letters c = search needs
-
-add-i : tie.Need-add-i Inv-loop μ-loop
-add-i c = search needs
-
-loop-less : tie.Need-loop-less Inv-loop μ-loop
-loop-less c = search needs
 
 loop-again : tie.Need-loop-again Inv-loop μ-loop
 loop-again c =
@@ -47,13 +36,4 @@ returns c =
 pub clear-spec : {M : Type 1} → statement M
 clear-spec =
     tie.close
-    (tie.spec
-    Inv-loop
-    μ-loop
-    loop-holds
-    slice-write-letters
-    add-i
-    loop-less
-    loop-again
-    same-length
-    returns)
+    (tie.spec Inv-loop μ-loop loop-holds (λ c. search needs) (λ c. search needs) (λ c. search needs) loop-again same-length returns)

@@ -1,3 +1,5 @@
+-- 4 first, then what loading said decides: a refusal is handed on, and after a success the word and its table stand in the rooms
+-- (`told-stands`), which are lent to the scan.
 use mathlib.Core.Path.{sym}
 use native.Mathlib.Omega.{arith}
 use lib.Seq.{length-take-le}
@@ -7,24 +9,9 @@ use Rattle.mark_files.proofs.SearchFileSays.{says-long-text, says-refus
 use borrow.Author.Needs.{needs}
 use Rattle.mark_files.proofs.search_file.Statement.{statement}
 use Rattle.mark_files.proofs.search_file.Tie as tie
-use Rattle.mark_files.proofs.search_file.Reads as reads
-use Rattle.mark_files.proofs.search_file.Lts as lts
-use Rattle.mark_files.proofs.load.Reads as load-reads
-use Rattle.search.proofs.scan.Reads as scan-reads
 
 returns : tie.Need-returns
-returns c =
-    let at-start = c .before .before .before .before .before .before in
-    sym (says-long-text _ _ _ _ _ (omega (arith, text-limit, c .if1 .taken)))
-
-load-requires : tie.Need-load-requires
-load-requires c κs = search needs
-
-enum-known-said : tie.Need-enum-known-said
-enum-known-said c = search needs
-
-enum-known-said-2 : tie.Need-enum-known-said-2
-enum-known-said-2 c = search needs
+returns c = sym (says-long-text _ _ _ _ _ (omega (arith, text-limit, c .if1 .taken)))
 
 add-need : tie.Need-add-need
 add-need c =
@@ -71,28 +58,12 @@ scan-requires c κs =
     let stands = told-stands _ _ _ (at-load .load .ensures) (at-said .said2 .given .1) in
     lent-sized text stands (omega (arith, text-limit, at-if1 .if1 .left))
 
-same-length : tie.Need-same-length
-same-length c = search needs
-
-same-length-2 : tie.Need-same-length-2
-same-length-2 c = search needs
-
 returns-2 : tie.Need-returns-2
 returns-2 c =
     let at-said = c .before in
     let at-load = at-said .before .before .before .before .before .before in
     let at-if1 = at-load .before .before .before in
-    let at-start = at-if1 .before .before .before .before .before .before in
     says-refused _ _ _ _ _ (omega (arith, text-limit, at-if1 .if1 .left)) _ (at-load .load .ensures) _ (at-said .said .given .1)
-
-same-length-3 : tie.Need-same-length-3
-same-length-3 c = search needs
-
-same-length-4 : tie.Need-same-length-4
-same-length-4 c = search needs
-
-same-length-5 : tie.Need-same-length-5
-same-length-5 c = search needs
 
 returns-3 : tie.Need-returns-3
 returns-3 c =
@@ -100,28 +71,13 @@ returns-3 c =
     let at-said2 = at-scan .before .before .before .before .before in
     let at-load = at-said2 .before .before .before .before .before .before in
     let at-if1 = at-load .before .before .before in
-    let at-start = at-if1 .before .before .before .before .before .before in
-    scan-counts _ _ _ _ _ (omega (arith, text-limit, at-if1 .if1 .left)) (at-load .load .result) (at-load .load .ensures) (at-said2 .said2 .given .1) (at-scan .scan .ensures .0) (at-scan .scan .ensures .1)
+    let short = at-if1 .if1 .left in
+    let scanned = at-scan .scan .ensures in
+    scan-counts _ _ _ _ _ (omega (arith, text-limit, short)) _ (at-load .load .ensures) (at-said2 .said2 .given .1) (scanned .0) (scanned .1)
 
 pub search-file-spec : {M : Type 1} → statement M
 search-file-spec =
     tie.close
-    (tie.spec
-    returns
-    load-requires
-    enum-known-said
-    enum-known-said-2
-    add-need
-    mul-need
-    slice-reshare-prefix-scan
-    slice-aggregate-scan
-    slice-reshare-prefix-scan-2
-    slice-aggregate-scan-2
-    scan-requires
-    same-length
-    same-length-2
-    returns-2
-    same-length-3
-    same-length-4
-    same-length-5
-    returns-3)
+    (tie.spec returns (λ c κs. search needs) (λ c. search needs) (λ c. search needs) add-need mul-need slice-reshare-prefix-scan
+    slice-aggregate-scan slice-reshare-prefix-scan-2 slice-aggregate-scan-2 scan-requires (λ c. search needs) (λ c. search needs)
+    returns-2 (λ c. search needs) (λ c. search needs) (λ c. search needs) returns-3)

@@ -1,9 +1,10 @@
--- Each return is a case of `searchSays`: the tests on the way there are the case's premises. Behind them the room's part is lent, filled with
--- the mirrored word's table, and lent again to the scan, whose steps over it are the published ones (`scan-counts`).
+-- Each return is a case of `searchSays`: the tests on the way there are the case's premises. Behind them the room's part is lent, filled
+-- with the mirrored word's table, and lent again to the scan, whose steps over it are the published ones (`scan-counts`).
 use mathlib.Core.Path.{sym, _∙_}
 use lib.Seq.{length-take-le}
 use Rattle.words.proofs.Limits.{word-limit, text-limit}
-use Rattle.marks.proofs.SearchSays.{says-empty, says-long, says-long-text, says-short, says-done, lent-size, lent-formed, scan-counts}
+use Rattle.marks.proofs.SearchSays.{says-empty, says-long, says-long-text, says-short, says-done}
+use Rattle.marks.proofs.SearchSays.{lent-size, lent-formed, scan-counts}
 use native.Mathlib.Omega.{arith}
 use borrow.Author.Needs.{needs}
 use Rattle.marks.proofs.search.Statement.{statement}
@@ -21,22 +22,14 @@ returns-3 c =
     let most = at-if2 .if2 .left in
     sym (says-long-text _ _ _ _ (at-if2 .before .if1 .left) (omega (arith, word-limit, most)) (omega (arith, text-limit, c .if3 .taken)))
 
-add-need : tie.Need-add-need
-add-need c = search needs
-
-mul-need : tie.Need-mul-need
-mul-need c = search needs
-
 returns-4 : tie.Need-returns-4
 returns-4 c =
     let at-if3 = c .before in
     let at-if2 = at-if3 .before in
+    let least = at-if2 .before .if1 .left in
     let most = at-if2 .if2 .left in
     let short = at-if3 .if3 .left in
-    sym (says-short _ _ _ _ (at-if2 .before .if1 .left) (omega (arith, word-limit, most)) (omega (arith, text-limit, short)) (c .if4 .taken))
-
-slice-relend-prefix-fill-mirror : tie.Need-slice-relend-prefix-fill-mirror
-slice-relend-prefix-fill-mirror c = search needs
+    sym (says-short _ _ _ _ least (omega (arith, word-limit, most)) (omega (arith, text-limit, short)) (c .if4 .taken))
 
 slice-aggregate-fill-mirror : tie.Need-slice-aggregate-fill-mirror
 slice-aggregate-fill-mirror c = sym (length-take-le _ _ (c .before .if4 .left))
@@ -45,9 +38,6 @@ fill-mirror-requires : tie.Need-fill-mirror-requires
 fill-mirror-requires c κs =
     let at-if4 = c .before in
     (omega (arith, at-if4 .before .before .if2 .left), length-take-le _ _ (at-if4 .if4 .left))
-
-slice-reshare-prefix-scan : tie.Need-slice-reshare-prefix-scan
-slice-reshare-prefix-scan c = search needs
 
 slice-aggregate-scan : tie.Need-slice-aggregate-scan
 slice-aggregate-scan c =
@@ -66,12 +56,6 @@ scan-requires c κs =
     let few = at-if2 .if2 .left in
     ((at-if2 .before .if1 .left, omega (arith, at-if3 .if3 .left)), lent-formed word _ (at-fill .fill-mirror .ensures) (omega (arith, few)))
 
-same-length : tie.Need-same-length
-same-length c = search needs
-
-same-length-2 : tie.Need-same-length-2
-same-length-2 c = search needs
-
 returns-5 : tie.Need-returns-5
 returns-5 c =
     let at-scan = c .before .before in
@@ -89,19 +73,6 @@ returns-5 c =
 pub search-spec : {M : Type 1} → statement M
 search-spec =
     tie.close
-    (tie.spec
-    returns
-    returns-2
-    returns-3
-    add-need
-    mul-need
-    returns-4
-    slice-relend-prefix-fill-mirror
-    slice-aggregate-fill-mirror
-    fill-mirror-requires
-    slice-reshare-prefix-scan
-    slice-aggregate-scan
-    scan-requires
-    same-length
-    same-length-2
-    returns-5)
+    (tie.spec returns returns-2 returns-3 (λ c. search needs) (λ c. search needs) returns-4 (λ c. search needs)
+    slice-aggregate-fill-mirror fill-mirror-requires (λ c. search needs) slice-aggregate-scan scan-requires (λ c. search needs)
+    (λ c. search needs) returns-5)
