@@ -2,11 +2,15 @@
 -- the oracle of the mirrored word from state 0.
 --
 --   Reading              where a window's reading failed, if it did, and the letters it read
---   failsAt, oneMore     how its letters are counted: each letter read counts one, the failing one too
+--   readAll              no letter is left
+--   failsAt f            the letter at f fails; it counts as read
+--   oneMore r            one letter is read, and then the others as r says
 --   readDown δ t s k x   reads the letters at s + k - 1 down to s, from state x
 --   afterFind w          how far the window moves after an occurrence of w
 --   nextWindow w s f     where the window goes from s, f the place of the failing letter if there is one
 --   Sweep                the starts of the occurrences, rising, and all letters read
+--   nothing              the sweep of no window
+--   listed s f l         the starts l with s before them, where f says that no letter failed
 --   windows δ w t k s    the windows from s on; k bounds how many there are
 --   steps δ w t          all windows, with the arrows δ
 --   backward w t         the search: with the oracle of the mirrored word
@@ -26,7 +30,6 @@ pub record Reading : Type 0 where
   pub failed : Option Place
   pub letters : ℕ
 
--- no letter is left; the first letter fails; the first letter is read, and then the others as r says
 abbrev pub readAll : Reading
 readAll = record { failed = none; letters = 0 }
 
@@ -54,7 +57,6 @@ pub record Sweep : Type 0 where
 abbrev pub nothing : Sweep
 nothing = record { starts = []; letters = 0 }
 
--- s is an occurrence where no letter failed
 abbrev pub listed : Place → Option Place → List Place → List Place
 listed s none l = s ∷ l
 listed s (some f) l = l
