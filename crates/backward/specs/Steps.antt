@@ -6,6 +6,7 @@
 --   failsAt f            the letter at f fails; it counts as read
 --   oneMore r            one letter is read, and then the others as r says
 --   readDown δ t s k x   reads the letters at s + k - 1 down to s, from state x
+--   readWindow δ w t s   reads the window of w's length that starts at s, from state 0
 --   afterFind w          how far the window moves after an occurrence of w
 --   nextWindow w s f     where the window goes from s, f the place of the failing letter if there is one
 --   Sweep                the starts of the occurrences, rising, and all letters read
@@ -43,6 +44,9 @@ unfoldable pub readDown : Delta → Word → Place → ℕ → State → Reading
 readDown δ t s zero x = readAll
 readDown δ t s (suc k) x = elim (δ x (letter t (s + k))) [ none ↦ failsAt (s + k) | some y ↦ oneMore (readDown δ t s k y) ]
 
+abbrev pub readWindow : Delta → Word → Word → Place → Reading
+readWindow δ w t s = readDown δ t s (length w) 0
+
 unfoldable pub afterFind : Word → ℕ
 afterFind w = 1
 
@@ -64,10 +68,9 @@ listed s (some f) l = l
 unfoldable pub windows : Delta → Word → Word → ℕ → Place → Sweep
 windows δ w t zero s = nothing
 windows δ w t (suc k) s =
-    let m = length w in
-    let r = readDown δ t s m 0 in
+    let r = readWindow δ w t s in
     let later = windows δ w t k (nextWindow w s (r .failed)) in
-    cond (leb (s + m) (length t)) (record { starts = listed s (r .failed) (later .starts); letters = r .letters + later .letters }) nothing
+    cond (leb (s + length w) (length t)) (record { starts = listed s (r .failed) (later .starts); letters = r .letters + later .letters }) nothing
 
 -- every window starts at another of the places 0 to n, so n + 1 bounds them
 unfoldable pub steps : Delta → Word → Word → Sweep
