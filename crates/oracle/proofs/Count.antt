@@ -10,7 +10,6 @@ use native.Mathlib.Nat.{le-refl, le-trans}
 use native.Mathlib.Omega.{arith}
 use lib.ListN.{length, length-append, length-map, drop}
 use lib.Dec.{eqb}
-use Rattle.words.specs.Lists.{from}
 use Rattle.words.specs.Words.{Letter, Word, letter}
 use Rattle.words.proofs.Lists.{test-cases, from-length}
 use Rattle.oracle.specs.Arrows.{State, Delta, target, spine}
@@ -26,7 +25,7 @@ use Rattle.oracle.proofs.LetterRule.{supplies, path-agree, built-sound,
 
 pub spine-length : (p : Word) → length (spine p) ≡ length p
 unfolding spine
-spine-length p = length-map (from 0 (length p)) _ ∙ from-length 0 (length p)
+spine-length p = simp (length-map, from-length)
 
 mend-length : (p : Word) (h : Halt) → length (mend p h) ≤ 1
 unfolding mend
