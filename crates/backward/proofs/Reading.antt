@@ -8,9 +8,10 @@ use native.Mathlib.Nat.{le-refl, add-zero}
 use native.Mathlib.Omega.{arith}
 use lib.ListN.{length}
 use Rattle.words.specs.Words.{Word, Place, letter, part, mirror}
+use Rattle.words.proofs.Lists.{option-cases}
 use Rattle.words.proofs.Words.{mirror-snoc}
 use Rattle.oracle.specs.Arrows.{State, Delta, walk}
-use Rattle.oracle.proofs.Targets.{never, option-cases}
+use Rattle.oracle.proofs.Targets.{never}
 use Rattle.backward.specs.Steps.{Reading, readAll, failsAt, oneMore, readDown}
 
 -- ── Walks of mirrors ───────────────────────────────────────────────────────

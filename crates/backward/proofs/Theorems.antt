@@ -14,7 +14,7 @@ use Rattle.words.proofs.Occurrences.{occurrence-stands, standing-occurs, occurr
 use Rattle.oracle.specs.SuffixRule.{oracle}
 use Rattle.oracle.proofs.Walks.{factor-walk}
 use Rattle.oracle.proofs.Theorems.{oracle-supplied, only-walk}
-use Rattle.backward.specs.Steps.{readDown, nothing, backward}
+use Rattle.backward.specs.Steps.{readWindow, nothing, backward}
 use Rattle.backward.proofs.Reading.{failed-place, whole-letters}
 use Rattle.backward.proofs.Windows.{Walker, failed-loses-none, steps-letters-most, steps-short, steps-list}
 
@@ -43,18 +43,18 @@ module _ (w t : Word) where
   -- ── One window ───────────────────────────────────────────────────────────
 
   -- a window that fails at f loses no occurrence: none starts from its start up to f
-  pub window-loses-none : (s f : Place) → s + length w ≤ length t → readDown (oracle (mirror w)) t s (length w) 0 .failed ≡ some f
+  pub window-loses-none : (s f : Place) → s + length w ≤ length t → readWindow (oracle (mirror w)) w t s .failed ≡ some f
       → (j : Place) → s ≤ j → j ≤ f → stands w t j ≡ true → ⊥
   window-loses-none s f h e = failed-loses-none oracle-walker t s h f e
 
   -- it reads the letters from f to its end, f's own counted
-  pub window-letters : (s f : Place) → readDown (oracle (mirror w)) t s (length w) 0 .failed ≡ some f
-      → readDown (oracle (mirror w)) t s (length w) 0 .letters ≡ s + length w - f
+  pub window-letters : (s f : Place) → readWindow (oracle (mirror w)) w t s .failed ≡ some f
+      → readWindow (oracle (mirror w)) w t s .letters ≡ s + length w - f
   window-letters s f e = let r = failed-place (oracle (mirror w)) t s (length w) 0 f e in omega (arith, r .counted)
 
   -- and all of its letters if none fails
-  pub find-letters : (s : Place) → readDown (oracle (mirror w)) t s (length w) 0 .failed ≡ none
-      → readDown (oracle (mirror w)) t s (length w) 0 .letters ≡ length w
+  pub find-letters : (s : Place) → readWindow (oracle (mirror w)) w t s .failed ≡ none
+      → readWindow (oracle (mirror w)) w t s .letters ≡ length w
   find-letters s e = whole-letters (oracle (mirror w)) t s (length w) 0 e
 
   -- ── The letters read ─────────────────────────────────────────────────────

@@ -13,11 +13,12 @@ use native.Mathlib.Omega.{arith}
 use lib.ListN.{length, length-reverse}
 use borrow.Author.Tests.{le-leb, lt-leb}
 use Rattle.words.specs.Words.{Letter, Word, Place, part, mirror, stands, occurrences}
+use Rattle.words.proofs.Lists.{option-cases}
 use Rattle.words.proofs.Words.{part-length, part-of-part, mirror-injective, mirror-part}
 use Rattle.words.proofs.Occurrences.{stands-part, part-stands, stands-inside, since, since-start, since-past, since-here, since-later}
 use Rattle.oracle.specs.Arrows.{State, Delta, walk}
 use Rattle.oracle.proofs.Targets.{never}
-use Rattle.backward.specs.Steps.{Sweep, nothing, listed, readDown, afterFind, nextWindow, windows, steps}
+use Rattle.backward.specs.Steps.{Sweep, nothing, listed, readWindow, afterFind, nextWindow, windows, steps}
 use Rattle.backward.proofs.Reading.{FailedAt, failed-place, reading-letters-most, whole-walked, failed-walk}
 use Rattle.backward.proofs.AfterFind.{after-moves, after-safe, after-mirror}
 
@@ -30,11 +31,11 @@ pub record Walker (w : Word) (δ : Delta) : Type 0 where
 
 module _ {w : Word} {δ : Delta} (W : Walker w δ) (t : Word) (s : Place) (inside : s + length w ≤ length t) where
   -- the word stands nowhere from a window's start to its failing letter
-  pub failed-loses-none : (f : Place) → readDown δ t s (length w) 0 .failed ≡ some f
+  pub failed-loses-none : (f : Place) → readWindow δ w t s .failed ≡ some f
       → (j : Place) → s ≤ j → j ≤ f → stands w t j ≡ true → ⊥
   failed-loses-none f e j l h g = never (rw same at read) (walked .1)
     where
-      place : FailedAt s (length w) f (readDown δ t s (length w) 0 .letters)
+      place : FailedAt s (length w) f (readWindow δ w t s .letters)
       place = failed-place δ t s (length w) 0 f e
 
       n : ℕ
@@ -56,7 +57,7 @@ module _ {w : Word} {δ : Delta} (W : Walker w δ) (t : Word) (s : Place) (insid
       walked = rw (mirror-part w (f - j) n (j - s) (omega (arith, place))) (W .factor (j - s) n (omega (arith, place)))
 
   -- the word stands where a window is read without failing
-  pub whole-stands : readDown δ t s (length w) 0 .failed ≡ none → stands w t s ≡ true
+  pub whole-stands : readWindow δ w t s .failed ≡ none → stands w t s ≡ true
   whole-stands e =
       let v = part t s (length w) in
       let r = whole-walked δ t s (length w) 0 inside e in
@@ -68,21 +69,19 @@ module _ {w : Word} {δ : Delta} (W : Walker w δ) (t : Word) (s : Place) (insid
 module _ (δ : Delta) (w t : Word) where
   -- where the window behind the one at s starts
   abbrev pub next : Place → Place
-  next s = nextWindow w s (readDown δ t s (length w) 0 .failed)
+  next s = nextWindow w s (readWindow δ w t s .failed)
 
   -- what the later windows say, with what the one at s adds
   abbrev pub with-window : Place → Sweep → Sweep
   with-window s later =
-      let r = readDown δ t s (length w) 0 in
+      let r = readWindow δ w t s in
       record { starts = listed s (r .failed) (later .starts); letters = r .letters + later .letters }
 
   -- every window starts behind the one before
   pub next-moves : (s : Place) → s < next s
-  next-moves s = by (readDown δ t s (length w) 0 .failed) refl
-    where
-      by : (o : Option Place) → readDown δ t s (length w) 0 .failed ≡ o → s < nextWindow w s o
-      by none e = omega (arith, after-moves w)
-      by (some f) e = let p = failed-place δ t s (length w) 0 f e in omega arith
+  next-moves s = option-cases (readWindow δ w t s .failed)
+      (λ e. rw e (omega (arith, after-moves w)))
+      (λ f e. let p = failed-place δ t s (length w) 0 f e in rw e (omega arith))
 
   -- a window that ends behind the text is none
   pub windows-past : (k : ℕ) (s : Place) → length t < s + length w → windows δ w t k s ≡ nothing
@@ -156,10 +155,10 @@ module _ {w : Word} {δ : Delta} (W : Walker w δ) (t : Word) where
   windows-list : (k : ℕ) (s : Place) → length t < k + s → windows δ w t k s .starts ≡ since w t s
   windows-list = windows-induction δ w t (λ s r. r .starts ≡ since w t s)
       (λ s h. sym (since-past w t s h))
-      (λ s later l. one s l (readDown δ t s (length w) 0 .failed) refl (later .starts))
+      (λ s later l. one s l (readWindow δ w t s .failed) refl (later .starts))
     where
       one
-          : (s : Place) → s + length w ≤ length t → (o : Option Place) → readDown δ t s (length w) 0 .failed ≡ o
+          : (s : Place) → s + length w ≤ length t → (o : Option Place) → readWindow δ w t s .failed ≡ o
           → (later : List Place) → later ≡ since w t (nextWindow w s o) → listed s o later ≡ since w t s
       one s l (some f) e later rec =
           let place = failed-place δ t s (length w) 0 f e in
@@ -193,5 +192,5 @@ steps-mirror δ w t = go (suc (length t)) 0
     go : (k : ℕ) (s : Place) → windows δ w t k s ≡ windows δ (mirror w) t k s
     go zero s = refl
     go (suc k) s =
-        let o = readDown δ t s (length w) 0 .failed in
+        let o = readWindow δ w t s .failed in
         rw (length-reverse w, next-same s o, go k (nextWindow (mirror w) s o))

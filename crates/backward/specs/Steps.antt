@@ -2,11 +2,16 @@
 -- the oracle of the mirrored word from state 0.
 --
 --   Reading              where a window's reading failed, if it did, and the letters it read
---   failsAt, oneMore     how its letters are counted: each letter read counts one, the failing one too
+--   readAll              no letter is left
+--   failsAt f            the letter at f fails; it counts as read
+--   oneMore r            one letter is read, and then the others as r says
 --   readDown δ t s k x   reads the letters at s + k - 1 down to s, from state x
+--   readWindow δ w t s   reads the window of w's length that starts at s, from state 0
 --   afterFind w          how far the window moves after an occurrence of w
 --   nextWindow w s f     where the window goes from s, f the place of the failing letter if there is one
 --   Sweep                the starts of the occurrences, rising, and all letters read
+--   nothing              the sweep of no window
+--   listed s f l         the starts l with s before them, where f says that no letter failed
 --   windows δ w t k s    the windows from s on; k bounds how many there are
 --   steps δ w t          all windows, with the arrows δ
 --   backward w t         the search: with the oracle of the mirrored word
@@ -26,7 +31,6 @@ pub record Reading : Type 0 where
   pub failed : Option Place
   pub letters : ℕ
 
--- no letter is left; the first letter fails; the first letter is read, and then the others as r says
 abbrev pub readAll : Reading
 readAll = record { failed = none; letters = 0 }
 
@@ -39,6 +43,9 @@ oneMore r = record { failed = r .failed; letters = suc (r .letters) }
 unfoldable pub readDown : Delta → Word → Place → ℕ → State → Reading
 readDown δ t s zero x = readAll
 readDown δ t s (suc k) x = elim (δ x (letter t (s + k))) [ none ↦ failsAt (s + k) | some y ↦ oneMore (readDown δ t s k y) ]
+
+abbrev pub readWindow : Delta → Word → Word → Place → Reading
+readWindow δ w t s = readDown δ t s (length w) 0
 
 unfoldable pub afterFind : Word → ℕ
 afterFind w = 1
@@ -54,7 +61,6 @@ pub record Sweep : Type 0 where
 abbrev pub nothing : Sweep
 nothing = record { starts = []; letters = 0 }
 
--- s is an occurrence where no letter failed
 abbrev pub listed : Place → Option Place → List Place → List Place
 listed s none l = s ∷ l
 listed s (some f) l = l
@@ -62,10 +68,9 @@ listed s (some f) l = l
 unfoldable pub windows : Delta → Word → Word → ℕ → Place → Sweep
 windows δ w t zero s = nothing
 windows δ w t (suc k) s =
-    let m = length w in
-    let r = readDown δ t s m 0 in
+    let r = readWindow δ w t s in
     let later = windows δ w t k (nextWindow w s (r .failed)) in
-    cond (leb (s + m) (length t)) (record { starts = listed s (r .failed) (later .starts); letters = r .letters + later .letters }) nothing
+    cond (leb (s + length w) (length t)) (record { starts = listed s (r .failed) (later .starts); letters = r .letters + later .letters }) nothing
 
 -- every window starts at another of the places 0 to n, so n + 1 bounds them
 unfoldable pub steps : Delta → Word → Word → Sweep

@@ -8,8 +8,8 @@ use Prim.Native.Nat.{ℕ, zero, suc, _-_, _≤_, _<_}
 use native.Mathlib.Decide.{decLt}
 use native.Mathlib.Omega.{arith}
 use Rattle.words.specs.Words.{Letter}
+use Rattle.words.proofs.Lists.{none-where}
 use Rattle.oracle.specs.Arrows.{State, Delta}
-use Rattle.oracle.proofs.Targets.{none-where}
 
 -- y stands on the chain x, S x, S (S x), ..
 pub data On (S : State → State) (y : State) : State → Type 0 where

@@ -1,7 +1,7 @@
 -- HOW MANY ARROWS. The suffix rule adds one at most for each suffix. The letter-by-letter rule keeps, at every moment, its arrows and the
 -- length of its last state's suffix path within twice its letters: a step along the path pays for the arrow that it adds. This is what
 -- leaves a slot free while a table is built.
-use mathlib.Core.Path.{_≡_, refl, sym, ap, _∙_}
+use mathlib.Core.Path.{_≡_, refl, sym, _∙_}
 use mathlib.Core.Logic.{⊎-elim}
 use mathlib.Core.Option.{some}
 use mathlib.Core.List.{List, [], _∷_, _++_}
@@ -10,14 +10,12 @@ use native.Mathlib.Nat.{le-refl, le-trans}
 use native.Mathlib.Omega.{arith}
 use lib.ListN.{length, length-append, length-map, drop}
 use lib.Dec.{eqb}
-use Rattle.words.specs.Lists.{from}
-use Rattle.words.specs.Words.{Letter, Word, letter}
+use Rattle.words.specs.Words.{Letter, Word}
 use Rattle.words.proofs.Lists.{test-cases, from-length}
 use Rattle.oracle.specs.Arrows.{State, Delta, target, spine}
 use Rattle.oracle.specs.SuffixRule.{Halt, far, mend, missing, extrasAfter, extraArrows}
 use Rattle.oracle.specs.SuffixPath.{SuffixPath, ended, falls}
 use Rattle.oracle.specs.LetterRule.{addLetter, builtUpTo, sourcesOf}
-use Rattle.oracle.proofs.Targets.{into}
 use Rattle.oracle.proofs.Chain.{Supplied, supply-below}
 use Rattle.oracle.proofs.Grow.{Climb, stop, out, go, climb-below}
 use Rattle.oracle.proofs.LetterRule.{supplies, path-agree, built-sound, letter-climb, supply-kept, supply-new}
@@ -26,7 +24,7 @@ use Rattle.oracle.proofs.LetterRule.{supplies, path-agree, built-sound,
 
 pub spine-length : (p : Word) → length (spine p) ≡ length p
 unfolding spine
-spine-length p = length-map (from 0 (length p)) _ ∙ from-length 0 (length p)
+spine-length p = simp (length-map, from-length)
 
 mend-length : (p : Word) (h : Halt) → length (mend p h) ≤ 1
 unfolding mend
@@ -101,9 +99,7 @@ module _ (p : Word) where
 
   pub arrows-added : (t : ℕ) → arrowsAt (suc t) ≡ suc (length (sourcesOf p t)) + arrowsAt t
   unfolding builtUpTo addLetter sourcesOf
-  arrows-added t =
-      length-append (into (letter p t) (suc t) (t ∷ sourcesOf p t)) (builtUpTo p t .arrows)
-      ∙ ap (λ n. n + arrowsAt t) (length-map (t ∷ sourcesOf p t) _)
+  arrows-added t = simp (length-append, length-map)
 
   pub arrows-many : (t : ℕ) → t ≤ arrowsAt t
   unfolding builtUpTo

@@ -10,8 +10,9 @@ use native.Mathlib.Nat.{le-refl}
 use native.Mathlib.Decide.{decLt}
 use native.Mathlib.Omega.{arith}
 use Rattle.words.specs.Words.{Letter}
+use Rattle.words.proofs.Lists.{none-where}
 use Rattle.oracle.specs.Arrows.{State, Delta}
-use Rattle.oracle.proofs.Targets.{never, none-where}
+use Rattle.oracle.proofs.Targets.{never}
 use Rattle.oracle.proofs.Chain.{On, here, next, Into, Supplied, supply-below, on-below, arrow-up}
 
 -- ── The climb ──────────────────────────────────────────────────────────────

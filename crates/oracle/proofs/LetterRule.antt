@@ -12,10 +12,11 @@ use native.Mathlib.Omega.{arith}
 use lib.ListN.{length, length-append, List·getD-append}
 use lib.Seq.{getD-at}
 use Rattle.words.specs.Words.{Letter, Word, letter}
+use Rattle.words.proofs.Lists.{option-cases}
 use Rattle.oracle.specs.Arrows.{State, Arrow, Delta, target, OneEach}
 use Rattle.oracle.specs.SuffixPath.{SuffixPath, ended, falls}
 use Rattle.oracle.specs.LetterRule.{Automaton, pathOf, supplyMade, NewState, climb, addLetter, builtUpTo}
-use Rattle.oracle.proofs.Targets.{never, option-cases, into, target-new, target-old}
+use Rattle.oracle.proofs.Targets.{never, into, target-new, target-old}
 use Rattle.oracle.proofs.Chain.{Supplied, supply-below, on-below, arrow-up}
 use Rattle.oracle.proofs.Grow.{Climb, stop, out, go, source-on, last-free, climb-below, arrow-stays, arrow-was, grown}
 

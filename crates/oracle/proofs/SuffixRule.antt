@@ -22,9 +22,10 @@ use lib.Seq.{drop-cons}
 use borrow.Author.Tests.{eq-eqb, ne-eqb}
 use Rattle.words.specs.Lists.{from}
 use Rattle.words.specs.Words.{Letter, Word, letter}
+use Rattle.words.proofs.Lists.{option-cases, none-where}
 use Rattle.oracle.specs.Arrows.{State, Arrow, arrow, Delta, target, spine, OneEach}
 use Rattle.oracle.specs.SuffixRule.{Halt, far, mend, missing, extrasAfter, extraArrows, suffixRule, oracle}
-use Rattle.oracle.proofs.Targets.{never, none-where, option-cases, target-hit, target-skip, target-pass}
+use Rattle.oracle.proofs.Targets.{never, target-hit, target-skip, target-pass}
 use Rattle.oracle.proofs.Chain.{Supplied}
 use Rattle.oracle.proofs.Reach.{reach, reach-0, reach-next, reach-arrow, reach-spine, stays-on-spine, chain-reached}
 use Rattle.oracle.proofs.Reach.{lacking-leads-to-spine}
@@ -82,8 +83,8 @@ module _ (p : Word) {δ : Delta} {S : State → State} (O : Supplied (length p) 
   abbrev Uses : Delta → ℕ → ℕ → Type 0
   Uses B j n = B (to j n) (w (j + n)) ≡ some (to j (suc n))
 
-  -- B is a part of δ, and has what the suffixes before i use
-  record Part (B : Delta) (i : ℕ) : Type 0 where
+  -- B is a part of δ, and has the arrows that the suffixes before i use
+  record Covers (B : Delta) (i : ℕ) : Type 0 where
     within : (x : State) (c : Letter) (y : State) → B x c ≡ some y → δ x c ≡ some y
     has : (j n : ℕ) → j < i → j + n < m → Uses B j n
 
@@ -124,16 +125,16 @@ module _ (p : Word) {δ : Delta} {S : State → State} (O : Supplied (length p) 
       more u n h = by-cases (ℕ-discrete n len) (λ g. rw g u) (λ g. f n (omega arith))
 
   -- nothing is lacking
-  whole : (B : Delta) (i : ℕ) → Part B i → ((n : ℕ) → i + n < m → Uses B i n) → Part B (suc i)
+  whole : (B : Delta) (i : ℕ) → Covers B i → ((n : ℕ) → i + n < m → Uses B i n) → Covers B (suc i)
   whole B i P f = record { within = P .within; has = has }
     where
       has : (j n : ℕ) → j < suc i → j + n < m → Uses B j n
       has j n h l = by-cases (decLt j i) (λ b. P .has j n b l) (λ b. let e : j ≡ i = omega arith in rw e (f n (omega arith)))
 
   -- the lacking arrow is added
-  mended : (A : List Arrow) (i len : ℕ) → 0 < i → Part (target A) i → i + len < m → ((n : ℕ) → n < len → Uses (target A) i n)
+  mended : (A : List Arrow) (i len : ℕ) → 0 < i → Covers (target A) i → i + len < m → ((n : ℕ) → n < len → Uses (target A) i n)
       → target A (to i len) (w (i + len)) ≡ none
-      → Part (target (arrow (to i len) (w (i + len)) (suc (i + len)) ∷ A)) (suc i)
+      → Covers (target (arrow (to i len) (w (i + len)) (suc (i + len)) ∷ A)) (suc i)
   mended A i len pos P inside followed lacks = whole B i (record { within = within; has = λ j n h l. stays _ _ _ (P .has j n h l) }) uses
     where
       B : Delta
@@ -173,14 +174,14 @@ module _ (p : Word) {δ : Delta} {S : State → State} (O : Supplied (length p) 
           (λ e. let q : suc len + (n - suc len) ≡ n = omega arith in rw q at (beyond (n - suc len) (omega arith))))
 
   -- one suffix
-  suffix-part : (A : List Arrow) (i : ℕ) → 0 < i → i ≤ m → Part (target A) i → OneEach A
-      → Part (target (missing p A i ++ A)) (suc i) × OneEach (missing p A i ++ A)
+  suffix-covered : (A : List Arrow) (i : ℕ) → 0 < i → i ≤ m → Covers (target A) i → OneEach A
+      → Covers (target (missing p A i ++ A)) (suc i) × OneEach (missing p A i ++ A)
   unfolding missing mend OneEach
-  suffix-part A i pos b P one =
+  suffix-covered A i pos b P one =
       let H = far-halts (target A) i (P .within) (drop i p) 0 i (sym (add-zero i)) refl b (λ n h. absurd (omega arith)) in
       by (far (target A) 0 i (drop i p)) (rw (reach-0 w δ i) at H)
     where
-      by : (h : Halt) → Halted (target A) i h → Part (target (mend p h ++ A)) (suc i) × OneEach (mend p h ++ A)
+      by : (h : Halt) → Halted (target A) i h → Covers (target (mend p h ++ A)) (suc i) × OneEach (mend p h ++ A)
       by h H = by-cases (ℕ-discrete (h .upTo) (length p))
           (λ e. rw (eq-eqb (h .upTo) (length p) e) (whole (target A) i P (λ n l. H .followed n (omega (arith, H .upTo))), one))
           (λ e.
@@ -189,9 +190,9 @@ module _ (p : Word) {δ : Delta} {S : State → State} (O : Supplied (length p) 
           (mended A i (H .len) pos P l (H .followed) (H .lacks l), (H .lacks l, one)))
 
   -- all suffixes
-  suffixes-part : (i : ℕ) → i ≤ m → Part (target (extrasAfter p i ++ spine p)) (suc i) × OneEach (extrasAfter p i ++ spine p)
+  suffixes-covered : (i : ℕ) → i ≤ m → Covers (target (extrasAfter p i ++ spine p)) (suc i) × OneEach (extrasAfter p i ++ spine p)
   unfolding extrasAfter spine
-  suffixes-part zero h = (record { within = within; has = has }, spine-one p (length p) 0)
+  suffixes-covered zero h = (record { within = within; has = has }, spine-one p (length p) 0)
     where
       within : (x : State) (c : Letter) (y : State) → target (spineFrom p 0 (length p)) x c ≡ some y → δ x c ≡ some y
       within x c y e = let r = spine-only p (length p) 0 x c y e in rw (r .2, r .3) (O .spine x (omega (arith, r .1)))
@@ -202,10 +203,10 @@ module _ (p : Word) {δ : Delta} {S : State → State} (O : Supplied (length p) 
           let here = reach-spine O n (omega arith) in
           let next = reach-spine O (suc n) (omega arith) in
           rw (e, zero-add n, here, next) (spine-arrow p (length p) 0 n (omega arith) (omega arith))
-  suffixes-part (suc i) h =
-      let r = suffixes-part i (omega arith) in
+  suffixes-covered (suc i) h =
+      let r = suffixes-covered i (omega arith) in
       let A = extrasAfter p i ++ spine p in
-      rw (append-assoc (missing p A (suc i)) (extrasAfter p i) (spine p)) (suffix-part A (suc i) (omega arith) h (r .0) (r .1))
+      rw (append-assoc (missing p A (suc i)) (extrasAfter p i) (spine p)) (suffix-covered A (suc i) (omega arith) h (r .0) (r .1))
 
   -- ── The rule's arrows are δ's ────────────────────────────────────────────
 
@@ -219,9 +220,9 @@ module _ (p : Word) {δ : Delta} {S : State → State} (O : Supplied (length p) 
       let u = P .has (r .0) (r .1) (omega (arith, r .2, v .inside)) (omega (arith, r .2, v .inside)) in
       cc (r .2, r .3, v .letter, reach-arrow O (r .0) (r .1) (omega (arith, r .2, v .inside))))
     where
-      P : Part (oracle p) (suc (m - 1))
-      P = suffixes-part (m - 1) (omega arith) .0
+      P : Covers (oracle p) (suc (m - 1))
+      P = suffixes-covered (m - 1) (omega arith) .0
 
   pub suffix-rule-one : OneEach (suffixRule p)
   unfolding suffixRule extraArrows
-  suffix-rule-one = suffixes-part (m - 1) (omega arith) .1
+  suffix-rule-one = suffixes-covered (m - 1) (omega arith) .1

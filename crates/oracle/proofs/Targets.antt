@@ -17,15 +17,6 @@ use Rattle.oracle.specs.Arrows.{State, Arrow, arrow, target, OneEach}
 pub never : {A X : Type 0} {a : A} {o : Option A} → o ≡ none → o ≡ some a → X
 never e f = let z : _≡_ {A = ℕ} 0 1 = cc in absurd (omega arith)
 
--- and what is not some is nothing
-pub none-where : {A : Type 0} (o : Option A) → ((a : A) → o ≡ some a → ⊥) → o ≡ none
-none-where none f = refl
-none-where (some a) f = absurd (f a refl)
-
-pub option-cases : {A C : Type 0} (o : Option A) → (o ≡ none → C) → ((a : A) → o ≡ some a → C) → C
-option-cases none f g = f refl
-option-cases (some a) f g = g a refl
-
 -- ── One arrow more ─────────────────────────────────────────────────────────
 
 pub target-hit : (A : List Arrow) (x : State) (c : Letter) (y : State) → target (arrow x c y ∷ A) x c ≡ some y

@@ -8,9 +8,10 @@ use native.Mathlib.Omega.{arith}
 use lib.ListN.{length, drop}
 use lib.Seq.{drop-cons, drop-length}
 use Rattle.words.specs.Words.{Letter, Word, letter, part}
+use Rattle.words.proofs.Lists.{option-cases}
 use Rattle.words.proofs.Words.{part-snoc}
 use Rattle.oracle.specs.Arrows.{State, Delta, walk}
-use Rattle.oracle.proofs.Targets.{never, option-cases}
+use Rattle.oracle.proofs.Targets.{never}
 use Rattle.oracle.proofs.Chain.{Supplied, arrow-up}
 use Rattle.oracle.proofs.Reach.{reach, reach-0, reach-arrow}
 

@@ -1,7 +1,7 @@
 -- Automata over a word's letters: states are numbers, all final, and 0 is where every walk starts.
 --
 --   State         the number of a state
---   Arrow         from a state, on a letter, to a state
+--   Arrow         from a state, on a letter, to a state; `arrow x c y` is the one from x on c to y
 --   Delta         where the arrow from a state on a letter leads, if there is one
 --   target A      the Delta of a list of arrows
 --   walk δ x v    where the walk of v from x ends, if every letter has its arrow

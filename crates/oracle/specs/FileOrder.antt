@@ -4,7 +4,7 @@
 --   leadsTo o y           whether o is the state y
 --   extraTargets δ p x    the targets of the extra arrows that leave x, rising
 --   targetsBefore δ p k   those of the states before k, one state behind the other
---   Extra                 an extra arrow, by its source and its target
+--   Extra                 an extra arrow, by its source and its target; `extra x y` is the one from x to y
 --   extrasBefore δ p k    the extra arrows of the states before k, in the same order
 --   fileArrows p          the extra arrows of a word's oracle, in the file's order
 --

@@ -1,6 +1,7 @@
 -- THE SUFFIX RULE decides what an oracle is: 003, algorithm 1, as 01 restates it. The suffix that 01 calls pi..pm is the one behind the
 -- first i - 1 letters, so its i = 2 to m is i = 1 to m - 1 here; its k counts letters from the word's start, and is the same number here.
 --
+--   Halt              where a walk halts, and how many letters of the word stand before the first that was not spelled
 --   far δ x k v       the walk of v from x as far as arrows go, k letters standing before v
 --   mend p h          the arrow that a walk halted at h lacks, in a list of one or none
 --   missing p A i     the arrow that suffix i adds to the arrows A, in such a list
@@ -19,7 +20,6 @@ use lib.Dec.{eqb}
 use Rattle.words.specs.Words.{Word, letter}
 use Rattle.oracle.specs.Arrows.{State, Arrow, arrow, Delta, target, spine}
 
--- where a walk halts, and how many letters of the word stand before the first that was not spelled
 pub record Halt : Type 0 where
   pub state : State
   pub upTo : ℕ

@@ -1,5 +1,5 @@
 -- Laws of lists in general, of `from`, `only` and `first`, and of lists that rise: what is in such a list, where, and in which order. Each
--- goes by induction on the list or on how many numbers `from` has; where a test decides, by its two cases.
+-- goes by induction on the list or on how many numbers `from` has; where a test decides, by its two cases. First the cases themselves.
 use mathlib.Core.Path.{_≡_, refl, sym, ap, _∙_}
 use mathlib.Core.Bool.{Bool, true, false, _&&_}
 use mathlib.Core.Logic.{⊎-elim, by-cases}
@@ -13,7 +13,7 @@ use lib.ListN.{length, getD, List·getD-map}
 use lib.Seq.{getD-append-add}
 use Rattle.words.specs.Lists.{at, from, only, first, Rising, end, up}
 
--- ── Tests ──────────────────────────────────────────────────────────────────
+-- ── Tests and options ──────────────────────────────────────────────────────
 
 pub and-true : {a b : Bool} → a && b ≡ true → (a ≡ true) × (b ≡ true)
 and-true {a = true} e = (refl, e)
@@ -22,6 +22,15 @@ and-true {a = false} e = (e, cc)
 pub test-cases : {C : Type 0} (b : Bool) → (b ≡ true → C) → (b ≡ false → C) → C
 test-cases true f g = f refl
 test-cases false f g = g refl
+
+pub option-cases : {A C : Type 0} (o : Option A) → (o ≡ none → C) → ((a : A) → o ≡ some a → C) → C
+option-cases none f g = f refl
+option-cases (some a) f g = g a refl
+
+-- what is not some is none
+pub none-where : {A : Type 0} (o : Option A) → ((a : A) → o ≡ some a → ⊥) → o ≡ none
+none-where none f = refl
+none-where (some a) f = absurd (f a refl)
 
 -- ── Members and entries ────────────────────────────────────────────────────
 
