@@ -1,5 +1,5 @@
-// The caller's list of finds: the first of them, as many as fit, and their exact number. This room alone writes finds; every search above it
-// does so here.
+// The caller's list of finds: the first of them, as many as fit, and their exact number. This room alone writes finds; every search above
+// it does so here.
 ghost use mathlib.Core.Path.{_≡_};
 ghost use mathlib.Core.List.{List, [], _∷_, _++_};
 ghost use Prim.Native.Nat.{ℕ, _+_, _<_};

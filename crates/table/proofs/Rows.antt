@@ -7,11 +7,14 @@ use native.Mathlib.Nat.{zero-add, add-zero}
 use native.Mathlib.Numerals.{one-add}
 use native.Mathlib.Decide.{decLt, ℕ-discrete}
 use native.Mathlib.Omega.{arith}
-use lib.ListN.{length, getD, take, replicate, length-append, length-map, length-take, length-replicate, List·getD-append, List·getD-eq-default}
+use lib.ListN.{length, getD, take, replicate, length-append, length-map, length-take, length-replicate}
+use lib.ListN.{List·getD-append, List·getD-eq-default}
 use lib.Seq.{getD-append-add, getD-take, ext-getD}
 use Rattle.words.specs.Lists.{at, from}
 use Rattle.words.specs.Words.{Word, letter}
 use Rattle.words.proofs.Lists.{from-length, map-from-at}
+use Rattle.words.proofs.Loops.{padded}
+pub use Rattle.words.proofs.Loops.{zeros-at}
 use Rattle.oracle.specs.Arrows.{State, Delta}
 use Rattle.oracle.specs.FileOrder.{targetsBefore}
 use Rattle.oracle.proofs.FileOrder.{before-room, before-at}
@@ -21,18 +24,6 @@ use Rattle.table.specs.Table.{room, tableFrom}
 
 behind : (a b : List ℕ) (n i : ℕ) → length a ≡ n → getD (a ++ b) (n + i) 0 ≡ getD b i 0
 behind a b n i e = rw (← e) (getD-append-add a b i 0)
-
--- a list of zeros has no other entry
-pub zeros-at : (n i : ℕ) → at (replicate n 0) i ≡ 0
-zeros-at zero i = refl
-zeros-at (suc n) zero = refl
-zeros-at (suc n) (suc i) = zeros-at n i
-
--- zeros behind a list change no entry: what is not there is looked up as 0
-pub padded : (l : List ℕ) (n i : ℕ) → getD (l ++ replicate n 0) i 0 ≡ getD l i 0
-padded [] n i = zeros-at n i
-padded (a ∷ l) n zero = refl
-padded (a ∷ l) n (suc i) = padded l n i
 
 -- ── The entries of a table ─────────────────────────────────────────────────
 
@@ -157,7 +148,8 @@ module _ (p : Word) (δ : Delta) (S : State → State) where
 
       inside : (i : ℕ) → i < 6 * n → at L i < 65536
       inside = rows (λ i. at L i < 65536) row0 (omega (arith, row-1-first)) (λ x h. omega (arith, row-1 x h, supplies x h))
-          (λ i h. omega (arith, row-2 i h, before-room δ p i n h)) (λ i h. omega (arith, row-3 i h, before-at δ p n i)) (λ i h. omega (arith, row-4 i h))
+          (λ i h. omega (arith, row-2 i h, before-room δ p i n h)) (λ i h. omega (arith, row-3 i h, before-at δ p n i))
+          (λ i h. omega (arith, row-4 i h))
 
       by : Dec (i < 6 * n) → at L i < 65536
       by (yes h) = inside i h

@@ -3,3 +3,4 @@ pub mod Words
 pub mod Occurrences
 pub mod Answers
 pub mod Limits
+pub mod Loops
