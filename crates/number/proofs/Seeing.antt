@@ -100,42 +100,43 @@ module _ {n b : ℕ} (l : List ℕ) (p : Passes n b) where
 -- ── A spelling is seen ─────────────────────────────────────────────────────
 
 -- v can be spelled behind n others, in its next byte and k more
-pub record Fits (n k v : ℕ) : Type 0 where
+pub record Spellable (n k v : ℕ) : Type 0 where
   pub places : n + k ≡ 4
   pub below : v < top k
   pub counts : 0 < n → 0 < v
 
 -- a last byte that passes, and the number that it is
-fits-passes : {n k v : ℕ} → Fits n k v → Passes n v
+spellable-passes : {n k v : ℕ} → Spellable n k v → Passes n v
 unfolding top
-fits-passes {k = zero} f = record { counts = f .counts; small = λ e. omega arith }
-fits-passes {k = suc k} f = record { counts = f .counts; small = λ e. absurd (omega arith) }
+spellable-passes {k = zero} f = record { counts = f .counts; small = λ e. omega arith }
+spellable-passes {k = suc k} f = record { counts = f .counts; small = λ e. absurd (omega arith) }
 
-passes-fits : {n v : ℕ} (k : ℕ) → n + k ≡ 4 → Passes n v → v < 128 → Fits n k v
+passes-spellable : {n v : ℕ} (k : ℕ) → n + k ≡ 4 → Passes n v → v < 128 → Spellable n k v
 unfolding top
-passes-fits zero q p h = record { places = q; below = omega (arith, p .small (omega arith)); counts = p .counts }
-passes-fits (suc k) q p h = record { places = q; below = omega (arith, top-least k); counts = p .counts }
+passes-spellable zero q p h = record { places = q; below = omega (arith, p .small (omega arith)); counts = p .counts }
+passes-spellable (suc k) q p h = record { places = q; below = omega (arith, top-least k); counts = p .counts }
 
 -- from 128 on the first byte passes, and the rest can be spelled behind it
-fits-follow : {n k v : ℕ} → Fits n k v → 128 ≤ v → (j : ℕ) × Fits (suc n) j (v / 128) × Passes n (128 + v % 128)
+spellable-follow : {n k v : ℕ} → Spellable n k v → 128 ≤ v → (j : ℕ) × Spellable (suc n) j (v / 128) × Passes n (128 + v % 128)
 unfolding top
-fits-follow {k = zero} f h = absurd (omega arith)
-fits-follow {k = suc k} f h = (
+spellable-follow {k = zero} f h = absurd (omega arith)
+spellable-follow {k = suc k} f h = (
   k,
   record { places = omega arith; below = omega arith; counts = λ _. omega arith },
   record { counts = λ _. omega arith; small = λ e. absurd (omega arith) },
 )
 
 -- and the other way round
-follow-fits : {n k u : ℕ} (b : ℕ) → 128 ≤ b → Fits (suc n) k u → Fits n (suc k) (b % 128 + 128 * u)
+follow-spellable : {n k u : ℕ} (b : ℕ) → 128 ≤ b → Spellable (suc n) k u → Spellable n (suc k) (b % 128 + 128 * u)
 unfolding top
-follow-fits b h f = record { places = omega arith; below = omega (arith, f .below); counts = λ _. omega (arith, f .counts (omega arith)) }
+follow-spellable b h f =
+    record { places = omega arith; below = omega (arith, f .below); counts = λ _. omega (arith, f .counts (omega arith)) }
 
 -- what was spelled is seen, whatever follows
-pub see-spells : {n k v : ℕ} {l : List ℕ} (r : List ℕ) → Fits n k v → Spells v l → see n (l ++ r) ≡ number v (n + length l)
-see-spells {n} r f (last {v = v} h) = let e : n + 1 ≡ suc n = omega arith in see-last r (fits-passes f) h ∙ rw e
+pub see-spells : {n k v : ℕ} {l : List ℕ} (r : List ℕ) → Spellable n k v → Spells v l → see n (l ++ r) ≡ number v (n + length l)
+see-spells {n} r f (last {v = v} h) = let e : n + 1 ≡ suc n = omega arith in see-last r (spellable-passes f) h ∙ rw e
 see-spells {n} r f (follows {v = v} {l = l} h s) =
-    let g = fits-follow f h in
+    let g = spellable-follow f h in
     let e : (128 + v % 128) % 128 + 128 * (v / 128) ≡ v = omega arith in
     let c : suc n + length l ≡ n + suc (length l) = omega arith in
     see-follows (l ++ r) (g .2) (omega arith) ∙ ap (withGroup ((128 + v % 128) % 128)) (see-spells r (g .1) s) ∙ rw (e, c)
@@ -149,7 +150,7 @@ pub record Stood (n k : ℕ) (l : List ℕ) (v m : ℕ) : Type 0 where
   pub spells : Spells v spelling
   pub whole : l ≡ spelling ++ rest
   pub count : m ≡ n + length spelling
-  pub fits : Fits n k v
+  pub fits : Spellable n k v
 
 stood-follows : {n k u m b : ℕ} {l : List ℕ} → 128 ≤ b → b < 256 → Stood (suc n) k l u m → Stood n (suc k) (b ∷ l) (b % 128 + 128 * u) m
 stood-follows {u = u} {b = b} h g s =
@@ -160,7 +161,7 @@ stood-follows {u = u} {b = b} h g s =
       spells = spells-follow h g z (s .spells);
       whole = ap (λ y. b ∷ y) (s .whole);
       count = omega (arith, s .count);
-      fits = follow-fits b h (s .fits);
+      fits = follow-spellable b h (s .fits);
     }
 
 group-number : (x : ℕ) (s : Seen) {v m : ℕ} → withGroup x s ≡ number v m → (u : ℕ) × (s ≡ number u m) × (v ≡ x + 128 * u)
@@ -193,7 +194,7 @@ see-stood {n} {k} {v} {m} (b ∷ l) bytes q e =
           spells = rw w (last h);
           whole = refl;
           count = omega arith;
-          fits = rw w (passes-fits k q p h);
+          fits = rw w (passes-spellable k q p h);
         }
     by (is-followed p h) zero q later = absurd (omega (arith, p .small (omega arith)))
     by (is-followed p h) (suc k) q later =

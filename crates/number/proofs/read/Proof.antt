@@ -10,10 +10,10 @@ use Rattle.number.proofs.read.Statement.{statement}
 use Rattle.number.proofs.read.Tie as tie
 
 abbrev Inv-loop : tie.InvT-loop
-Inv-loop file c at₀ value₀ unit₀ at value unit = Reading file (c .at) at value unit
+Inv-loop file start at₀ value₀ unit₀ at value unit = Reading file start at value unit
 
 abbrev μ-loop : tie.MeasureT-loop
-μ-loop file c at₀ value₀ unit₀ at value unit = length file - at
+μ-loop file start at₀ value₀ unit₀ at value unit = length file - at
 
 loop-holds : tie.Need-loop-holds Inv-loop μ-loop
 loop-holds c = read-start _ _
@@ -21,14 +21,14 @@ loop-holds c = read-start _ _
 returns : tie.Need-returns Inv-loop μ-loop
 returns c =
     let at-refuses = c .before in
-    let at-loop-test = at-refuses .before .before .before in
+    let at-loop-test = at-refuses .before .before in
     let at-loop = at-loop-test .before in
     read-refused (at-loop .loop .inv) (at-loop-test .loop-test .taken) (sym (at-refuses .refuses .ensures) ∙ c .if1 .taken)
 
 mul-value : tie.Need-mul-value Inv-loop μ-loop
 mul-value c =
     let at-refuses = c .before in
-    let at-loop-test = at-refuses .before .before .before in
+    let at-loop-test = at-refuses .before .before in
     let at-loop = at-loop-test .before in
     let passed = sym (at-refuses .refuses .ensures) ∙ c .if1 .left in
     omega (arith, read-fits (at-loop .loop .inv) (at-loop-test .loop-test .taken) passed)
@@ -36,7 +36,7 @@ mul-value c =
 add-value : tie.Need-add-value Inv-loop μ-loop
 add-value c =
     let at-refuses = c .before in
-    let at-loop-test = at-refuses .before .before .before in
+    let at-loop-test = at-refuses .before .before in
     let at-loop = at-loop-test .before in
     let passed = sym (at-refuses .refuses .ensures) ∙ c .if1 .left in
     omega (arith, read-fits (at-loop .loop .inv) (at-loop-test .loop-test .taken) passed)
@@ -45,7 +45,7 @@ returns-2 : tie.Need-returns-2 Inv-loop μ-loop
 returns-2 c =
     let at-if1 = c .before in
     let at-refuses = at-if1 .before in
-    let at-loop-test = at-refuses .before .before .before in
+    let at-loop-test = at-refuses .before .before in
     let at-loop = at-loop-test .before in
     let passed = sym (at-refuses .refuses .ensures) ∙ at-if1 .if1 .left in
     read-last (at-loop .loop .inv) (at-loop-test .loop-test .taken) passed (c .if2 .taken)
@@ -54,7 +54,7 @@ mul-unit : tie.Need-mul-unit Inv-loop μ-loop
 mul-unit c =
     let at-if1 = c .before in
     let at-refuses = at-if1 .before in
-    let at-loop-test = at-refuses .before .before .before in
+    let at-loop-test = at-refuses .before .before in
     let at-loop = at-loop-test .before in
     let passed = sym (at-refuses .refuses .ensures) ∙ at-if1 .if1 .left in
     omega (arith, read-next (at-loop .loop .inv) (at-loop-test .loop-test .taken) passed (c .if2 .left) .0)
@@ -63,7 +63,7 @@ loop-again : tie.Need-loop-again Inv-loop μ-loop
 loop-again c =
     let at-if1 = c .before in
     let at-refuses = at-if1 .before in
-    let at-loop-test = at-refuses .before .before .before in
+    let at-loop-test = at-refuses .before .before in
     let at-loop = at-loop-test .before in
     let passed = sym (at-refuses .refuses .ensures) ∙ at-if1 .if1 .left in
     read-next (at-loop .loop .inv) (at-loop-test .loop-test .taken) passed (c .if2 .left) .1
