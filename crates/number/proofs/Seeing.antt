@@ -1,5 +1,5 @@
--- WHAT BYTES SHOW AND WHAT SPELLS A NUMBER: a number is seen exactly where a spelling of it stands, and a beginning of a spelling ends too
--- soon. The bytes stand behind n others of their number, and k more may follow the first of them, n + k being 4.
+-- WHAT BYTES SHOW AND WHAT SPELLS A NUMBER: a number is seen exactly where a spelling of it stands. The bytes stand behind n others of
+-- their number, and k more may follow the first of them, n + k being 4.
 use mathlib.Core.Path.{_≡_, refl, sym, ap, _∙_}
 use mathlib.Core.Logic.{_⊎_, inl, inr}
 use mathlib.Core.Bool.{Bool, true, false, _&&_, _||_, or-true, true≢false}
@@ -9,7 +9,7 @@ use native.Mathlib.Decide.{decLt}
 use native.Mathlib.Omega.{arith}
 use lib.ListN.{length}
 use lib.Dec.{eqb, ltb}
-use borrow.Author.Tests.{ltb-true, lt-ltb, le-ltb, eqb-true, eq-eqb, ne-eqb}
+use borrow.Author.Tests.{ltb-true, lt-ltb, le-ltb, eqb-true, eq-eqb}
 use Rattle.words.proofs.Lists.{and-true}
 use Rattle.number.specs.Number.{Bytes, refuses, Seen, number, ends, refused, withGroup, see}
 use Rattle.number.proofs.Spelling.{Spells, last, follows, spells-follow, top, top-least}
@@ -20,33 +20,6 @@ use Rattle.number.proofs.Spelling.{Spells, last, follows, spells-follow
 pub record Passes (n b : ℕ) : Type 0 where
   pub counts : 0 < n → 0 < b
   pub small : n ≡ 4 → b ≤ 15
-
--- such a byte passes the test
-pub refuses-not : {n b : ℕ} → Passes n b → refuses n b ≡ false
-unfolding refuses
-refuses-not {n} {b} p =
-    neither (unless (ltb 0 n) (eqb b 0) (λ e. ne-eqb b 0 (λ z. omega (arith, p .counts (ltb-true 0 n e)))))
-    (unless (eqb n 4) (ltb 15 b) (λ e. le-ltb 15 b (p .small (eqb-true n 4 e))))
-  where
-    neither : {s t : Bool} → s ≡ false → t ≡ false → s || t ≡ false
-    neither e f = rw (e, f)
-
-    unless : (s t : Bool) → (s ≡ true → t ≡ false) → s && t ≡ false
-    unless true t f = f refl
-    unless false t f = refl
-
--- and no other does
-pub refuses-told : {n b : ℕ} → refuses n b ≡ false → Passes n b
-unfolding refuses
-refuses-told {n} {b} e = record { counts = λ h. counted h (decLt 0 b); small = λ h. smaller h (decLt 15 b) }
-  where
-    counted : 0 < n → Dec (0 < b) → 0 < b
-    counted h (yes g) = g
-    counted h (no g) = absurd (true≢false (rw (lt-ltb 0 n h, eq-eqb b 0 (omega arith)) at e))
-
-    smaller : n ≡ 4 → Dec (15 < b) → b ≤ 15
-    smaller h (yes g) = absurd (true≢false (rw (h, lt-ltb 15 b g, or-true (eqb b 0)) at e))
-    smaller h (no g) = omega arith
 
 -- it is a zero behind others, or the fifth and above 15
 abbrev pub Refusable : ℕ → ℕ → Type 0
@@ -67,6 +40,33 @@ refuses-why {n} {b} e = by (ltb 0 n && eqb b 0) (eqb n 4 && ltb 15 b) refl refl 
     by true y f g h = let q = and-true {a = ltb 0 n} f in inl (ltb-true 0 n (q .0), eqb-true b 0 (q .1))
     by false true f g h = let q = and-true {a = eqb n 4} g in inr (eqb-true n 4 (q .0), ltb-true 15 b (q .1))
     by false false f g h = absurd (true≢false (sym h))
+
+-- so what passes is not refused
+pub refuses-not : {n b : ℕ} → Passes n b → refuses n b ≡ false
+refuses-not {n} {b} p = by (refuses n b) refl
+  where
+    clash : Refusable n b → ⊥
+    clash (inl q) = omega (arith, p .counts (q .0))
+    clash (inr q) = omega (arith, p .small (q .0))
+
+    by : (t : Bool) → refuses n b ≡ t → t ≡ false
+    by true e = absurd (clash (refuses-why e))
+    by false e = refl
+
+-- and what is not refused passes
+pub refuses-told : {n b : ℕ} → refuses n b ≡ false → Passes n b
+refuses-told {n} {b} e = record { counts = λ h. counted h (decLt 0 b); small = λ h. smaller h (decLt 15 b) }
+  where
+    never : {X : Type 0} → Refusable n b → X
+    never r = absurd (true≢false (sym (refuses-when r) ∙ e))
+
+    counted : 0 < n → Dec (0 < b) → 0 < b
+    counted h (yes g) = g
+    counted h (no g) = never (inl (h, omega arith))
+
+    smaller : n ≡ 4 → Dec (15 < b) → b ≤ 15
+    smaller h (yes g) = never (inr (h, g))
+    smaller h (no g) = omega arith
 
 -- a byte is refused, or ends the number, or is followed by another
 pub data Kind (n b : ℕ) : Type 0 where
