@@ -1,14 +1,15 @@
-/* What only a caller in C can hand over, a null pointer with length 0 for each buffer, and the deepest calls there are, on eight threads at once: 64 KiB of
- * stack for the call, and 16 KiB for what a thread needs of its own. */
+/* What only a caller in C can hand over, a null pointer with length 0 for each buffer, and the deepest calls there are, every entry on eight threads at
+ * once, each with a stack of 64 KiB for the calls and for what a thread needs of its own; where the system gives no thread so little, its least. */
 #define _POSIX_C_SOURCE 200809L
 #include <inttypes.h>
 #include <pthread.h>
 #include <stdio.h>
 #include <string.h>
+#include <unistd.h>
 
 #include "marks.h"
 
-enum { THREADS = 8, STACK = (64 + 16) * 1024, TEXT = 65536 };
+enum { THREADS = 8, STACK = 64 * 1024, TEXT = 65536 };
 
 static uint16_t tables[MARKS_TABLES(1)];
 static uint8_t room[1], out[4];
@@ -42,12 +43,13 @@ static void null_buffers(void)
     printf(", %" PRIu64 " places, %" PRIu64 " letters\n", count, letters);
 }
 
-/* a word of 1,023 times a and one b: its last letter climbs over every state; each thread has a number of its own in the text */
+/* a word of 1,023 times a and one b: its last letter climbs over every state, and does so too where the mirror is looked for, which stands in the text at a
+ * place of the thread's own */
 struct work {
-    uint8_t word[MARKS_LONGEST_WORD], text[TEXT], room[MARKS_LONGEST_WORD], file[MARKS_MOST_FILE];
+    uint8_t word[MARKS_LONGEST_WORD], mirror[MARKS_LONGEST_WORD], text[TEXT], room[MARKS_LONGEST_WORD], file[MARKS_MOST_FILE];
     uint16_t tables[MARKS_MOST_TABLES];
-    uint32_t finds[2], said;
-    uint64_t m, length, count, letters;
+    uint32_t finds[2], file_finds[2], said;
+    uint64_t m, length, count, file_count, letters;
 };
 
 static struct work works[THREADS];
@@ -58,8 +60,9 @@ static void *deepest(void *mine)
     w->said = marks_build(w->word, MARKS_LONGEST_WORD, w->tables, MARKS_MOST_TABLES, &w->m);
     w->said += marks_save(w->word, MARKS_LONGEST_WORD, w->tables, MARKS_MOST_TABLES, w->file, MARKS_MOST_FILE, &w->length);
     w->said += marks_load(w->file, w->length, w->room, MARKS_LONGEST_WORD, w->tables, MARKS_MOST_TABLES, &w->m);
-    w->said += marks_search_file(w->file, w->length, w->text, TEXT, w->room, MARKS_LONGEST_WORD, w->tables, MARKS_MOST_TABLES, w->finds, 2,
-                                 &w->count, &w->letters);
+    w->said += marks_search(w->mirror, MARKS_LONGEST_WORD, w->text, TEXT, w->tables, MARKS_MOST_TABLES, w->finds, 2, &w->count, &w->letters);
+    w->said += marks_search_file(w->file, w->length, w->text, TEXT, w->room, MARKS_LONGEST_WORD, w->tables, MARKS_MOST_TABLES, w->file_finds, 2,
+                                 &w->file_count, &w->letters);
     return NULL;
 }
 
@@ -67,12 +70,15 @@ int main(void)
 {
     pthread_t threads[THREADS];
     pthread_attr_t small;
+    long least = sysconf(_SC_THREAD_STACK_MIN);
     null_buffers();
-    if (pthread_attr_init(&small) != 0 || pthread_attr_setstacksize(&small, STACK) != 0)
+    if (pthread_attr_init(&small) != 0 || pthread_attr_setstacksize(&small, least > STACK ? (size_t)least : STACK) != 0)
         return 1;
     for (int i = 0; i < THREADS; i++) {
         memset(works[i].word, 'a', MARKS_LONGEST_WORD - 1);
         works[i].word[MARKS_LONGEST_WORD - 1] = 'b';
+        memset(works[i].mirror, 'a', MARKS_LONGEST_WORD);
+        works[i].mirror[0] = 'b';
         memset(works[i].text, 'a', TEXT);
         works[i].text[1000 * i] = 'b';
         if (pthread_create(&threads[i], &small, deepest, &works[i]) != 0)
@@ -81,8 +87,8 @@ int main(void)
     for (int i = 0; i < THREADS; i++) {
         if (pthread_join(threads[i], NULL) != 0)
             return 1;
-        printf("thread %d: %" PRIu32 ", file of %" PRIu64 " bytes, %" PRIu64 " place at %" PRIu32 "\n", i, works[i].said, works[i].length,
-               works[i].count, works[i].finds[0]);
+        printf("thread %d: %" PRIu32 ", file of %" PRIu64 " bytes, %" PRIu64 " place at %" PRIu32 ", with the file %" PRIu64 " at %" PRIu32 "\n", i,
+               works[i].said, works[i].length, works[i].count, works[i].finds[0], works[i].file_count, works[i].file_finds[0]);
     }
     return 0;
 }

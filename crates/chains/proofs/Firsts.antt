@@ -80,7 +80,9 @@ module _ {a : State → Letter} {t : ℕ} {F : List ℕ} (K : Firsts a t F) (sma
 module _ {B : List ℕ} {m : ℕ} {L : List ℕ} {t u : ℕ} (G : Grown B m L t u) (more : t < m) {F : List ℕ} (K : Firsts (at B) t F) where
   -- the arrow that the first state of c tells is the one that a lookup along the chain would find
   pub zero-looks : (c : Letter) → c < 256 → Looks L (suc m) t 0 c (zeroArrow (at F c))
-  zero-looks c h = record { says = λ l C. told (at F c) (K .says c h) ∙ ap arrowTo (sym held ∙ ap (λ v. lookIn (at L) t v 0 c) (sym (chain-one C chain))) }
+  zero-looks c h = record {
+    says = λ l C. told (at F c) (K .says c h) ∙ ap arrowTo (sym held ∙ ap (λ v. lookIn (at L) t v 0 c) (sym (chain-one C chain)));
+  }
     where
       chain : Chain L (suc m) (at L (2 * suc m + 0)) (G .T 0)
       chain = G .held .chain 0 (omega arith)
@@ -97,12 +99,15 @@ module _ {B : List ℕ} {m : ℕ} {L : List ℕ} {t u : ℕ} (G : Grown B m L t 
 
 -- ── In the code's sums ─────────────────────────────────────────────────────
 
-module _ {B : List ℕ} {m : ℕ} (N : Blank B m) {L : List ℕ} {t u : ℕ} (G : Grown B m L t u) (more : t < m) {F : List ℕ} (K : Firsts (at B) t F) where
+module _ {B : List ℕ} {m : ℕ} (N : Blank B m) {L : List ℕ} {t u : ℕ} (G : Grown B m L t u) (more : t < m) {F : List ℕ}
+    (K : Firsts (at B) t F) where
   letter-is : at L (t + 1) % 256 ≡ at B (suc t)
   letter-is = rw (add-one t, G .letters (suc t) (omega arith)) (mod-eq-of-lt (N .letters (suc t) more))
 
   pub code-zero : Looks L (m + 1) t 0 (at L (t + 1)) (zeroArrow (at F (at L (t + 1) % 256)))
-  code-zero = rw (letter-is, add-one t, add-one m, G .letters (suc t) (omega arith)) (zero-looks G more K (at B (suc t)) (N .letters (suc t) more))
+  code-zero =
+      let looks = zero-looks G more K (at B (suc t)) (N .letters (suc t) more) in
+      rw (letter-is, add-one t, add-one m, G .letters (suc t) (omega arith)) looks
 
   pub code-new : at F (at L (t + 1) % 256) ≡ 0 → Firsts (at B) (t + 1) (set F (at L (t + 1) % 256) (t + 1))
   code-new z = rw (letter-is, add-one t) (firsts-new K (N .letters (suc t) more) (rw letter-is at z))

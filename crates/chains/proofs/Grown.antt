@@ -1,6 +1,7 @@
 -- THE TABLE AFTER t LETTERS: the loop's invariant, that it holds of the blank table, that a letter keeps it, and that after all letters the
 -- chains and supplies are those of the word's oracle.
 use mathlib.Core.Path.{_≡_, refl, sym, ap, _∙_}
+use mathlib.Core.Bool.{Bool}
 use mathlib.Core.Logic.{inl, inr, _≢_}
 use mathlib.Core.Option.{some}
 use mathlib.Core.List.{List, [], _∷_, reverse, reverse-reverse, List·Memᴰ}
@@ -115,8 +116,9 @@ module _ {B : List ℕ} {m : ℕ} (K : Blank B m) where
 
     -- a climb's table with the new state's supply
     module _ {L₁ : List ℕ} {u′ : ℕ} {y : State} {xs : List State} {T′ : Targets}
-        (C : Climb (arrowsOf (at B) t (G .T)) (λ x. at L (n + x)) (at B (suc t)) t (t ∷ xs) y) (news : (x : State) → Gets (G .T) T′ xs (suc t) x)
-        (low : (x : State) → List·Memᴰ x xs → x < t) (held : Held L₁ n u′ T′) (used : u′ ≡ length xs + u) (kept : (i : ℕ) → i < 2 * n → at L₁ i ≡ at L i)
+        (C : Climb (arrowsOf (at B) t (G .T)) (λ x. at L (n + x)) (at B (suc t)) t (t ∷ xs) y)
+        (news : (x : State) → Gets (G .T) T′ xs (suc t) x) (low : (x : State) → List·Memᴰ x xs → x < t)
+        (held : Held L₁ n u′ T′) (used : u′ ≡ length xs + u) (kept : (i : ℕ) → i < 2 * n → at L₁ i ≡ at L i)
         (unlaid : (i : ℕ) → i < n → at L₁ (3 * n + i) ≡ at L (3 * n + i)) (counts : total T′ n + u ≡ total (G .T) n + u′) where
       abbrev L₂ : List ℕ
       L₂ = set L₁ (n + suc t) y
@@ -129,6 +131,9 @@ module _ {B : List ℕ} {m : ℕ} (K : Blank B m) where
 
       supplies-kept : (x : State) → x ≤ t → at L₂ (n + x) ≡ at L (n + x)
       supplies-kept x h = elsewhere (n + x) (omega arith) ∙ kept (n + x) (omega arith)
+
+      slots-kept : (j : ℕ) → 0 < j → j ≤ u′ → (at L₂ (4 * n + j) ≡ at L₁ (4 * n + j)) × (at L₂ (5 * n + j) ≡ at L₁ (5 * n + j))
+      slots-kept j p l = (elsewhere (4 * n + j) (omega arith), elsewhere (5 * n + j) (omega arith))
 
       fresh′ : (x : State) → suc t ≤ x → T′ x ≡ []
       fresh′ x h = by (news x)
@@ -145,7 +150,7 @@ module _ {B : List ℕ} {m : ℕ} (K : Blank B m) where
             held = record {
               size = length-set L₁ (n + suc t) y ∙ held .size;
               heads = λ x h. rw (elsewhere (2 * n + x) (omega arith)) (held .heads x h);
-              chain = λ x h. rw (elsewhere (2 * n + x) (omega arith)) (chain-kept (λ j p l. (elsewhere (4 * n + j) (omega arith), elsewhere (5 * n + j) (omega arith))) (held .heads x h) (held .chain x h));
+              chain = λ x h. rw (elsewhere (2 * n + x) (omega arith)) (chain-kept slots-kept (held .heads x h) (held .chain x h));
             };
             inside = more;
             letters = λ i h. elsewhere i (omega arith) ∙ kept i (omega arith) ∙ G .letters i h;
@@ -164,18 +169,21 @@ module _ {B : List ℕ} {m : ℕ} (K : Blank B m) where
     grown-letter {L′} {u′} (first-letter z e q) = rw (e, q) (rw same at first)
       where
         first : Grown B m (set L (n + suc t) 0) (suc t) u
-        first = grown-next {xs = []} {T′ = G .T} (out z refl (last-free (G .supplied) (at B (suc t)))) (λ x. inr (λ i. elim i [ ], refl)) (λ x i. absurd (elim i [ ]))
-            (G .held) (sym (zero-add u)) (λ i h. refl) (λ i h. refl) refl
+        first = grown-next {xs = []} {T′ = G .T} (out z refl (last-free (G .supplied) (at B (suc t))))
+            (λ x. inr (λ i. elim i [ ], refl)) (λ x i. absurd (elim i [ ])) (G .held) (sym (zero-add u)) (λ i h. refl) (λ i h. refl) refl
 
         same : set L (n + suc t) 0 ≡ L
         same = ap (set L (n + suc t)) (sym (G .later (suc t) (le-refl _) more)) ∙ set-getD L (n + suc t) 0
-    grown-letter {L′} {u′} (later-letter L₁ y p C e) = rw e (by (climbed (at B) (rw (G .letters (suc t) (omega arith)) at C) (begun-ready grown-begun (λ z. omega arith, refl)) (G .held) (G .letters)))
+    grown-letter {L′} {u′} (later-letter L₁ y p C e) =
+        let R = begun-ready grown-begun (λ z. omega arith, refl) in
+        rw e (by (climbed (at B) (rw (G .letters (suc t) (omega arith)) at C) R (G .held) (G .letters)))
       where
         down : at L (n + t) ≤ t - 1
         down = supply-below (G .supplied) t (le-refl t)
 
         by : Climbed (at B) n t (at B (suc t)) L u (G .T) (at L (n + t)) L₁ u′ y → Grown B m (set L₁ (n + suc t) y) (suc t) u′
-        by R = grown-next (go p (last-free (G .supplied) (at B (suc t))) (R .climb)) (R .news) (λ x i. omega (arith, R .low x i, down)) (R .held) (R .used) (R .kept) (R .unlaid) (R .counts)
+        by R = grown-next (go p (last-free (G .supplied) (at B (suc t))) (R .climb)) (R .news)
+            (λ x i. omega (arith, R .low x i, down)) (R .held) (R .used) (R .kept) (R .unlaid) (R .counts)
 
   -- ── All letters ──────────────────────────────────────────────────────────
 
@@ -197,10 +205,16 @@ module _ {B : List ℕ} {m : ℕ} (K : Blank B m) where
 
     in-file-order : (x : State) → extraTargets (oracle p) p x ≡ reverse (G .T x)
     unfolding extraTargets
-    in-file-order x = rw size (only-same (λ y. leadsTo (oracle p x (letter p (pred y))) y) (λ y. leadsTo (δ x (at B y)) y) (suc (suc x)) (m - suc x) test) ∙ sym (G .in-order x)
+    in-file-order x = rw size (only-same here there (suc (suc x)) (m - suc x) test) ∙ sym (G .in-order x)
       where
+        here : State → Bool
+        here y = leadsTo (oracle p x (letter p (pred y))) y
+
+        there : State → Bool
+        there y = leadsTo (δ x (at B y)) y
+
         test : (y : ℕ) → suc (suc x) ≤ y → y < suc (suc x) + (m - suc x)
-            → leadsTo (oracle p x (letter p (pred y))) y ≡ leadsTo (δ x (at B y)) y
+            → here y ≡ there y
         test zero h b = absurd (omega arith)
         test (suc y) h b = ap (λ o. leadsTo o (suc y)) (suffix-rule-arrows p supplied x (letter p y) ∙ ap (δ x) (letter-in y (omega arith)))
 
@@ -208,7 +222,8 @@ module _ {B : List ℕ} {m : ℕ} (K : Blank B m) where
     unfolding targetsBefore total
     counted zero = refl
     counted (suc k) =
-        length-append (targetsBefore (oracle p) p k) (extraTargets (oracle p) p k) ∙ rw (counted k, in-file-order k, length-reverse (G .T k)) refl
+        length-append (targetsBefore (oracle p) p k) (extraTargets (oracle p) p k)
+        ∙ rw (counted k, in-file-order k, length-reverse (G .T k)) refl
 
     pub grown-end : ChainsOf B m L u
     grown-end = record {

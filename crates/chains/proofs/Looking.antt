@@ -79,6 +79,7 @@ has L c y = eqb (at L y) c
 
 -- before slot j of x's chain: the spine does not have the letter, and the first target that has it is the first of those from j on
 pub record Chasing (L : List ℕ) (n : ℕ) (x : State) (c : Letter) (j : ℕ) : Type 0 where
+  pub inside : j < n
   pub off-spine : at L (suc x) ≢ c
   pub rest : List State
   pub chain : Chain L n j rest
@@ -86,7 +87,6 @@ pub record Chasing (L : List ℕ) (n : ℕ) (x : State) (c : Letter) (j : ℕ) :
 
 -- what is known of a slot that is looked at
 pub record Slot (L : List ℕ) (n j : ℕ) : Type 0 where
-  pub inside : j < n
   pub state : at L (5 * n + j) < n
   pub older : at L (4 * n + j) < j
 
@@ -100,7 +100,17 @@ module _ {L : List ℕ} {n : ℕ} {x : State} {c : Letter} where
   pub chase-start : Chained L n → x < n → at L (x + 1) ≢ c → Chasing L n x c (at L (2 * n + x))
   chase-start R b f =
       let r = R .chain x b in
-      record { off-spine = rw (add-one x) at f; rest = r .0; chain = r .1; same = λ l C. ap (first (has L c)) (chain-one C (r .1)) }
+      record {
+        inside = by (r .1);
+        off-spine = rw (add-one x) at f;
+        rest = r .0;
+        chain = r .1;
+        same = λ l C. ap (first (has L c)) (chain-one C (r .1));
+      }
+    where
+      by : {j : ℕ} {l : List State} → Chain L n j l → j < n
+      by (ends e) = omega arith
+      by (links p h y g o r) = h
 
   -- what is first among the targets from j on is the arrow
   chased : {j t : ℕ} {y : Option State} → x < t → (R : Chasing L n x c j) → first (has L c) (R .rest) ≡ y → Looks L n t x c (arrowTo y)
@@ -120,7 +130,7 @@ module _ {L : List ℕ} {n : ℕ} {x : State} {c : Letter} where
       where
         by : {r : List State} → Chain L n j r → Slot L n j
         by (ends e) = absurd (f e)
-        by (links p h y g o r) = record { inside = h; state = omega arith; older = o }
+        by (links p h y g o r) = record { state = omega arith; older = o }
 
     pub chase-hit : {t : ℕ} → x < t → at L (at L (5 * n + j)) ≡ c → Looks L n t x c (To (record { 0 = at L (5 * n + j) }))
     chase-hit h e = chased h R (by (R .chain))
@@ -136,6 +146,7 @@ module _ {L : List ℕ} {n : ℕ} {x : State} {c : Letter} where
             → Chasing L n x c (at L (4 * n + j))
         by (ends z) s = absurd (f z)
         by (links {y = y} {l = r} p h q g o C) s = record {
+          inside = omega (arith, o);
           off-spine = R .off-spine;
           rest = r;
           chain = C;

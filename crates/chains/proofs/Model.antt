@@ -67,7 +67,8 @@ leads-same o o′ y f g = by (leadsTo o y) refl (leadsTo o′ y) refl
 
 module _ (a : State → Letter) {t : State} {T T′ : Targets} {S : State → State} {xs : List State} {y : State}
     (O : Supplied t (λ i. a (suc i)) (arrowsOf a t T) S) (C : Climb (arrowsOf a t T) S (a (suc t)) t (t ∷ xs) y)
-    (fresh : (x : State) → t ≤ x → T x ≡ []) (low : (x : State) → List·Memᴰ x xs → x < t) (news : (x : State) → Gets T T′ xs (suc t) x) where
+    (fresh : (x : State) → t ≤ x → T x ≡ []) (low : (x : State) → List·Memᴰ x xs → x < t)
+    (news : (x : State) → Gets T T′ xs (suc t) x) where
   abbrev c : Letter
   c = a (suc t)
 
@@ -95,7 +96,10 @@ module _ (a : State → Letter) {t : State} {T T′ : Targets} {S : State → St
       by (yes e) g f = inl (look-spine a (suc t) (T′ x) x d (omega arith) e ∙ sym (look-spine a t (T x) x d h e))
       by (no e) (inl r) (yes f) = inr (sym f, List·Memᴰ·tail (r .0))
       by (no e) (inl r) (no f) =
-          inl (look-chain a (suc t) (T′ x) x d (omega arith) e ∙ ap (first P) (r .1) ∙ first-not P (suc t) (T x) (ne-eqb c d f) ∙ sym (look-chain a t (T x) x d h e))
+          inl (look-chain a (suc t) (T′ x) x d (omega arith) e
+          ∙ ap (first P) (r .1)
+          ∙ first-not P (suc t) (T x) (ne-eqb c d f)
+          ∙ sym (look-chain a t (T x) x d h e))
       by (no e) (inr r) f = inl (look-chain a (suc t) (T′ x) x d (omega arith) e ∙ ap (first P) (r .1) ∙ sym (look-chain a t (T x) x d h e))
 
   old-at : (d : Letter) → (δ′ t d ≡ δ t d) ⊎ ((d ≡ c) × List·Memᴰ t (t ∷ xs))
@@ -104,7 +108,10 @@ module _ (a : State → Letter) {t : State} {T T′ : Targets} {S : State → St
     where
       by : Dec (c ≡ d) → (δ′ t d ≡ δ t d) ⊎ ((d ≡ c) × List·Memᴰ t (t ∷ xs))
       by (yes f) = inr (sym f, List·Memᴰ·head refl)
-      by (no f) = inl (look-chain a (suc t) (T′ t) t d (le-refl _) f ∙ ap (first (λ y. eqb (a y) d)) (fresh′ t (le-refl t)) ∙ sym (look-far a t (T t) t d (le-refl t)))
+      by (no f) =
+          inl (look-chain a (suc t) (T′ t) t d (le-refl _) f
+          ∙ ap (first (λ y. eqb (a y) d)) (fresh′ t (le-refl t))
+          ∙ sym (look-far a t (T t) t d (le-refl t)))
 
   old-arrows : (x : State) (d : Letter) → (δ′ x d ≡ δ x d) ⊎ ((d ≡ c) × List·Memᴰ x (t ∷ xs))
   old-arrows x d = by (decLt x t) (ℕ-discrete x t)
@@ -122,7 +129,10 @@ module _ (a : State → Letter) {t : State} {T T′ : Targets} {S : State → St
       off-spine e = never (source-free C (List·Memᴰ·tail m)) (look-spine a t (T x) x c (low x m) e)
 
       by : Gets T T′ xs (suc t) x → δ′ x c ≡ some (suc t)
-      by (inl r) = look-chain a (suc t) (T′ x) x c (omega (arith, low x m)) off-spine ∙ ap (first (λ y. eqb (a y) c)) (r .1) ∙ first-yes (λ y. eqb (a y) c) (suc t) (T x) (eq-eqb c c refl)
+      by (inl r) =
+          look-chain a (suc t) (T′ x) x c (omega (arith, low x m)) off-spine
+          ∙ ap (first (λ y. eqb (a y) c)) (r .1)
+          ∙ first-yes (λ y. eqb (a y) c) (suc t) (T x) (eq-eqb c c refl)
       by (inr r) = absurd (r .0 m)
 
   module _ {S′ : State → State} (kept : (x : State) → x ≤ t → S′ x ≡ S x) (given : S′ (suc t) ≡ y) where
@@ -133,7 +143,10 @@ module _ (a : State → Letter) {t : State} {T T′ : Targets} {S : State → St
 
     -- no test of a state up to t changes
     tests-same : (x z : State) → z ≤ t → leadsTo (δ′ x (a z)) z ≡ leadsTo (δ x (a z)) z
-    tests-same x z h = leads-same (δ′ x (a z)) (δ x (a z)) z (λ e. by (arrow-was O C old-arrows new-arrows kept given x (a z) z e)) (arrow-stays O C old-arrows new-arrows kept given x (a z) z)
+    tests-same x z h =
+        leads-same (δ′ x (a z)) (δ x (a z)) z
+        (λ e. by (arrow-was O C old-arrows new-arrows kept given x (a z) z e))
+        (arrow-stays O C old-arrows new-arrows kept given x (a z) z)
       where
         by : {M : Type 0} → (δ x (a z) ≡ some z) ⊎ ((a z ≡ c) × (z ≡ suc t) × M) → δ x (a z) ≡ some z
         by (inl e) = e
@@ -145,7 +158,10 @@ module _ (a : State → Letter) {t : State} {T T′ : Targets} {S : State → St
 
     fails : (x : State) → x < t → (List·Memᴰ x xs → ⊥) → leadsTo (δ′ x c) (suc t) ≡ false
     unfolding leadsTo
-    fails x h f = leads-same (δ′ x c) none (suc t) (λ e. absurd (by (arrow-was O C old-arrows new-arrows kept given x c (suc t) e))) (λ e. never refl e)
+    fails x h f =
+        leads-same (δ′ x c) none (suc t)
+        (λ e. absurd (by (arrow-was O C old-arrows new-arrows kept given x c (suc t) e)))
+        (λ e. never refl e)
       where
         by : (δ x c ≡ some (suc t)) ⊎ ((c ≡ c) × (suc t ≡ suc t) × List·Memᴰ x (t ∷ xs)) → ⊥
         by (inl e) = let u = arrow-up O x c (suc t) e in omega (arith, u .1)
@@ -161,8 +177,9 @@ module _ (a : State → Letter) {t : State} {T T′ : Targets} {S : State → St
         let P′ : State → Bool = λ z. leadsTo (δ′ x (a z)) z in
         let n : suc t - suc x ≡ suc (t - suc x) = omega arith in
         let l : suc (suc x) + (t - suc x) ≡ suc t = omega arith in
+        let old = only-same P′ (λ z. leadsTo (δ x (a z)) z) (suc (suc x)) (t - suc x) (λ z l b. tests-same x z (omega arith)) in
         rw (n, from-snoc (suc (suc x)) (t - suc x), l, only-append P′ (from (suc (suc x)) (t - suc x)) (suc t ∷ []))
-        (ap (λ l. l ++ only P′ (suc t ∷ [])) (only-same P′ (λ z. leadsTo (δ x (a z)) z) (suc (suc x)) (t - suc x) (λ z l b. tests-same x z (omega arith))))
+        (ap (λ l. l ++ only P′ (suc t ∷ [])) old)
 
     pub letter-in-order : (x : State) → reverse (T x) ≡ extrasUpTo a δ x t → reverse (T′ x) ≡ extrasUpTo a δ′ x (suc t)
     unfolding from only
@@ -178,5 +195,6 @@ module _ (a : State → Letter) {t : State} {T T′ : Targets} {S : State → St
         by (yes h) (inl r) = ap (λ (l : List State). reverse l) (r .1) ∙ reverse-cons (suc t) (T x) ∙ ap (λ l. l ++ (suc t ∷ [])) e
             ∙ sym (split x h ∙ ap (λ l. old ++ l) (only-yes P′ (suc t) [] (passes x (r .0))))
         by (yes h) (inr r) =
-            ap (λ (l : List State). reverse l) (r .1) ∙ e ∙ sym (split x h ∙ ap (λ l. old ++ l) (only-not P′ (suc t) [] (fails x h (r .0))) ∙ append-nil old)
+            ap (λ (l : List State). reverse l) (r .1) ∙ e
+            ∙ sym (split x h ∙ ap (λ l. old ++ l) (only-not P′ (suc t) [] (fails x h (r .0))) ∙ append-nil old)
         by (no h) g = let n : suc t - suc x ≡ 0 = omega arith in rw (n, fresh′ x (omega arith))

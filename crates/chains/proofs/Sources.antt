@@ -13,10 +13,12 @@ use lib.Dec.{eqb}
 use borrow.Author.Tests.{eq-eqb, ne-eqb}
 use Rattle.words.specs.Lists.{at}
 use Rattle.words.specs.Words.{Letter}
+use Rattle.words.specs.Answers.{arrowTo}
+use Rattle.words.specs.declared.Leads.{Leads}
 use Rattle.words.proofs.Answers.{arrow-told, arrow-untold}
 use Rattle.oracle.specs.Arrows.{State, Delta}
 use Rattle.oracle.proofs.Grow.{Climb, stop, out, go}
-use Rattle.chains.specs.Chains.{Chain, Chained, lookIn, pushed}
+use Rattle.chains.specs.Chains.{Chain, Chained, lookIn, Looks, pushed}
 use Rattle.chains.specs.Letters.{Ready, Climbs, finds, runs-out, goes-on}
 use Rattle.chains.proofs.Looking.{chain-states, look-same}
 use Rattle.chains.proofs.Pushing.{Pushable, push-size, push-elsewhere, push-low, push-chain, other-chain, push-heads}
@@ -89,9 +91,11 @@ climb-agree {k = k} a b d (out z q e) = out z q (sym (a k (le-refl k)) ∙ e)
 climb-agree {δ} {δ′} {S} {S′} {c} {k = k} a b d (go p e r) =
     let l = d k (le-refl k) in
     let q = b k (le-refl k) in
-    go p (sym (a k (le-refl k)) ∙ e) (rw q at (climb-agree {δ = δ} {S = S} (λ x h. a x (omega arith)) (λ x h. b x (omega arith)) (λ x h. d x (omega arith)) r))
+    let rest = climb-agree {δ = δ} {S = S} (λ x h. a x (omega arith)) (λ x h. b x (omega arith)) (λ x h. d x (omega arith)) r in
+    go p (sym (a k (le-refl k)) ∙ e) (rw q at rest)
 
-pub record Climbed (a : State → Letter) (n t : ℕ) (c : Letter) (L : List ℕ) (u : ℕ) (T : Targets) (k : State) (L′ : List ℕ) (u′ : ℕ) (y : State) : Type 0 where
+pub record Climbed (a : State → Letter) (n t : ℕ) (c : Letter) (L : List ℕ) (u : ℕ) (T : Targets) (k : State)
+    (L′ : List ℕ) (u′ : ℕ) (y : State) : Type 0 where
   pub xs : List State
   pub T′ : Targets
   pub climb : Climb (arrowsOf a t T) (λ x. at L (n + x)) c k xs y
@@ -144,12 +148,19 @@ pub look-held : (a : State → Letter) {L : List ℕ} {n u : ℕ} (t : ℕ) (c :
 look-held a {L} t c {T = T} {k = k} H same b = look-same (at L) a t (T k) k c same b (λ y m. chain-states (H .chain k (omega arith)) m)
 
 module _ (a : State → Letter) {n t : ℕ} {c : Letter} where
+  -- what the code finds is the arrow
+  arrow-held : {L : List ℕ} {u : ℕ} {T : Targets} {k : State} → Ready L n t u k → Held L n u T → ((z : State) → z < n → at L z ≡ a z)
+      → {r : Leads} → Looks L n t k c r → r ≡ arrowTo (arrowsOf a t T k c)
+  arrow-held {T = T} {k = k} R H same s =
+      s .says (T k) (H .chain k (ready-push R .source))
+      ∙ ap arrowTo (look-held a t c H same (omega (arith, R .below, R .inside)))
+
   pub climbed : {L L′ : List ℕ} {u u′ : ℕ} {T : Targets} {k y : State} → Climbs n t c L u k L′ u′ y → Ready L n t u k → Held L n u T
       → ((z : State) → z < n → at L z ≡ a z) → Climbed a n t c L u T k L′ u′ y
   climbed {L} {u = u} {T = T} {k = k} {y = y} (finds s e q) R H same = rw (e, q) (record {
     xs = [];
     T′ = T;
-    climb = stop (sym (look-held a t c H same (omega (arith, R .below, R .inside))) ∙ arrow-told _ _ (record { 0 = y }) (s .says (T k) (H .chain k (ready-push R .source))) refl);
+    climb = stop (arrow-told _ _ (record { 0 = y }) (arrow-held R H same s) refl);
     news = λ x. inr (λ m. elim m [ ], refl);
     low = λ x m. absurd (elim m [ ]);
     held = H;
@@ -161,7 +172,7 @@ module _ (a : State → Letter) {n t : ℕ} {c : Letter} where
   climbed {L} {u = u} {T = T} {k = k} {y = y} (runs-out z q s e f) R H same = rw (e, f) (record {
     xs = k ∷ [];
     T′ = put T k (suc t);
-    climb = out z q (sym (look-held a t c H same (omega (arith, R .below, R .inside))) ∙ arrow-untold _ _ (s .says (T k) (H .chain k (ready-push R .source))) refl);
+    climb = out z q (arrow-untold _ _ (arrow-held R H same s) refl);
     news = news₁ R H;
     low = λ x m. one x m;
     held = held₁ R H;
@@ -187,7 +198,7 @@ module _ (a : State → Letter) {n t : ℕ} {c : Letter} where
       join I = record {
         xs = k ∷ I .xs;
         T′ = I .T′;
-        climb = go p (sym (look-held a t c H same (omega (arith, R .below, R .inside))) ∙ arrow-untold _ _ (s .says (T k) (H .chain k (ready-push R .source))) refl) inner;
+        climb = go p (arrow-untold _ _ (arrow-held R H same s) refl) inner;
         news = λ x. news x (ℕ-discrete x k) (I .news x);
         low = low;
         held = I .held;
@@ -216,4 +227,5 @@ module _ (a : State → Letter) {n t : ℕ} {c : Letter} where
 
           inner : Climb (arrowsOf a t T) S c (S k) (I .xs) y
           inner = climb-agree (λ x h. ap (λ l. lookIn a t l x c) (put-other T k (suc t) x (omega (arith, below))))
-              (λ x h. kept₁ R H (n + x) (omega (arith, below, R .below, R .inside))) (λ x h. omega (arith, R .down x (omega (arith, below, R .below)))) (I .climb)
+              (λ x h. kept₁ R H (n + x) (omega (arith, below, R .below, R .inside)))
+              (λ x h. omega (arith, R .down x (omega (arith, below, R .below)))) (I .climb)

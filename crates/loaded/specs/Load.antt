@@ -2,7 +2,8 @@
 -- after m the letters (5); each arrow is compared once both its numbers are read (10); after the last, missing arrows (10), then leftovers
 -- (11). Every refusal keeps the place where it shows.
 --
---   field s i off on     the number at place i of the file s: `on` its value and the next place, or `off` a refusal
+--   taking n off on      the answer n on a number: `on` its value and the next place, or `off` the refusal and where it shows
+--   field s i off on     the same of the number at place i of the file s
 --   Front                the number of letters and where they stand, or a refusal
 --   lettersAt s i        what s shows at place i, where the number of letters stands
 --   frontAt s o          what the file that stands in s from place o on shows up to its letters
@@ -10,6 +11,10 @@
 --   Two                  two numbers and the next place, or a refusal
 --   twoAt s i            what s shows at place i
 --   Ending               the place behind a file, whose arrows are the word's own, or a refusal; what follows is not judged
+--   nextIs a b l         whether the numbers a and b are those of the first of the arrows l
+--   later l              the arrows behind the first
+--   none-left l          whether there are none
+--   takingTwo t off on   what `taking` is to one number, to two
 --   arrowsAt s i n l     n declared arrows from place i on, against the word's own that are left, l
 --   ending s i w         what s shows from place i on, where the number of arrows stands, for the word w
 --   Verdict              whether a file's arrows are the word's own, and nothing follows
@@ -68,7 +73,6 @@ pub data Ending : Type 0 where
   behind : ℕ → Ending
   broken : ℕ → ℕ → Ending
 
--- the two numbers are those of the next arrow of the word's own
 abbrev pub nextIs : ℕ → ℕ → List Step → Bool
 nextIs a b [] = false
 nextIs a b (s ∷ l) = eqb a (s .up) && eqb b (s .over)

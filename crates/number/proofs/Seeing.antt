@@ -1,5 +1,5 @@
--- WHAT BYTES SHOW AND WHAT SPELLS A NUMBER: a number is seen exactly where a spelling of it stands, and a beginning of a spelling ends too
--- soon. The bytes stand behind n others of their number, and k more may follow the first of them, n + k being 4.
+-- WHAT BYTES SHOW AND WHAT SPELLS A NUMBER: a number is seen exactly where a spelling of it stands. The bytes stand behind n others of
+-- their number, and k more may follow the first of them, n + k being 4.
 use mathlib.Core.Path.{_≡_, refl, sym, ap, _∙_}
 use mathlib.Core.Logic.{_⊎_, inl, inr}
 use mathlib.Core.Bool.{Bool, true, false, _&&_, _||_, or-true, true≢false}
@@ -9,7 +9,7 @@ use native.Mathlib.Decide.{decLt}
 use native.Mathlib.Omega.{arith}
 use lib.ListN.{length}
 use lib.Dec.{eqb, ltb}
-use borrow.Author.Tests.{ltb-true, lt-ltb, le-ltb, eqb-true, eq-eqb, ne-eqb}
+use borrow.Author.Tests.{ltb-true, lt-ltb, le-ltb, eqb-true, eq-eqb}
 use Rattle.words.proofs.Lists.{and-true}
 use Rattle.number.specs.Number.{Bytes, refuses, Seen, number, ends, refused, withGroup, see}
 use Rattle.number.proofs.Spelling.{Spells, last, follows, spells-follow, top, top-least}
@@ -20,33 +20,6 @@ use Rattle.number.proofs.Spelling.{Spells, last, follows, spells-follow
 pub record Passes (n b : ℕ) : Type 0 where
   pub counts : 0 < n → 0 < b
   pub small : n ≡ 4 → b ≤ 15
-
--- such a byte passes the test
-pub refuses-not : {n b : ℕ} → Passes n b → refuses n b ≡ false
-unfolding refuses
-refuses-not {n} {b} p =
-    neither (unless (ltb 0 n) (eqb b 0) (λ e. ne-eqb b 0 (λ z. omega (arith, p .counts (ltb-true 0 n e)))))
-    (unless (eqb n 4) (ltb 15 b) (λ e. le-ltb 15 b (p .small (eqb-true n 4 e))))
-  where
-    neither : {s t : Bool} → s ≡ false → t ≡ false → s || t ≡ false
-    neither e f = rw (e, f)
-
-    unless : (s t : Bool) → (s ≡ true → t ≡ false) → s && t ≡ false
-    unless true t f = f refl
-    unless false t f = refl
-
--- and no other does
-pub refuses-told : {n b : ℕ} → refuses n b ≡ false → Passes n b
-unfolding refuses
-refuses-told {n} {b} e = record { counts = λ h. counted h (decLt 0 b); small = λ h. smaller h (decLt 15 b) }
-  where
-    counted : 0 < n → Dec (0 < b) → 0 < b
-    counted h (yes g) = g
-    counted h (no g) = absurd (true≢false (rw (lt-ltb 0 n h, eq-eqb b 0 (omega arith)) at e))
-
-    smaller : n ≡ 4 → Dec (15 < b) → b ≤ 15
-    smaller h (yes g) = absurd (true≢false (rw (h, lt-ltb 15 b g, or-true (eqb b 0)) at e))
-    smaller h (no g) = omega arith
 
 -- it is a zero behind others, or the fifth and above 15
 abbrev pub Refusable : ℕ → ℕ → Type 0
@@ -67,6 +40,33 @@ refuses-why {n} {b} e = by (ltb 0 n && eqb b 0) (eqb n 4 && ltb 15 b) refl refl 
     by true y f g h = let q = and-true {a = ltb 0 n} f in inl (ltb-true 0 n (q .0), eqb-true b 0 (q .1))
     by false true f g h = let q = and-true {a = eqb n 4} g in inr (eqb-true n 4 (q .0), ltb-true 15 b (q .1))
     by false false f g h = absurd (true≢false (sym h))
+
+-- so what passes is not refused
+pub refuses-not : {n b : ℕ} → Passes n b → refuses n b ≡ false
+refuses-not {n} {b} p = by (refuses n b) refl
+  where
+    clash : Refusable n b → ⊥
+    clash (inl q) = omega (arith, p .counts (q .0))
+    clash (inr q) = omega (arith, p .small (q .0))
+
+    by : (t : Bool) → refuses n b ≡ t → t ≡ false
+    by true e = absurd (clash (refuses-why e))
+    by false e = refl
+
+-- and what is not refused passes
+pub refuses-told : {n b : ℕ} → refuses n b ≡ false → Passes n b
+refuses-told {n} {b} e = record { counts = λ h. counted h (decLt 0 b); small = λ h. smaller h (decLt 15 b) }
+  where
+    never : {X : Type 0} → Refusable n b → X
+    never r = absurd (true≢false (sym (refuses-when r) ∙ e))
+
+    counted : 0 < n → Dec (0 < b) → 0 < b
+    counted h (yes g) = g
+    counted h (no g) = never (inl (h, omega arith))
+
+    smaller : n ≡ 4 → Dec (15 < b) → b ≤ 15
+    smaller h (yes g) = never (inr (h, g))
+    smaller h (no g) = omega arith
 
 -- a byte is refused, or ends the number, or is followed by another
 pub data Kind (n b : ℕ) : Type 0 where
@@ -100,42 +100,43 @@ module _ {n b : ℕ} (l : List ℕ) (p : Passes n b) where
 -- ── A spelling is seen ─────────────────────────────────────────────────────
 
 -- v can be spelled behind n others, in its next byte and k more
-pub record Fits (n k v : ℕ) : Type 0 where
+pub record Spellable (n k v : ℕ) : Type 0 where
   pub places : n + k ≡ 4
   pub below : v < top k
   pub counts : 0 < n → 0 < v
 
 -- a last byte that passes, and the number that it is
-fits-passes : {n k v : ℕ} → Fits n k v → Passes n v
+spellable-passes : {n k v : ℕ} → Spellable n k v → Passes n v
 unfolding top
-fits-passes {k = zero} f = record { counts = f .counts; small = λ e. omega arith }
-fits-passes {k = suc k} f = record { counts = f .counts; small = λ e. absurd (omega arith) }
+spellable-passes {k = zero} f = record { counts = f .counts; small = λ e. omega arith }
+spellable-passes {k = suc k} f = record { counts = f .counts; small = λ e. absurd (omega arith) }
 
-passes-fits : {n v : ℕ} (k : ℕ) → n + k ≡ 4 → Passes n v → v < 128 → Fits n k v
+passes-spellable : {n v : ℕ} (k : ℕ) → n + k ≡ 4 → Passes n v → v < 128 → Spellable n k v
 unfolding top
-passes-fits zero q p h = record { places = q; below = omega (arith, p .small (omega arith)); counts = p .counts }
-passes-fits (suc k) q p h = record { places = q; below = omega (arith, top-least k); counts = p .counts }
+passes-spellable zero q p h = record { places = q; below = omega (arith, p .small (omega arith)); counts = p .counts }
+passes-spellable (suc k) q p h = record { places = q; below = omega (arith, top-least k); counts = p .counts }
 
 -- from 128 on the first byte passes, and the rest can be spelled behind it
-fits-follow : {n k v : ℕ} → Fits n k v → 128 ≤ v → (j : ℕ) × Fits (suc n) j (v / 128) × Passes n (128 + v % 128)
+spellable-follow : {n k v : ℕ} → Spellable n k v → 128 ≤ v → (j : ℕ) × Spellable (suc n) j (v / 128) × Passes n (128 + v % 128)
 unfolding top
-fits-follow {k = zero} f h = absurd (omega arith)
-fits-follow {k = suc k} f h = (
+spellable-follow {k = zero} f h = absurd (omega arith)
+spellable-follow {k = suc k} f h = (
   k,
   record { places = omega arith; below = omega arith; counts = λ _. omega arith },
   record { counts = λ _. omega arith; small = λ e. absurd (omega arith) },
 )
 
 -- and the other way round
-follow-fits : {n k u : ℕ} (b : ℕ) → 128 ≤ b → Fits (suc n) k u → Fits n (suc k) (b % 128 + 128 * u)
+follow-spellable : {n k u : ℕ} (b : ℕ) → 128 ≤ b → Spellable (suc n) k u → Spellable n (suc k) (b % 128 + 128 * u)
 unfolding top
-follow-fits b h f = record { places = omega arith; below = omega (arith, f .below); counts = λ _. omega (arith, f .counts (omega arith)) }
+follow-spellable b h f =
+    record { places = omega arith; below = omega (arith, f .below); counts = λ _. omega (arith, f .counts (omega arith)) }
 
 -- what was spelled is seen, whatever follows
-pub see-spells : {n k v : ℕ} {l : List ℕ} (r : List ℕ) → Fits n k v → Spells v l → see n (l ++ r) ≡ number v (n + length l)
-see-spells {n} r f (last {v = v} h) = let e : n + 1 ≡ suc n = omega arith in see-last r (fits-passes f) h ∙ rw e
+pub see-spells : {n k v : ℕ} {l : List ℕ} (r : List ℕ) → Spellable n k v → Spells v l → see n (l ++ r) ≡ number v (n + length l)
+see-spells {n} r f (last {v = v} h) = let e : n + 1 ≡ suc n = omega arith in see-last r (spellable-passes f) h ∙ rw e
 see-spells {n} r f (follows {v = v} {l = l} h s) =
-    let g = fits-follow f h in
+    let g = spellable-follow f h in
     let e : (128 + v % 128) % 128 + 128 * (v / 128) ≡ v = omega arith in
     let c : suc n + length l ≡ n + suc (length l) = omega arith in
     see-follows (l ++ r) (g .2) (omega arith) ∙ ap (withGroup ((128 + v % 128) % 128)) (see-spells r (g .1) s) ∙ rw (e, c)
@@ -149,7 +150,7 @@ pub record Stood (n k : ℕ) (l : List ℕ) (v m : ℕ) : Type 0 where
   pub spells : Spells v spelling
   pub whole : l ≡ spelling ++ rest
   pub count : m ≡ n + length spelling
-  pub fits : Fits n k v
+  pub fits : Spellable n k v
 
 stood-follows : {n k u m b : ℕ} {l : List ℕ} → 128 ≤ b → b < 256 → Stood (suc n) k l u m → Stood n (suc k) (b ∷ l) (b % 128 + 128 * u) m
 stood-follows {u = u} {b = b} h g s =
@@ -160,7 +161,7 @@ stood-follows {u = u} {b = b} h g s =
       spells = spells-follow h g z (s .spells);
       whole = ap (λ y. b ∷ y) (s .whole);
       count = omega (arith, s .count);
-      fits = follow-fits b h (s .fits);
+      fits = follow-spellable b h (s .fits);
     }
 
 group-number : (x : ℕ) (s : Seen) {v m : ℕ} → withGroup x s ≡ number v m → (u : ℕ) × (s ≡ number u m) × (v ≡ x + 128 * u)
@@ -193,7 +194,7 @@ see-stood {n} {k} {v} {m} (b ∷ l) bytes q e =
           spells = rw w (last h);
           whole = refl;
           count = omega arith;
-          fits = rw w (passes-fits k q p h);
+          fits = rw w (passes-spellable k q p h);
         }
     by (is-followed p h) zero q later = absurd (omega (arith, p .small (omega arith)))
     by (is-followed p h) (suc k) q later =

@@ -15,19 +15,19 @@ use Rattle.number.specs.Exactly.{StandsAt, CutOff, BadByte}
 use Rattle.number.specs.declared.Cursor.{Cursor}
 use Rattle.number.specs.declared.Number.the-variants.{Value, Refused}
 use Rattle.number.proofs.Spelling.{Spells, last, follows, top, spelling-spells, spells-one, spells-bytes, groups-length}
-use Rattle.number.proofs.Seeing.{Fits, see-spells, Stood, see-stood, see-append, Refusable}
+use Rattle.number.proofs.Seeing.{Spellable, see-spells, Stood, see-stood, see-append, Refusable}
 use Rattle.number.proofs.Exactly.{Follow, Shape, see-shape, see-ends, see-bad}
 
-whole-fits : (v : ℕ) → v ≤ greatest → Fits 0 4 v
+whole-spellable : (v : ℕ) → v ≤ greatest → Spellable 0 4 v
 unfolding top
-whole-fits v h = record { places = omega arith; below = omega arith; counts = λ g. absurd (omega arith) }
+whole-spellable v h = record { places = omega arith; below = omega arith; counts = λ g. absurd (omega arith) }
 
 -- ── 1. Spelling and reading ────────────────────────────────────────────────
 
 -- what was spelled is read, whatever follows
 pub read-spelled : (v : ℕ) (l : List ℕ) → v ≤ greatest → seeNumber (spellNumber v ++ l) ≡ number v (length (spellNumber v))
 unfolding seeNumber
-read-spelled v l h = see-spells l (whole-fits v h) (spelling-spells v h) ∙ ap (number v) (zero-add (length (spellNumber v)))
+read-spelled v l h = see-spells l (whole-spellable v h) (spelling-spells v h) ∙ ap (number v) (zero-add (length (spellNumber v)))
 
 -- at the front of l stands the spelling of v, n bytes long
 pub record Stands (l : List ℕ) (v n : ℕ) : Type 0 where

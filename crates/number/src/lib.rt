@@ -23,15 +23,15 @@ fn refuses(n: usize, b: u8) -> bool
 }
 
 // The number that the file shows at a place.
-pub fn read(file: &[u8], c: Cursor) -> Number
-    ensures { λ r. ⌜ r ≡ numberAt (now (file .entry)) (c .at) ⌝ }
+fn read(file: &[u8], start: usize) -> Number
+    ensures { λ r. ⌜ r ≡ numberAt (now (file .entry)) start ⌝ }
 {
-    let mut at = c.at;
+    let mut at = start;
     let mut value: u32 = 0;
     let mut unit: u32 = 1;
     while at < file.len() {
         let b = file[at];
-        if refuses(at - c.at, b) {
+        if refuses(at - start, b) {
             return Number::Refused(6, at);
         }
         value += unit * (b % 128) as u32;
@@ -42,6 +42,19 @@ pub fn read(file: &[u8], c: Cursor) -> Number
         at += 1;
     }
     Number::Refused(5, file.len())
+}
+
+// A reader over the lent bytes of a file, and its place.
+pub struct Reader<'a> {
+    pub file: &'a [u8],
+    pub at: usize,
+}
+
+// The number that a reader's file shows at its place.
+pub fn next<'a>(r: Reader<'a>) -> Number
+    ensures { λ n. ⌜ n ≡ numberAt (now (r .entry .file)) (r .entry .at) ⌝ }
+{
+    read(r.file, r.at)
 }
 
 // How many bytes a number takes.
@@ -71,23 +84,4 @@ pub fn write(out: &mut [u8], c: Cursor, v: u32) -> Cursor
     }
     out[at] = left as u8;
     Cursor { at: at + 1 }
-}
-
-// A reader over the lent bytes of a file, and its place.
-pub struct Reader<'a> {
-    pub file: &'a [u8],
-    pub at: usize,
-}
-
-fn read_at(file: &[u8], at: usize) -> Number
-    ensures { λ r. ⌜ r ≡ numberAt (now (file .entry)) at ⌝ }
-{
-    read(file, Cursor { at })
-}
-
-// The number that a reader's file shows at its place.
-pub fn next<'a>(r: Reader<'a>) -> Number
-    ensures { λ n. ⌜ n ≡ numberAt (now (r .entry .file)) (r .entry .at) ⌝ }
-{
-    read_at(r.file, r.at)
 }

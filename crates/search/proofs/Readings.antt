@@ -48,7 +48,8 @@ module _ {δ : Delta} {t : Word} {s m : ℕ} where
   pub none-to-read : {left : ℕ} {x : State} → StillToRead δ t s m left x → left ≡ 0 → Whole ≡ readingOf (readDown δ t s m 0)
   none-to-read {left} {x} R e = let q = rw (e, read-done δ t s x) at (R .same) in rw q
 
-  module _ {left : ℕ} {x : State} (R : StillToRead δ t s m left x) (more : left ≢ 0) (r : Leads) (says : r ≡ arrowTo (δ x (letter t (s + (left - 1))))) where
+  module _ {left : ℕ} {x : State} (R : StillToRead δ t s m left x) (more : left ≢ 0) (r : Leads)
+      (says : r ≡ arrowTo (δ x (letter t (s + (left - 1))))) where
     one : left ≡ suc (left - 1)
     one = omega arith
 

@@ -33,7 +33,8 @@ module _ (δ : Delta) (w t : Word) where
   ahead-one s h =
       let behind = next-moves δ w t s in
       windows-one δ w t (length t) s h
-      ∙ ap (with-window δ w t s) (windows-enough δ w t (length t) (suc (length t)) (next δ w t s) (omega (arith, behind)) (omega (arith, behind)))
+      ∙ ap (with-window δ w t s)
+      (windows-enough δ w t (length t) (suc (length t)) (next δ w t s) (omega (arith, behind)) (omega (arith, behind)))
 
   -- where it is read whole
   ahead-whole : (s : Place) → s + length w ≤ length t → readDown δ t s (length w) 0 .failed ≡ none
@@ -79,7 +80,8 @@ module _ {δ : Delta} {w t : Word} {F₀ F : List ℕ} {s : Place} {count letter
   so-far-length = ap length (I .list) ∙ filled-length (I .found) F₀
 
   -- no window is left
-  pub so-far-end : length t < s + length w → (record { count = count; letters = letters } ≡ tallyOf (steps δ w t)) × (F ≡ filled (steps δ w t .starts) F₀)
+  pub so-far-end : length t < s + length w
+      → (record { count = count; letters = letters } ≡ tallyOf (steps δ w t)) × (F ≡ filled (steps δ w t .starts) F₀)
   so-far-end h =
       let past = windows-past δ w t (suc (length t)) s h in
       let all-found : I .found ≡ steps δ w t .starts = sym (append-nil (I .found)) ∙ (rw past at (I .all-starts)) in

@@ -50,8 +50,10 @@ fn step_after_find(word: &[u8]) -> usize
 pub fn scan(word: &[u8], table: &[u16], text: &[u8], finds: &mut [u32]) -> finds::Tally
     requires { ⌜ (1 ≤ length (now word)) × (length (now text) < 4294967295) ⌝ }
     requires { ⌜ Formed (now table) (length (now word)) ⌝ }
-    ensures { λ r. ⌜ (r ≡ tallyOf (steps (readArrow (length (now (word .entry))) (now (table .entry))) (now (word .entry)) (now (text .entry))))
-        × (now (finds .exit) ≡ filled (steps (readArrow (length (now (word .entry))) (now (table .entry))) (now (word .entry)) (now (text .entry)) .starts)
+    ensures { λ r. ⌜ (r ≡ tallyOf
+        (steps (readArrow (length (now (word .entry))) (now (table .entry))) (now (word .entry)) (now (text .entry))))
+        × (now (finds .exit) ≡ filled
+        (steps (readArrow (length (now (word .entry))) (now (table .entry))) (now (word .entry)) (now (text .entry)) .starts)
         (now (finds .entry))) ⌝ }
 {
     let m = word.len();

@@ -13,7 +13,8 @@ use Rattle.chains.specs.Letters.{Blank, wordIn}
 use Rattle.words.proofs.Loops.{padded}
 
 -- Z is the table of k entries, cleared, and the part that is lent comes back as r
-module _ {Z r : List ℕ} {p : Word} {m k : ℕ} (size : k ≡ 6 * (m + 1)) (cleared : Z ≡ replicate k 0) (put : r ≡ p) (many : length p ≡ m) where
+module _ {Z r : List ℕ} {p : Word} {m k : ℕ} (size : k ≡ 6 * (m + 1)) (cleared : Z ≡ replicate k 0) (put : r ≡ p)
+    (many : length p ≡ m) where
   abbrev with-word : List ℕ
   with-word = putMid 1 (m + 1 - 1) Z r
 
@@ -33,7 +34,12 @@ module _ {Z r : List ℕ} {p : Word} {m k : ℕ} (size : k ≡ 6 * (m + 1)) (cle
 
   -- letters can be added
   pub word-blank : ((i : ℕ) → i < m → letter p i < 256) → Blank with-word m
-  word-blank small = rw laid (record { size = simp (length-append, length-replicate) (omega arith); corner = refl; letters = letters; empty = empty })
+  word-blank small = rw laid (record {
+    size = simp (length-append, length-replicate) (omega arith);
+    corner = refl;
+    letters = letters;
+    empty = empty;
+  })
     where
       letters : (i : ℕ) → i ≤ m → at expected i < 256
       letters zero h = omega arith

@@ -6,7 +6,8 @@ use mathlib.Core.List.{List, _∷_, _++_, append-nil}
 use Prim.Native.Nat.{ℕ, zero, suc, _+_, _*_, _-_, _<_}
 use native.Mathlib.Numerals.{one-add}
 use native.Mathlib.Omega.{arith}
-use lib.ListN.{length, getD, take, drop, replicate, length-append, length-take, length-drop, length-replicate, List·getD-append, drop-of-length-le}
+use lib.ListN.{length, getD, take, drop, replicate, length-append, length-take, length-drop, length-replicate}
+use lib.ListN.{List·getD-append, drop-of-length-le}
 use lib.Seq.{length-take-le, getD-take, getD-append-add, ext-getD}
 use borrow.Rule.Slice.PartMut.{midOf, putMid}
 use Rattle.words.specs.Lists.{at}
@@ -74,7 +75,8 @@ module _ {B L : List ℕ} {m u : ℕ} (b : Blank B m) (H : ChainsOf B m L u) whe
   -- ── The table ────────────────────────────────────────────────────────────
 
   -- behind four rows the table comes back cleared
-  module _ {K C : List ℕ} {a : ℕ} (Y : Laid L m K) (cleared : C ≡ replicate (length (midOf a (length K - a) K)) 0) (four-rows : a ≡ 4 * suc m) where
+  module _ {K C : List ℕ} {a : ℕ} (Y : Laid L m K) (cleared : C ≡ replicate (length (midOf a (length K - a) K)) 0)
+      (four-rows : a ≡ 4 * suc m) where
     abbrev scratch : ℕ
     scratch = 4 * suc m
 

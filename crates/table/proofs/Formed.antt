@@ -116,7 +116,14 @@ module _ (A R : List ℕ) (m : ℕ) (F : Formed A m) where
       let slot : at (A ++ R) a ≡ at A a = at-more a (omega arith) in
       let its-letter : at (A ++ R) (at A a) ≡ at A (at A a) = at-more (at A a) (omega (arith, F .targets s (omega arith))) in
       let l : a < length A = omega (arith, F .enough) in
-      rw (part-cons (A ++ R) a k (omega (arith, length-append A R)), part-cons A a k l, slot, its-letter, next, slots-more c k (suc s) (omega arith))
+      rw (
+        part-cons (A ++ R) a k (omega (arith, length-append A R)),
+        part-cons A a k l,
+        slot,
+        its-letter,
+        next,
+        slots-more c k (suc s) (omega arith),
+      )
 
   -- and the same arrows are read
   pub arrow-more : (x : State) (c : Letter) → readArrow m (A ++ R) x c ≡ readArrow m A x c

@@ -27,7 +27,9 @@ module _ (p : Word) (E : List Arrow) (X : ExtraSet p E) where
   extra-over = record { spine = on-spine; into = λ x c y e. into x c y (List·Memᴰ·append-cases E (target-member A x c y e)); fits = fits }
     where
       on-spine : (i : State) → i < length p → target A i (letter p i) ≡ some (suc i)
-      on-spine i h = member-target A (X .one-each) (Memᴰ·append-right E (target-member (spine p) i (letter p i) (suc i) (spine-target p i h)))
+      on-spine i h =
+          let there = target-member (spine p) i (letter p i) (suc i) (spine-target p i h) in
+          member-target A (X .one-each) (Memᴰ·append-right E there)
 
       into : (x : State) (c : Letter) (y : State) → List·Memᴰ (arrow x c y) E ⊎ List·Memᴰ (arrow x c y) (spine p)
           → (z : State) × (y ≡ suc z) × (z < length p) × (c ≡ letter p z) × (x ≤ z)

@@ -108,7 +108,8 @@ module _ {L : List ℕ} {m u : ℕ} (H : ChainsOf L m L u) where
                 let i = s - r in
                 let t : r + i ≡ s = omega arith in
                 let t′ : length (before L m x) + i ≡ s = omega (arith, here) in
-                let its : at K′ (3 * n + s) ≡ at (own L m x) i = rw (t, reverse-reverse (own L m x)) at (M .moved i (omega (arith, many, room, here))) in
+                let moved = M .moved i (omega (arith, many, room, here)) in
+                let its : at K′ (3 * n + s) ≡ at (own L m x) i = rw (t, reverse-reverse (own L m x)) at moved in
                 its ∙ sym (rw t′ at (own-targets (wordIn L m) (oracle (wordIn L m)) x n (Y .state) i (omega (arith, room, here))))
 
   -- in the code's sums

@@ -97,7 +97,10 @@ module _ (p : Word) {δ : Delta} (O : Over p δ) (S : State → State) where
       entry i g =
           let l : i < length own = rw size at g in
           let e : 3 * n + length before + i ≡ 3 * n + (length before + i) = omega arith in
-          part-at L (3 * n + length before) (length own) i l ∙ ap (at L) e ∙ row-3 p δ S (length before + i) (omega (arith, inside)) ∙ own-targets p δ x n (omega arith) i l
+          part-at L (3 * n + length before) (length own) i l
+          ∙ ap (at L) e
+          ∙ row-3 p δ S (length before + i) (omega (arith, inside))
+          ∙ own-targets p δ x n (omega arith) i l
 
   letter-at : (z : State) → z < m → at L (suc z) ≡ letter p z
   letter-at z h = row-0 p δ S (suc z) (omega arith)
@@ -122,7 +125,8 @@ module _ (p : Word) {δ : Delta} (O : Over p δ) (S : State → State) where
               let z = v .0 in
               let apart : x ≢ z = λ q. f (ap (letter p) q ∙ sym (v .3)) in
               let q : pred y ≡ z = omega (arith, v .1) in
-              let here : List·Memᴰ y (extraTargets δ p x) = target-extra δ p x y (omega (arith, v .1, v .4)) (omega (arith, v .1, v .2)) (rw (q, ← v .3) e) in
+              let here : List·Memᴰ y (extraTargets δ p x) =
+              target-extra δ p x y (omega (arith, v .1, v .4)) (omega (arith, v .1, v .2)) (rw (q, ← v .3) e) in
               let found : at L y ≡ c = rw (v .1) (letter-at z (v .2)) ∙ sym (v .3) in
               first-only _ _ here (eq-eqb (at L y) c found) (λ y′ k t. cc (carries y′ k (eqb-true (at L y′) c t)))
 

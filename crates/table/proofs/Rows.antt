@@ -7,7 +7,8 @@ use native.Mathlib.Nat.{zero-add, add-zero}
 use native.Mathlib.Numerals.{one-add}
 use native.Mathlib.Decide.{decLt, ℕ-discrete}
 use native.Mathlib.Omega.{arith}
-use lib.ListN.{length, getD, take, replicate, length-append, length-map, length-take, length-replicate, List·getD-append, List·getD-eq-default}
+use lib.ListN.{length, getD, take, replicate, length-append, length-map, length-take, length-replicate}
+use lib.ListN.{List·getD-append, List·getD-eq-default}
 use lib.Seq.{getD-append-add, getD-take, ext-getD}
 use Rattle.words.specs.Lists.{at, from}
 use Rattle.words.specs.Words.{Word, letter}
@@ -147,7 +148,8 @@ module _ (p : Word) (δ : Delta) (S : State → State) where
 
       inside : (i : ℕ) → i < 6 * n → at L i < 65536
       inside = rows (λ i. at L i < 65536) row0 (omega (arith, row-1-first)) (λ x h. omega (arith, row-1 x h, supplies x h))
-          (λ i h. omega (arith, row-2 i h, before-room δ p i n h)) (λ i h. omega (arith, row-3 i h, before-at δ p n i)) (λ i h. omega (arith, row-4 i h))
+          (λ i h. omega (arith, row-2 i h, before-room δ p i n h)) (λ i h. omega (arith, row-3 i h, before-at δ p n i))
+          (λ i h. omega (arith, row-4 i h))
 
       by : Dec (i < 6 * n) → at L i < 65536
       by (yes h) = inside i h

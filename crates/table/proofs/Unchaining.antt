@@ -5,7 +5,7 @@ use mathlib.Core.Path.{_≡_, refl, sym, ap, _∙_}
 use mathlib.Core.Logic.{_⊎_, inl, inr, _≢_}
 use mathlib.Core.List.{List, [], _∷_, reverse, reverseAux}
 use Prim.Native.Nat.{ℕ, zero, suc, _+_, _*_, _-_, _≤_, _<_}
-use native.Mathlib.Nat.{add-zero}
+use native.Mathlib.Nat.{le-refl, add-zero}
 use native.Mathlib.Omega.{arith}
 use lib.ListN.{length, set, length-set, length-reverse}
 use lib.Seq.{getD-set-same, getD-set-other}
@@ -17,8 +17,11 @@ use Rattle.table.specs.Layout.{Fits, Moved, Unchained}
 
 -- ── What holds before each slot ────────────────────────────────────────────
 
--- K is the table so far, L the one at entry; the slots from j on hold the targets `rest`, and the targets `gone` stand in row 3 from slot s on
+-- K is the table so far, L the one at entry; the slots from j on hold the targets `rest`, and the targets `gone` stand in row 3 from slot s
+-- on
 pub record Unchaining (L : List ℕ) (n : ℕ) (x : State) (e : ℕ) (K : List ℕ) (s j : ℕ) : Type 0 where
+  pub inside : j < n
+  pub low : s ≤ e
   pub rest : List State
   pub gone : List State
   pub size : length K ≡ 6 * n
@@ -30,18 +33,18 @@ pub record Unchaining (L : List ℕ) (n : ℕ) (x : State) (e : ℕ) (K : List �
   pub kept : (i : ℕ) → (i < 3 * n + s) ⊎ (3 * n + e ≤ i) → at K i ≡ at L i
 
 -- what is known of a slot whose target goes next
-pub record Next (K : List ℕ) (n e s j : ℕ) : Type 0 where
-  pub inside : j < n
+pub record Next (K : List ℕ) (n s j : ℕ) : Type 0 where
   pub older : at K (4 * n + j) < j
   pub room : 0 < s
-  pub low : s ≤ e
 
 -- ── Slot by slot ───────────────────────────────────────────────────────────
 
 module _ {L : List ℕ} {n : ℕ} {x : State} {e : ℕ} where
   -- nothing is moved
-  pub unchain-start : Fits L n x e → Unchaining L n x e L e (at L (2 * n + x))
-  unchain-start F = record {
+  pub unchain-start : x < n → Fits L n x e → Unchaining L n x e L e (at L (2 * n + x))
+  unchain-start h F = record {
+    inside = slot-inside (F .chain);
+    low = le-refl e;
     rest = F .targets;
     gone = [];
     size = F .size;
@@ -52,21 +55,22 @@ module _ {L : List ℕ} {n : ℕ} {x : State} {e : ℕ} where
     moved = λ i h. absurd (omega arith);
     kept = λ i h. refl;
   }
+    where
+      slot-inside : {j : ℕ} {l : List State} → Chain L n j l → j < n
+      slot-inside (ends z) = omega arith
+      slot-inside (links p i y g o C) = i
 
   module _ {K : List ℕ} {s j : ℕ} (b : e < n) (U : Unchaining L n x e K s j) where
-    at-most : s ≤ e
-    at-most = omega (arith, U .place)
-
     slots-kept : (i : ℕ) → 4 * n ≤ i → at K i ≡ at L i
     slots-kept i h = U .kept i (inr (omega arith))
 
-    -- a slot is inside, the next one is an older one, and there is room for its target
-    pub unchain-next : j ≢ 0 → Next K n e s j
+    -- the next slot is an older one, and there is room for a target
+    pub unchain-next : j ≢ 0 → Next K n s j
     unchain-next f = by (U .chain) (U .fits)
       where
-        by : {r : List State} → Chain L n j r → length r ≤ s → Next K n e s j
+        by : {r : List State} → Chain L n j r → length r ≤ s → Next K n s j
         by (ends z) h = absurd (f z)
-        by (links p i y g o C) h = record { inside = i; older = rw (slots-kept (4 * n + j) (omega arith)) o; room = omega arith; low = at-most }
+        by (links p i y g o C) h = record { older = rw (slots-kept (4 * n + j) (omega arith)) o; room = omega arith }
 
     -- its target goes before the others
     pub unchain-step : j ≢ 0 → Unchaining L n x e (set K (3 * n + (s - 1)) (at K (5 * n + j))) (s - 1) (at K (4 * n + j))
@@ -83,6 +87,8 @@ module _ {L : List ℕ} {n : ℕ} {x : State} {e : ℕ} where
             → Unchaining L n x e K′ (s - 1) (at K (4 * n + j))
         by (ends z) h w = absurd (f z)
         by (links {l = r} p i q g o C) h w = record {
+          inside = omega (arith, o, slots-kept (4 * n + j) (omega arith));
+          low = omega (arith, U .low);
           rest = r;
           gone = y ∷ U .gone;
           size = simp length-set (U .size);
@@ -95,14 +101,14 @@ module _ {L : List ℕ} {n : ℕ} {x : State} {e : ℕ} where
         }
           where
             moved : (i : ℕ) → i < suc (length (U .gone)) → at K′ (3 * n + (s - 1 + i)) ≡ at (y ∷ U .gone) i
-            moved zero l = rw (add-zero (s - 1)) (getD-set-same K (3 * n + (s - 1)) y 0 (omega (arith, U .size, at-most)))
+            moved zero l = rw (add-zero (s - 1)) (getD-set-same K (3 * n + (s - 1)) y 0 (omega (arith, U .size, U .low)))
             moved (suc i) l =
                 let t : s - 1 + suc i ≡ s + i = omega arith in
                 rw t (getD-set-other K (3 * n + (s - 1)) (3 * n + (s + i)) y 0 (λ z. omega arith) ∙ U .moved i (omega arith))
 
             kept : (i : ℕ) → (i < 3 * n + (s - 1)) ⊎ (3 * n + e ≤ i) → at K′ i ≡ at L i
             kept i (inl l) = getD-set-other K (3 * n + (s - 1)) i y 0 (λ z. omega arith) ∙ U .kept i (inl (omega arith))
-            kept i (inr l) = getD-set-other K (3 * n + (s - 1)) i y 0 (λ z. omega (arith, at-most)) ∙ U .kept i (inr l)
+            kept i (inr l) = getD-set-other K (3 * n + (s - 1)) i y 0 (λ z. omega (arith, U .low)) ∙ U .kept i (inr l)
 
     -- no slot is left: row 2 gets the start
     pub unchain-end : length L ≡ 6 * n → x < n → j ≡ 0 → Unchained L (set K (2 * n + x) s) n x e s

@@ -19,19 +19,6 @@ cast-slot c =
     let at-start = c .before .before .before .before .before .before in
     omega (arith, c .shared-slice-known2 .given (2 * at-start .args .n + at-start .args .x .0))
 
-add-y : tie.Need-add-y Inv-loop μ-loop
-add-y c = omega (arith, chase-slot (c .before .loop .inv) (c .loop-test .taken) .inside)
-
-mul-y-2 : tie.Need-mul-y-2 Inv-loop μ-loop
-mul-y-2 c = omega (arith, chase-slot (c .before .loop .inv) (c .loop-test .taken) .inside)
-
-shared-slice-read-y : tie.Need-shared-slice-read-y Inv-loop μ-loop
-shared-slice-read-y c =
-    let at-loop-test = c .before in
-    let at-loop = at-loop-test .before in
-    let at-start = at-loop .before .before .before .before .before .before .before in
-    omega (arith, chase-slot (at-loop .loop .inv) (at-loop-test .loop-test .taken) .inside, at-start .pre .1 .0 .size)
-
 cast-at : tie.Need-cast-at Inv-loop μ-loop
 cast-at c =
     let at-loop = c .before .before in
@@ -49,23 +36,6 @@ shared-slice-read-if3 c =
     let at-loop = at-loop-test .before in
     let at-start = at-loop .before .before .before .before .before .before .before in
     omega (arith, chase-slot (at-loop .loop .inv) (at-loop-test .loop-test .taken) .state, at-start .pre .1 .0 .size)
-
-add-slot-2 : tie.Need-add-slot-2 Inv-loop μ-loop
-add-slot-2 c =
-    let at-loop-test = c .before .before .before in
-    omega (arith, chase-slot (at-loop-test .before .loop .inv) (at-loop-test .loop-test .taken) .inside)
-
-mul-slot-4 : tie.Need-mul-slot-4 Inv-loop μ-loop
-mul-slot-4 c =
-    let at-loop-test = c .before .before .before in
-    omega (arith, chase-slot (at-loop-test .before .loop .inv) (at-loop-test .loop-test .taken) .inside)
-
-shared-slice-read-slot-2 : tie.Need-shared-slice-read-slot-2 Inv-loop μ-loop
-shared-slice-read-slot-2 c =
-    let at-loop-test = c .before .before .before .before in
-    let at-loop = at-loop-test .before in
-    let at-start = at-loop .before .before .before .before .before .before .before in
-    omega (arith, chase-slot (at-loop .loop .inv) (at-loop-test .loop-test .taken) .inside, at-start .pre .1 .0 .size)
 
 cast-slot-2 : tie.Need-cast-slot-2 Inv-loop μ-loop
 cast-slot-2 c =
@@ -117,33 +87,25 @@ pub look-spec : {M : Type 1} → statement M
 look-spec = tie.close (tie.spec
     Inv-loop
     μ-loop
-    (λ c. search needs)
-    (λ c. search needs)
+    (λ c. search needs) (λ c. search needs)
     returns
-    (λ c. search needs)
-    (λ c. search needs)
-    (λ c. search needs)
-    (λ c. search needs)
-    (λ c. search needs)
+    (λ c. search needs) (λ c. search needs) (λ c. search needs) (λ c. search needs) (λ c. search needs)
     returns-2
-    (λ c. search needs)
-    (λ c. search needs)
-    (λ c. search needs)
-    (λ c. search needs)
+    (λ c. search needs) (λ c. search needs) (λ c. search needs) (λ c. search needs)
     cast-slot
     loop-holds
     (λ c. search needs)
-    add-y
-    mul-y-2
-    shared-slice-read-y
+    (λ c. search needs)
+    (λ c. search needs)
+    (λ c. search needs)
     cast-at
     mul-if3
     shared-slice-read-if3
     returns-3
     (λ c. search needs)
-    add-slot-2
-    mul-slot-4
-    shared-slice-read-slot-2
+    (λ c. search needs)
+    (λ c. search needs)
+    (λ c. search needs)
     cast-slot-2
     loop-less
     loop-again

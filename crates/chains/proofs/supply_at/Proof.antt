@@ -18,7 +18,5 @@ pub supply-at-spec : {M : Type 1} → statement M
 supply-at-spec = tie.close (tie.spec
     (λ c. search needs)
     returns
-    (λ c. search needs)
-    (λ c. search needs)
-    (λ c. search needs)
+    (λ c. search needs) (λ c. search needs) (λ c. search needs)
     returns-2)

@@ -7,15 +7,6 @@ use Rattle.loaded.specs.Answers.{endingOf}
 use Rattle.loaded.proofs.compare.Statement.{statement}
 use Rattle.loaded.proofs.compare.Tie as tie
 
-compare-open-requires : tie.Need-compare-open-requires
-compare-open-requires c κs = search needs
-
-enum-known-shown : tie.Need-enum-known-shown
-enum-known-shown c = search needs
-
-enum-known-shown-2 : tie.Need-enum-known-shown-2
-enum-known-shown-2 c = search needs
-
 returns : tie.Need-returns
 unfolding verdict
 returns c =
@@ -38,12 +29,8 @@ returns-3 c =
     simp (sym (at-compare-open .compare-open .ensures) ∙ ap endingOf (at-shown2 .shown2 .given .1), le-ltb _ _ (c .if1 .left))
 
 pub compare-spec : {M : Type 1} → statement M
-compare-spec =
-    tie.close
-    (tie.spec
-    compare-open-requires
-    enum-known-shown
-    enum-known-shown-2
+compare-spec = tie.close (tie.spec
+    (λ c κs. search needs) (λ c. search needs) (λ c. search needs)
     returns
     returns-2
     returns-3)

@@ -16,19 +16,10 @@ Inv-loop word table file declared total at₀ left₀ slot₀ from₀ at left sl
 abbrev μ-loop : tie.MeasureT-loop
 μ-loop word table file declared total at₀ left₀ slot₀ from₀ at left slot from = left
 
-arrow-count-requires : tie.Need-arrow-count-requires Inv-loop μ-loop
-arrow-count-requires c κs = search needs
-
 loop-holds : tie.Need-loop-holds Inv-loop μ-loop
 loop-holds c =
     let at-start = c .before .before .before .before in
     compare-start _ _ _ _ (at-start .pre .least)
-
-read-two-requires : tie.Need-read-two-requires Inv-loop μ-loop
-read-two-requires c κs = search needs
-
-enum-known-two : tie.Need-enum-known-two Inv-loop μ-loop
-enum-known-two c = search needs
 
 returns : tie.Need-returns Inv-loop μ-loop
 returns c =
@@ -38,9 +29,6 @@ returns c =
     let at-loop = at-loop-test .before in
     let read = sym (ap pairOf (at-two .two .given .1)) ∙ at-read-two .read-two .ensures in
     shows-refused (at-loop .loop .inv) (at-loop-test .loop-test .taken) read
-
-enum-known-two-2 : tie.Need-enum-known-two-2 Inv-loop μ-loop
-enum-known-two-2 c = search needs
 
 returns-2 : tie.Need-returns-2 Inv-loop μ-loop
 returns-2 c =
@@ -68,15 +56,6 @@ returns-3 c =
     let own = at-next-step .next-step .ensures in
     shows-other (at-loop .loop .inv) (at-loop-test .loop-test .taken) read own (not-true _ (c .if2 .taken))
 
-sub-left : tie.Need-sub-left Inv-loop μ-loop
-sub-left c = search needs
-
-add-slot : tie.Need-add-slot Inv-loop μ-loop
-add-slot c = search needs
-
-loop-less : tie.Need-loop-less Inv-loop μ-loop
-loop-less c = search needs
-
 loop-again : tie.Need-loop-again Inv-loop μ-loop
 loop-again c =
     let at-if2 = c .before in
@@ -102,23 +81,18 @@ returns-5 c =
     shows-behind (at-loop .loop .inv) (at-loop-test .loop-test .left) (omega arith)
 
 pub compare-arrows-spec : {M : Type 1} → statement M
-compare-arrows-spec =
-    tie.close
-    (tie.spec
+compare-arrows-spec = tie.close (tie.spec
     Inv-loop
     μ-loop
-    arrow-count-requires
+    (λ c κs. search needs)
     loop-holds
-    read-two-requires
-    enum-known-two
+    (λ c κs. search needs) (λ c. search needs)
     returns
-    enum-known-two-2
+    (λ c. search needs)
     returns-2
     next-step-requires
     returns-3
-    sub-left
-    add-slot
-    loop-less
+    (λ c. search needs) (λ c. search needs) (λ c. search needs)
     loop-again
     returns-4
     returns-5)

@@ -8,18 +8,6 @@ use Rattle.loaded.proofs.Fronts.{shows-other-size, shows-cut, shows-let
 use Rattle.loaded.proofs.read_letters.Statement.{statement}
 use Rattle.loaded.proofs.read_letters.Tie as tie
 
-number-at-requires : tie.Need-number-at-requires
-number-at-requires c κs = search needs
-
-enum-known-declared : tie.Need-enum-known-declared
-enum-known-declared c = search needs
-
-enum-known-declared-2 : tie.Need-enum-known-declared-2
-enum-known-declared-2 c = search needs
-
-cast-m : tie.Need-cast-m
-cast-m c = search needs
-
 returns : tie.Need-returns
 returns c =
     let at-declared2 = c .before .before in
@@ -58,13 +46,8 @@ returns-4 c =
     shows-letters _ _ read (rw (least-saved, word-limit) (not-false _ (at-if1 .if1 .left))) (c .if2 .left)
 
 pub read-letters-spec : {M : Type 1} → statement M
-read-letters-spec =
-    tie.close
-    (tie.spec
-    number-at-requires
-    enum-known-declared
-    enum-known-declared-2
-    cast-m
+read-letters-spec = tie.close (tie.spec
+    (λ c κs. search needs) (λ c. search needs) (λ c. search needs) (λ c. search needs)
     returns
     sub-if2
     returns-2

@@ -5,24 +5,6 @@ use Rattle.loaded.specs.Load.{twoAt}
 use Rattle.loaded.proofs.read_two.Statement.{statement}
 use Rattle.loaded.proofs.read_two.Tie as tie
 
-number-at-requires : tie.Need-number-at-requires
-number-at-requires c κs = search needs
-
-enum-known-first : tie.Need-enum-known-first
-enum-known-first c = search needs
-
-enum-known-first-2 : tie.Need-enum-known-first-2
-enum-known-first-2 c = search needs
-
-number-at-requires-2 : tie.Need-number-at-requires-2
-number-at-requires-2 c κs = search needs
-
-enum-known-second : tie.Need-enum-known-second
-enum-known-second c = search needs
-
-enum-known-second-2 : tie.Need-enum-known-second-2
-enum-known-second-2 c = search needs
-
 returns : tie.Need-returns
 unfolding twoAt
 returns c =
@@ -51,15 +33,8 @@ returns-3 c =
     simp (read, sym (at-number-at2 .number-at2 .ensures) ∙ at-second2 .second2 .given .1)
 
 pub read-two-spec : {M : Type 1} → statement M
-read-two-spec =
-    tie.close
-    (tie.spec
-    number-at-requires
-    enum-known-first
-    enum-known-first-2
-    number-at-requires-2
-    enum-known-second
-    enum-known-second-2
+read-two-spec = tie.close (tie.spec
+    (λ c κs. search needs) (λ c. search needs) (λ c. search needs) (λ c κs. search needs) (λ c. search needs) (λ c. search needs)
     returns
     returns-2
     returns-3)

@@ -1,4 +1,4 @@
--- `number::next` meets its contract: a walk of its MIR, by hand. The struct is taken apart, and `read_at` is called on the slice and the
+-- `number::next` meets its contract: a walk of its MIR, by hand. The struct is taken apart, and `read` is called on the slice and the
 -- number; of it the proof knows that it meets its contract. The struct is Copy: what it owns is had twice, one copy is kept whole for the
 -- exit, and of the other what file owns goes to the callee, beside the lifetime's token, which comes back.
 use mathlib.Core.Path.{_≡_, refl}
@@ -52,10 +52,10 @@ use Rattle.number.proofs.Reader as T
 use Rattle.number.proofs.Reader.Laws as T′
 use Rattle.number.proofs.Number as S
 use Rattle.number.proofs.Number.Laws as S′
-use Rattle.number.proofs.read_at as read-at
-use Rattle.number.proofs.read_at.Symbol as read-at-def
-use Rattle.number.proofs.read_at.Symbol.{name as #number·read-at}
-use Rattle.number.proofs.read_at.Met as read-at-thm
+use Rattle.number.proofs.read as read
+use Rattle.number.proofs.read.Symbol as read-def
+use Rattle.number.proofs.read.Symbol.{name as #number·read}
+use Rattle.number.proofs.read.Met as read-thm
 use Rattle.number.proofs.next.Key.{name as #number·next}
 use Rattle.number.proofs.next as next
 use Rattle.number.proofs.next.Statement as stated
@@ -70,8 +70,8 @@ stayed = (stay-none B yes, tt)
 
 module _ {M : Type 1} (𝓤 : URA M) (H : Heap 𝓤) (A : Atoms 𝓤) (mem : Memory → SProp 𝓤) (run : Routine → Fun 𝓤) where
   -- the contract that the proof cites
-  abbrev ReadAt : Contract 𝓤
-  ReadAt = tripleOf 𝓤 H A read-at.signature (read-at.spec 𝓤 H A mem run)
+  abbrev Read : Contract 𝓤
+  Read = tripleOf 𝓤 H A read.signature (read.spec 𝓤 H A mem run)
 
 module _ {M : Type 1} (𝓤 : URA M) (H : Heap 𝓤) (A : Atoms 𝓤) (W : Given 𝓤 H A) (mem : Memory → SProp 𝓤) (run : Routine → Fun 𝓤)
     (κ : Lft) (q : Share) (d : Reader) where
@@ -102,10 +102,10 @@ module _ {M : Type 1} (𝓤 : URA M) (H : Heap 𝓤) (A : Atoms 𝓤) (W : Given
   vd = (d .file, (d .at, tt))
 
   -- what the callee is passed
-  abbrev passed : Vals read-at.signature (κ, tt)
+  abbrev passed : Vals read.signature (κ, tt)
   passed = (v ∷ [], (vint w64 (d .at) ∷ [], tt))
 
-  abbrev to : ReadAt 𝓤 H A mem run .Ghost
+  abbrev to : Read 𝓤 H A mem run .Ghost
   to = (((κ, tt), (q, tt), tt, (d .file, (d .at, tt)), passed), tt)
 
   -- what the walk starts from, and what the callee says
@@ -113,15 +113,15 @@ module _ {M : Type 1} (𝓤 : URA M) (H : Heap 𝓤) (A : Atoms 𝓤) (W : Given
   Entry = onEntry 𝓤 H A next.signature (κ, tt) (q, tt) (d, tt) (mach ∷ [], tt)
 
   abbrev Ensured : Number → SProp 𝓤
-  Ensured r = ensured 𝓤 H A read-at.ended (read-at.clauses 𝓤 H A mem run) (κ, tt) (d .file, (d .at, tt)) tt r
+  Ensured r = ensured 𝓤 H A read.ended (read.clauses 𝓤 H A mem run) (κ, tt) (d .file, (d .at, tt)) tt r
 
-  asked : ent 𝓤 (onEntry 𝓤 H A read-at.signature (κ, tt) (q, tt) (d .file, (d .at, tt)) passed) (ReadAt 𝓤 H A mem run .pre to)
+  asked : ent 𝓤 (onEntry 𝓤 H A read.signature (κ, tt) (q, tt) (d .file, (d .at, tt)) passed) (Read 𝓤 H A mem run .pre to)
   asked =
       qed W ((‵ (flft κ q) ⊛ ‵ ftrue) ∷ ‵ (owns (ShrSlice (named 0) κ u8 ∷ usize ∷ []) (d .file, (d .at, tt)) passed) ∷ []) ∵
       join ! $ frame ! $ done !
 
   -- what the struct owns gives what the callee asks, and is kept
-  apart : d .at < 2 ^ 64 → ent 𝓤 Entry (sep 𝓤 (ReadAt 𝓤 H A mem run .pre to) (sem 𝓤 H A Own))
+  apart : d .at < 2 ^ 64 → ent 𝓤 Entry (sep 𝓤 (Read 𝓤 H A mem run .pre to) (sem 𝓤 H A Own))
   apart fits =
       qed W ((‵ (flft κ q) ⊛ ‵ ftrue) ∷ ‵ (owns (B (κ, tt) ∷ []) (d, tt) (mach ∷ [], tt)) ∷ []) ∵
       move ! (1 ∷ []) $ fsplit ! $ move ! (1 ∷ []) $ drop ! $
@@ -130,11 +130,11 @@ module _ {M : Type 1} (𝓤 : URA M) (H : Heap 𝓤) (A : Atoms 𝓤) (W : Given
       use1 W (‵ (ownAt (D .parts) L 0 (d .file)) ⊛ ‵ (rest (D .parts) L 0 vd)) (own-out 𝓤 H A W (D .parts) L 0 vd) $ split ! $
       -- [what file owns; what at owns; what the struct owns; the token]
       move ! (1 ∷ []) $ drop ! $ nothing ! $ owned ! usize (Is usize) (uint-makes 𝓤 H A W w64) (d .at) _ (refl, fits) $ fjoin ! $
-      move ! (1 ∷ 0 ∷ []) $ fjoin ! $ move ! (2 ∷ 0 ∷ []) $ use2 W (raw (ReadAt 𝓤 H A mem run .pre to)) asked $ frame ! $ done !)
+      move ! (1 ∷ 0 ∷ []) $ fjoin ! $ move ! (2 ∷ 0 ∷ []) $ use2 W (raw (Read 𝓤 H A mem run .pre to)) asked $ frame ! $ done !)
 
   -- of the callee's `ensured`, the clause alone: it has no `&mut`, so what is said of last values is dropped
   said : (r : Number) → ent 𝓤 (Ensured r) (fact 𝓤 (r ≡ found))
-  said r = exE 𝓤 _ (λ ws. snd∗ 𝓤 (sem 𝓤 H A (lasts read-at.ended (κ, tt) (d .file, (d .at, tt)) ws)) (fact 𝓤 (r ≡ found)))
+  said r = exE 𝓤 _ (λ ws. snd∗ 𝓤 (sem 𝓤 H A (lasts read.ended (κ, tt) (d .file, (d .at, tt)) ws)) (fact 𝓤 (r ≡ found)))
 
   exits : (r : Number) (u : Val) → r ≡ found
       → ent 𝓤 (⋆ 𝓤 H A (‵ (S.the-row .own r (u ∷ [])) ∷ (‵ (flft κ q) ⊛ ‵ ftrue) ∷ ‵ Own ∷ [])) (Post u)
@@ -144,7 +144,7 @@ module _ {M : Type 1} (𝓤 : URA M) (H : Heap 𝓤) (A : Atoms 𝓤) (W : Given
       (((κ, tt), (q, tt), tt, (d, tt), (mach ∷ [], tt)), tt) u r (tt, tt) (tt, tt)) $ says ! e $
       move ! (1 ∷ []) $ frame ! $ nothing ! $ move ! (2 ∷ 0 ∷ []) $ fjoin ! $ frame ! $ done !
 
-  module _ (C : Calls 𝓤 H) (Λ : Loops 𝓤 H) (fm : FmC 𝓤 H (W .laws) C) (known : Triple 𝓤 (C #number·read-at) (ReadAt 𝓤 H A mem run)) where
+  module _ (C : Calls 𝓤 H) (Λ : Loops 𝓤 H) (fm : FmC 𝓤 H (W .laws) C) (known : Triple 𝓤 (C #number·read) (Read 𝓤 H A mem run)) where
     walk : Holds (hasTy (T′.mir (named 0)) mach) × WT mach
         → ent 𝓤 Entry (WpFn 𝓤 H C Λ code.function (mach ∷ []) Post)
     walk wt =
@@ -154,8 +154,8 @@ module _ {M : Type 1} (𝓤 : URA M) (H : Heap 𝓤) (A : Atoms 𝓤) (W : Given
         (from ! (stop !)) (init ! 2 refl (tt, wt .1 .0)) $
         assigns ! (of-opd ! (load ! (from ! (fld ! refl (stop !))) (look-in ! 4 (sub ! 1 refl (whole !)))))
         (from ! (stop !)) (init ! 0 refl (tt, wt .1 .1 .0)) $
-        move ! (8 ∷ []) $ use1 W (raw (ReadAt 𝓤 H A mem run .pre to) ⊛ ‵ Own) (apart (wt .1 .1 .0 .fits)) $ split ! $
-        calls-at ! fm (ReadAt 𝓤 H A mem run) known to
+        move ! (8 ∷ []) $ use1 W (raw (Read 𝓤 H A mem run .pre to) ⊛ ‵ Own) (apart (wt .1 .1 .0 .fits)) $ split ! $
+        calls-at ! fm (Read 𝓤 H A mem run) known to
         (and-then ! (load ! (from ! (stop !)) (look ! 4 refl)) (and-then ! (load ! (from ! (stop !)) (look ! 2 refl)) (no-more !))) (λ u.
         use1 W (later (some (λ (r : Number). ((‵ (flft κ q) ⊛ ‵ ftrue) ⊛ ‵ (S.the-row .own r (u ∷ [])))
         ⊛ raw (Ensured r)))) (id⊢ 𝓤 _) $ await ! tt $ pick ! (λ r.
@@ -170,7 +170,7 @@ module _ {M : Type 1} (𝓤 : URA M) (H : Heap 𝓤) (A : Atoms 𝓤) (W : Given
         by ! (exits r u e)))))))))
 
 module _ {M : Type 1} (𝓤 : URA M) (H : Heap 𝓤) (A : Atoms 𝓤) (W : Given 𝓤 H A) (mem : Memory → SProp 𝓤) (run : Routine → Fun 𝓤) where
-  next-walks : (C : Calls 𝓤 H) (Λ : Loops 𝓤 H) → FmC 𝓤 H (W .laws) C → Triple 𝓤 (C #number·read-at) (ReadAt 𝓤 H A mem run)
+  next-walks : (C : Calls 𝓤 H) (Λ : Loops 𝓤 H) → FmC 𝓤 H (W .laws) C → Triple 𝓤 (C #number·read) (Read 𝓤 H A mem run)
       → Walks 𝓤 H A next.ended stayed (WpFn 𝓤 H C Λ code.function) (next.clauses 𝓤 H A mem run)
   next-walks C Λ fm known = walked 𝓤 H A next.ended stayed (next.clauses 𝓤 H A mem run) (WpFn 𝓤 H C Λ code.function)
       (λ κs. (LL.vals (T.the-type (namedLft 1 0 tt κs)) (T′.the-laws (namedLft 1 0 tt κs)), tt))
@@ -180,7 +180,7 @@ module _ {M : Type 1} (𝓤 : URA M) (H : Heap 𝓤) (A : Atoms 𝓤) (W : Given
 
 next-meets : {M : Type 1} (𝓤 : URA M) (H : Heap 𝓤) (A : Atoms 𝓤) (W : Given 𝓤 H A)
     (mem : Memory → SProp 𝓤) (run : Routine → Fun 𝓤) (𝓣 : Tables 𝓤 H)
-    → Triple 𝓤 (𝓣 .C #number·read-at) (ReadAt 𝓤 H A mem run)
+    → Triple 𝓤 (𝓣 .C #number·read) (Read 𝓤 H A mem run)
     → Meets 𝓤 H A next.signature (WpFn 𝓤 H (𝓣 .C) (𝓣 .Λ) code.function) (next.spec 𝓤 H A mem run)
 next-meets 𝓤 H A W mem run 𝓣 known =
     walk-meets 𝓤 H A next.ended stayed W (goes-none 𝓤 H A W 1 B yes (λ κs x f. refl), tt)
@@ -193,5 +193,5 @@ next-spec 𝓤 H 𝓜 𝓖 𝓡 =
     entered 𝓤 H (tripleOf 𝓤 H (𝓖 .A) next.signature (next.spec 𝓤 H (𝓖 .A) (𝓜 .mem) (𝓡 .run)))
     (tables 𝓤 H 𝓜 𝓡 code.env .C) (tables 𝓤 H 𝓜 𝓡 code.env .Λ) #number·next code.function (code.unfolded 𝓤 H 𝓜 𝓡)
     (next-meets 𝓤 H (𝓖 .A) (givenOf 𝓤 H 𝓜 𝓖) (𝓜 .mem) (𝓡 .run) (tablesOf 𝓤 H 𝓜 (tables 𝓤 H 𝓜 𝓡 code.env))
-    (cited 𝓤 H (ReadAt 𝓤 H (𝓖 .A) (𝓜 .mem) (𝓡 .run)) 𝓜 𝓡 code.env #number·read-at read-at-def.routine
-    code.calls-number·read-at (read-at-thm.met 𝓤 H 𝓜 𝓖 𝓡)))
+    (cited 𝓤 H (Read 𝓤 H (𝓖 .A) (𝓜 .mem) (𝓡 .run)) 𝓜 𝓡 code.env #number·read read-def.routine
+    code.calls-number·read (read-thm.met 𝓤 H 𝓜 𝓖 𝓡)))

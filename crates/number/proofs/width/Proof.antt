@@ -17,9 +17,6 @@ loop-holds c = count-start _ (omega arith)
 add-n : tie.Need-add-n Inv-loop μ-loop
 add-n c = omega (arith, count-few (c .before .loop .inv))
 
-loop-less : tie.Need-loop-less Inv-loop μ-loop
-loop-less c = search needs
-
 loop-again : tie.Need-loop-again Inv-loop μ-loop
 loop-again c = count-next (c .before .loop .inv) (c .loop-test .taken)
 
@@ -27,4 +24,11 @@ returns : tie.Need-returns Inv-loop μ-loop
 returns c = count-end (c .before .loop .inv) (c .loop-test .left)
 
 pub width-spec : {M : Type 1} → statement M
-width-spec = tie.close (tie.spec Inv-loop μ-loop loop-holds add-n loop-less loop-again returns)
+width-spec = tie.close (tie.spec
+    Inv-loop
+    μ-loop
+    loop-holds
+    add-n
+    (λ c. search needs)
+    loop-again
+    returns)

@@ -14,54 +14,28 @@ abbrev μ-loop : tie.MeasureT-loop
 loop-holds : tie.Need-loop-holds Inv-loop μ-loop
 loop-holds c = write-start _ _ _ (omega arith) (c .pre)
 
-add-out : tie.Need-add-out Inv-loop μ-loop
-add-out c = search needs
-
-cast-out : tie.Need-cast-out Inv-loop μ-loop
-cast-out c = search needs
-
 slice-write-out : tie.Need-slice-write-out Inv-loop μ-loop
 slice-write-out c = write-inside (c .before .loop .inv)
-
-add-at : tie.Need-add-at Inv-loop μ-loop
-add-at c = search needs
-
-loop-less : tie.Need-loop-less Inv-loop μ-loop
-loop-less c = search needs
 
 loop-again : tie.Need-loop-again Inv-loop μ-loop
 loop-again c = write-next (c .before .loop .inv) (c .loop-test .taken)
 
-cast-out-2 : tie.Need-cast-out-2 Inv-loop μ-loop
-cast-out-2 c = search needs
-
 slice-write-out-2 : tie.Need-slice-write-out-2 Inv-loop μ-loop
 slice-write-out-2 c = write-inside (c .before .loop .inv)
-
-add-t13 : tie.Need-add-t13 Inv-loop μ-loop
-add-t13 c = search needs
-
-same-length : tie.Need-same-length Inv-loop μ-loop
-same-length c = search needs
 
 returns : tie.Need-returns Inv-loop μ-loop
 returns c = write-end (c .before .loop .inv) (c .loop-test .left)
 
 pub write-spec : {M : Type 1} → statement M
-write-spec =
-    tie.close
-    (tie.spec
+write-spec = tie.close (tie.spec
     Inv-loop
     μ-loop
     loop-holds
-    add-out
-    cast-out
+    (λ c. search needs) (λ c. search needs)
     slice-write-out
-    add-at
-    loop-less
+    (λ c. search needs) (λ c. search needs)
     loop-again
-    cast-out-2
+    (λ c. search needs)
     slice-write-out-2
-    add-t13
-    same-length
+    (λ c. search needs) (λ c. search needs)
     returns)

@@ -5,18 +5,6 @@ use Rattle.saved.proofs.Slots.{entry-fits, tabled-size, count-at}
 use Rattle.saved.proofs.arrow_count.Statement.{statement}
 use Rattle.saved.proofs.arrow_count.Tie as tie
 
-add-result : tie.Need-add-result
-add-result c = search needs
-
-mul-result : tie.Need-mul-result
-mul-result c = search needs
-
-add-result-2 : tie.Need-add-result-2
-add-result-2 c = search needs
-
-mul-result-2 : tie.Need-mul-result-2
-mul-result-2 c = search needs
-
 shared-slice-read-result : tie.Need-shared-slice-read-result
 shared-slice-read-result c =
     let at-start = c .before in
@@ -33,13 +21,8 @@ returns c =
     count-at (at-start .pre)
 
 pub arrow-count-spec : {M : Type 1} → statement M
-arrow-count-spec =
-    tie.close
-    (tie.spec
-    add-result
-    mul-result
-    add-result-2
-    mul-result-2
+arrow-count-spec = tie.close (tie.spec
+    (λ c. search needs) (λ c. search needs) (λ c. search needs) (λ c. search needs)
     shared-slice-read-result
     cast-result
     returns)

@@ -14,35 +14,11 @@ Inv-loop word table m count edition-width m-width count-width size₀ from₀ sl
 abbrev μ-loop : tie.MeasureT-loop
 μ-loop word table m count edition-width m-width count-width size₀ from₀ slot₀ size from slot = count - slot
 
-arrow-count-requires : tie.Need-arrow-count-requires Inv-loop μ-loop
-arrow-count-requires c κs = search needs
-
-width-requires : tie.Need-width-requires Inv-loop μ-loop
-width-requires c κs = search needs
-
-cast-width : tie.Need-cast-width Inv-loop μ-loop
-cast-width c = search needs
-
-width-requires-2 : tie.Need-width-requires-2 Inv-loop μ-loop
-width-requires-2 c κs = search needs
-
 cast-width-2 : tie.Need-cast-width-2 Inv-loop μ-loop
 cast-width-2 c =
     let at-arrow-count = c .before .before in
     let at-start = at-arrow-count .before .before .before in
     omega (arith, at-arrow-count .arrow-count .ensures, own-few (at-start .args .word .now))
-
-width-requires-3 : tie.Need-width-requires-3 Inv-loop μ-loop
-width-requires-3 c κs = search needs
-
-add-size : tie.Need-add-size Inv-loop μ-loop
-add-size c = search needs
-
-add-size-2 : tie.Need-add-size-2 Inv-loop μ-loop
-add-size-2 c = search needs
-
-add-size-3 : tie.Need-add-size-3 Inv-loop μ-loop
-add-size-3 c = search needs
 
 loop-holds : tie.Need-loop-holds Inv-loop μ-loop
 loop-holds c =
@@ -60,26 +36,11 @@ next-step-requires c κs =
     let at-start = at-arrow-count .before .before .before in
     (at-start .pre, (omega (arith, at-arrow-count .arrow-count .ensures), at-loop .loop .inv .stands))
 
-width-requires-4 : tie.Need-width-requires-4 Inv-loop μ-loop
-width-requires-4 c κs = search needs
-
-width-requires-5 : tie.Need-width-requires-5 Inv-loop μ-loop
-width-requires-5 c κs = search needs
-
-add-size-4 : tie.Need-add-size-4 Inv-loop μ-loop
-add-size-4 c = search needs
-
 add-size-5 : tie.Need-add-size-5 Inv-loop μ-loop
 add-size-5 c =
     let at-loop = c .before .before .before .before in
     let at-start = at-loop .before .before .before .before .before .before .before in
     omega (arith, size-fits (at-loop .loop .inv) (at-start .pre))
-
-add-slot : tie.Need-add-slot Inv-loop μ-loop
-add-slot c = search needs
-
-loop-less : tie.Need-loop-less Inv-loop μ-loop
-loop-less c = search needs
 
 loop-again : tie.Need-loop-again Inv-loop μ-loop
 loop-again c =
@@ -96,27 +57,16 @@ returns c =
     size-end (at-loop .loop .inv) (omega (arith, at-arrow-count .arrow-count .ensures))
 
 pub file-size-spec : {M : Type 1} → statement M
-file-size-spec =
-    tie.close
-    (tie.spec
+file-size-spec = tie.close (tie.spec
     Inv-loop
     μ-loop
-    arrow-count-requires
-    width-requires
-    cast-width
-    width-requires-2
+    (λ c κs. search needs) (λ c κs. search needs) (λ c. search needs) (λ c κs. search needs)
     cast-width-2
-    width-requires-3
-    add-size
-    add-size-2
-    add-size-3
+    (λ c κs. search needs) (λ c. search needs) (λ c. search needs) (λ c. search needs)
     loop-holds
     next-step-requires
-    width-requires-4
-    width-requires-5
-    add-size-4
+    (λ c κs. search needs) (λ c κs. search needs) (λ c. search needs)
     add-size-5
-    add-slot
-    loop-less
+    (λ c. search needs) (λ c. search needs)
     loop-again
     returns)

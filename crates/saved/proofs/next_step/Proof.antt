@@ -14,27 +14,6 @@ Inv-loop word table slot n before x₀ x = (before ≤ x) × Standing word x slo
 abbrev μ-loop : tie.MeasureT-loop
 μ-loop word table slot n before x₀ x = length word - x
 
-add-n : tie.Need-add-n Inv-loop μ-loop
-add-n c = search needs
-
-cast-before : tie.Need-cast-before Inv-loop μ-loop
-cast-before c = search needs
-
-loop-holds : tie.Need-loop-holds Inv-loop μ-loop
-loop-holds c = search needs
-
-mul-if1 : tie.Need-mul-if1 Inv-loop μ-loop
-mul-if1 c = search needs
-
-add-if1 : tie.Need-add-if1 Inv-loop μ-loop
-add-if1 c = search needs
-
-add-if1-2 : tie.Need-add-if1-2 Inv-loop μ-loop
-add-if1-2 c = search needs
-
-mul-if1-2 : tie.Need-mul-if1-2 Inv-loop μ-loop
-mul-if1-2 c = search needs
-
 shared-slice-read-if1 : tie.Need-shared-slice-read-if1 Inv-loop μ-loop
 shared-slice-read-if1 c =
     let at-loop = c .before in
@@ -62,9 +41,6 @@ loop-again c =
     let at-start = at-loop .before .before in
     (omega arith, stand-next (at-start .pre .0) (at-loop .loop .inv .1) (at-start .pre .1 .0) (c .if1 .taken))
 
-mul-y : tie.Need-mul-y Inv-loop μ-loop
-mul-y c = search needs
-
 add-y : tie.Need-add-y Inv-loop μ-loop
 add-y c =
     let at-start = c .before .before .before .before in
@@ -84,12 +60,6 @@ cast-y : tie.Need-cast-y Inv-loop μ-loop
 cast-y c =
     let at-start = c .before .before .before .before .before in
     entry-fits (at-start .args .table .now) (c .shared-slice-known2 .given) _
-
-sub-t9 : tie.Need-sub-t9 Inv-loop μ-loop
-sub-t9 c = search needs
-
-cast-t22 : tie.Need-cast-t22 Inv-loop μ-loop
-cast-t22 c = search needs
 
 sub-t18 : tie.Need-sub-t18 Inv-loop μ-loop
 sub-t18 c =
@@ -112,9 +82,6 @@ cast-t23 c =
     let at-start = at-loop .before .before in
     omega (arith, target-climbs (at-start .pre .0) (at-loop .loop .inv .1) (at-start .pre .1 .0) (at-if1 .if1 .left))
 
-cast-t21 : tie.Need-cast-t21 Inv-loop μ-loop
-cast-t21 c = search needs
-
 returns : tie.Need-returns Inv-loop μ-loop
 returns c =
     let at-if1 = c .before in
@@ -123,32 +90,24 @@ returns c =
     leapt (at-start .pre .0) (at-loop .loop .inv .1) (at-start .pre .1 .0) (at-if1 .if1 .left)
 
 pub next-step-spec : {M : Type 1} → statement M
-next-step-spec =
-    tie.close
-    (tie.spec
+next-step-spec = tie.close (tie.spec
     Inv-loop
     μ-loop
-    add-n
-    cast-before
-    loop-holds
-    mul-if1
-    add-if1
-    add-if1-2
-    mul-if1-2
+    (λ c. search needs) (λ c. search needs) (λ c. search needs) (λ c. search needs) (λ c. search needs) (λ c. search needs)
+    (λ c. search needs)
     shared-slice-read-if1
     cast-if1
     add-x
     loop-less
     loop-again
-    mul-y
+    (λ c. search needs)
     add-y
     mul-y-2
     shared-slice-read-y
     cast-y
-    sub-t9
-    cast-t22
+    (λ c. search needs) (λ c. search needs)
     sub-t18
     sub-t19
     cast-t23
-    cast-t21
+    (λ c. search needs)
     returns)

@@ -17,16 +17,10 @@ Inv-loop word table out₀ m count start end at₀ from₀ slot₀ out at from s
 abbrev μ-loop : tie.MeasureT-loop
 μ-loop word table out₀ m count start end at₀ from₀ slot₀ out at from slot = count - slot
 
-arrow-count-requires : tie.Need-arrow-count-requires Inv-loop μ-loop
-arrow-count-requires c κs = search needs
-
 write-requires : tie.Need-write-requires Inv-loop μ-loop
 write-requires c κs =
     let at-start = c .before .before .before .before .before in
     room-edition (at-start .args .word .now) (at-start .args .out .now) (at-start .pre .1)
-
-cast-write : tie.Need-cast-write Inv-loop μ-loop
-cast-write c = search needs
 
 write-requires-2 : tie.Need-write-requires-2 Inv-loop μ-loop
 write-requires-2 c κs =
@@ -41,21 +35,12 @@ add-end c =
     let at-start = at-write .before .before .before .before .before .before in
     omega (arith, room-letters _ _ (at-start .pre .1) (at-write .write .ensures) (at-write2 .write2 .ensures))
 
-sub-put-letters : tie.Need-sub-put-letters Inv-loop μ-loop
-sub-put-letters c = search needs
-
-part-put-letters-start : tie.Need-part-put-letters-start Inv-loop μ-loop
-part-put-letters-start c = search needs
-
 part-put-letters-end : tie.Need-part-put-letters-end Inv-loop μ-loop
 part-put-letters-end c =
     let at-write2 = c .before .before in
     let at-write = at-write2 .before .before .before .before in
     let at-start = at-write .before .before .before .before .before .before in
     room-letters _ _ (at-start .pre .1) (at-write .write .ensures) (at-write2 .write2 .ensures)
-
-put-letters-requires : tie.Need-put-letters-requires Inv-loop μ-loop
-put-letters-requires c κs = search needs
 
 cast-write-2 : tie.Need-cast-write-2 Inv-loop μ-loop
 cast-write-2 c =
@@ -115,9 +100,6 @@ add-slot c =
     let at-start = at-arrow-count .before .before .before .before in
     omega (arith, at-loop-test .loop-test .taken, at-arrow-count .arrow-count .ensures, own-few (at-start .args .word .now))
 
-loop-less : tie.Need-loop-less Inv-loop μ-loop
-loop-less c = search needs
-
 loop-again : tie.Need-loop-again Inv-loop μ-loop
 loop-again c =
     let at-write5 = c .before .before .before in
@@ -152,20 +134,17 @@ returns c =
     (omega (arith, at-arrow-count .arrow-count .ensures))
 
 pub write-file-spec : {M : Type 1} → statement M
-write-file-spec =
-    tie.close
-    (tie.spec
+write-file-spec = tie.close (tie.spec
     Inv-loop
     μ-loop
-    arrow-count-requires
+    (λ c κs. search needs)
     write-requires
-    cast-write
+    (λ c. search needs)
     write-requires-2
     add-end
-    sub-put-letters
-    part-put-letters-start
+    (λ c. search needs) (λ c. search needs)
     part-put-letters-end
-    put-letters-requires
+    (λ c κs. search needs)
     cast-write-2
     write-requires-3
     loop-holds
@@ -173,7 +152,7 @@ write-file-spec =
     write-requires-4
     write-requires-5
     add-slot
-    loop-less
+    (λ c. search needs)
     loop-again
     same-length
     returns)

@@ -1,43 +1,24 @@
+-- `search::scan` meets its contract: before each window `SoFar` holds, that is, what is counted and listed is what the steps up to there
+-- count and list. The measure is how much of the text lies behind the window's start.
 use Prim.Native.Nat.{_-_}
+use native.Mathlib.Omega.{arith}
 use lib.ListN.{length}
+use borrow.Author.Needs.{needs}
 use Rattle.table.specs.Table.{readArrow}
 use Rattle.backward.proofs.AfterFind.{after-moves, after-most}
-use Rattle.search.proofs.SoFar.{SoFar, so-far-start, so-far-length, so-far-end, letters-fit, find-fits, so-far-find, fails-inside, so-far-miss}
-use native.Mathlib.Omega.{arith}
-use borrow.Author.Needs.{needs}
+use Rattle.search.proofs.SoFar.{SoFar, so-far-start, so-far-length, so-far-end, so-far-find, so-far-miss}
+use Rattle.search.proofs.SoFar.{letters-fit, find-fits, fails-inside}
 use Rattle.search.proofs.scan.Statement.{statement}
 use Rattle.search.proofs.scan.Tie as tie
-use Rattle.search.proofs.scan.Reads as reads
-use Rattle.search.proofs.scan.Lts as lts
-use Rattle.search.proofs.read_window.Reads as read-window-reads
-use Rattle.search.proofs.step_after_find.Reads as step-after-find-reads
 
 abbrev Inv-window : tie.InvT-window
-Inv-window word table text finds₀ m n step s₀ count₀ letters₀ finds s count letters = SoFar (readArrow m table) word text finds₀ finds (s .0) count letters
+Inv-window word table text finds₀ m n step s₀ count₀ letters₀ finds s count letters =
+    SoFar (readArrow m table) word text finds₀ finds (s .0) count letters
 
 abbrev μ-window : tie.MeasureT-window
 μ-window word table text finds₀ m n step s₀ count₀ letters₀ finds s count letters = length text - s .0
 
-step-after-find-requires : tie.Need-step-after-find-requires Inv-window μ-window
-step-after-find-requires c κs = search needs
-
-window-holds : tie.Need-window-holds Inv-window μ-window
-window-holds c = so-far-start
-
-cast-if1 : tie.Need-cast-if1 Inv-window μ-window
-cast-if1 c = search needs
-
-add-if1 : tie.Need-add-if1 Inv-window μ-window
-add-if1 c = search needs
-
-read-window-requires : tie.Need-read-window-requires Inv-window μ-window
-read-window-requires c κs = search needs
-
-enum-known-f : tie.Need-enum-known-f Inv-window μ-window
-enum-known-f c = search needs
-
-enum-told : tie.Need-enum-told Inv-window μ-window
-enum-told c = search needs
+-- ── A find ─────────────────────────────────────────────────────────────────
 
 add-letters : tie.Need-add-letters Inv-window μ-window
 add-letters c =
@@ -46,17 +27,13 @@ add-letters c =
     let at-window = at-if1 .before .before in
     let at-start = at-window .before .before .before .before .before .before in
     let told = c .enum-told .given .1 in
-    omega (arith, find-fits (at-window .window .inv) (at-if1 .if1 .taken) _ (at-read-window .read-window .ensures) told (at-start .pre .1 .small) (at-start .pre .0 .1))
-
-note-requires : tie.Need-note-requires Inv-window μ-window
-note-requires c κs = search needs
-
-cast-on : tie.Need-cast-on Inv-window μ-window
-cast-on c = search needs
+    let fits = find-fits (at-window .window .inv) (at-if1 .if1 .taken) _ (at-read-window .read-window .ensures) told in
+    omega (arith, fits (at-start .pre .1 .small) (at-start .pre .0 .1))
 
 add-on : tie.Need-add-on Inv-window μ-window
 add-on c =
-    let at-start = c .before .before .before .before .before .before .before .before .before .before .before .before .before .before .before .before in
+    let at-window = c .before .before .before .before .before .before .before .before .before .before in
+    let at-start = at-window .before .before .before .before .before .before in
     omega (arith, after-most (at-start .args .word .now) (at-start .pre .0 .0))
 
 cast-on-2 : tie.Need-cast-on-2 Inv-window μ-window
@@ -83,6 +60,8 @@ window-again c =
     so-far-find (at-window .window .inv) (at-if1 .if1 .taken) _ (at-read-window .read-window .ensures) (at-enum-told .enum-told .given .1)
     (at-start .pre .0 .0) (at-step-after-find .step-after-find .ensures) (at-note .note .ensures .0) (at-note .note .ensures .1)
 
+-- ── A letter without an arrow ──────────────────────────────────────────────
+
 add-t23 : tie.Need-add-t23 Inv-window μ-window
 add-t23 c =
     let at-f = c .before .before in
@@ -90,17 +69,9 @@ add-t23 c =
     let at-if1 = at-read-window .before in
     let at-window = at-if1 .before .before in
     let at-start = at-window .before .before .before .before .before .before in
-    let inside = fails-inside (at-window .window .inv) (at-if1 .if1 .taken) _ (at-read-window .read-window .ensures) _ (at-f .f .given .1) in
+    let read = at-read-window .read-window .ensures in
+    let inside = fails-inside (at-window .window .inv) (at-if1 .if1 .taken) _ read _ (at-f .f .given .1) in
     omega (arith, at-start .pre .0 .1)
-
-cast-letters : tie.Need-cast-letters Inv-window μ-window
-cast-letters c = search needs
-
-add-letters-2 : tie.Need-add-letters-2 Inv-window μ-window
-add-letters-2 c = search needs
-
-cast-letters-2 : tie.Need-cast-letters-2 Inv-window μ-window
-cast-letters-2 c = search needs
 
 sub-letters : tie.Need-sub-letters Inv-window μ-window
 sub-letters c =
@@ -108,7 +79,8 @@ sub-letters c =
     let at-read-window = at-f .before .before in
     let at-if1 = at-read-window .before in
     let at-window = at-if1 .before .before in
-    let inside = fails-inside (at-window .window .inv) (at-if1 .if1 .taken) _ (at-read-window .read-window .ensures) _ (at-f .f .given .1) in
+    let read = at-read-window .read-window .ensures in
+    let inside = fails-inside (at-window .window .inv) (at-if1 .if1 .taken) _ read _ (at-f .f .given .1) in
     omega arith
 
 add-letters-3 : tie.Need-add-letters-3 Inv-window μ-window
@@ -118,7 +90,8 @@ add-letters-3 c =
     let at-if1 = at-read-window .before in
     let at-window = at-if1 .before .before in
     let at-start = at-window .before .before .before .before .before .before in
-    let missed = so-far-miss (at-window .window .inv) (at-if1 .if1 .taken) _ (at-read-window .read-window .ensures) _ (at-f .f .given .1) in
+    let read = at-read-window .read-window .ensures in
+    let missed = so-far-miss (at-window .window .inv) (at-if1 .if1 .taken) _ read _ (at-f .f .given .1) in
     omega (arith, letters-fit missed (at-start .pre .1 .small) (at-start .pre .0 .1))
 
 window-less-2 : tie.Need-window-less-2 Inv-window μ-window
@@ -128,7 +101,8 @@ window-less-2 c =
     let at-if1 = at-read-window .before in
     let at-window = at-if1 .before .before in
     let at-start = at-window .before .before .before .before .before .before in
-    let inside = fails-inside (at-window .window .inv) (at-if1 .if1 .taken) _ (at-read-window .read-window .ensures) _ (at-f .f .given .1) in
+    let read = at-read-window .read-window .ensures in
+    let inside = fails-inside (at-window .window .inv) (at-if1 .if1 .taken) _ read _ (at-f .f .given .1) in
     omega (arith, at-start .pre .0 .0)
 
 window-again-2 : tie.Need-window-again-2 Inv-window μ-window
@@ -139,43 +113,24 @@ window-again-2 c =
     let at-window = at-if1 .before .before in
     so-far-miss (at-window .window .inv) (at-if1 .if1 .taken) _ (at-read-window .read-window .ensures) _ (at-f .f .given .1)
 
-same-length : tie.Need-same-length Inv-window μ-window
-same-length c =
-    let at-window = c .before .before in
-    so-far-length (at-window .window .inv)
-
-returns : tie.Need-returns Inv-window μ-window
-returns c =
-    let at-window = c .before .before in
-    so-far-end (at-window .window .inv) (c .if1 .left)
-
 pub scan-spec : {M : Type 1} → statement M
-scan-spec =
-    tie.close
-    (tie.spec
+scan-spec = tie.close (tie.spec
     Inv-window
     μ-window
-    step-after-find-requires
-    window-holds
-    cast-if1
-    add-if1
-    read-window-requires
-    enum-known-f
-    enum-told
+    (λ c κs. search needs)
+    (λ c. so-far-start)
+    (λ c. search needs) (λ c. search needs) (λ c κs. search needs) (λ c. search needs) (λ c. search needs)
     add-letters
-    note-requires
-    cast-on
+    (λ c κs. search needs) (λ c. search needs)
     add-on
     cast-on-2
     window-less
     window-again
     add-t23
-    cast-letters
-    add-letters-2
-    cast-letters-2
+    (λ c. search needs) (λ c. search needs) (λ c. search needs)
     sub-letters
     add-letters-3
     window-less-2
     window-again-2
-    same-length
-    returns)
+    (λ c. so-far-length (c .before .before .window .inv))
+    (λ c. so-far-end (c .before .before .window .inv) (c .if1 .left)))

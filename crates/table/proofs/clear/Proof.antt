@@ -17,10 +17,7 @@ clear-spec = tie.close (tie.spec
     Inv-loop
     μ-loop
     (λ c. clear-start _)
-    (λ c. search needs)
-    (λ c. search needs)
-    (λ c. search needs)
-    (λ c. search needs)
+    (λ c. search needs) (λ c. search needs) (λ c. search needs) (λ c. search needs)
     (λ c. clear-step (c .before .loop .inv) (c .loop-test .taken))
     (λ c. c .before .loop .inv .size)
     (λ c. clear-end (c .before .loop .inv) (c .loop-test .left)))

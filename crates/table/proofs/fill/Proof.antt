@@ -1,3 +1,5 @@
+-- `table::fill` meets its contract: with the word in a cleared table letters can be added (`word-blank`), and the word that stands there is
+-- the one written (`word-put`).
 use mathlib.Core.Path.{refl, ap, _∙_}
 use native.Mathlib.Omega.{arith}
 use borrow.Author.Needs.{needs}
@@ -5,29 +7,6 @@ use Rattle.table.specs.Table.{tableOf}
 use Rattle.table.proofs.Filling.{word-blank, word-put}
 use Rattle.table.proofs.fill.Statement.{statement}
 use Rattle.table.proofs.fill.Tie as tie
-use Rattle.table.proofs.fill.Reads as reads
-use Rattle.table.proofs.fill.Lts as lts
-use Rattle.table.proofs.clear.Reads as clear-reads
-use Rattle.table.proofs.finish.Reads as finish-reads
-use Rattle.table.proofs.put_word.Reads as put-word-reads
-
-clear-requires : tie.Need-clear-requires
-clear-requires c κs = search needs
-
-add-end : tie.Need-add-end
-add-end c = search needs
-
-sub-put-word : tie.Need-sub-put-word
-sub-put-word c = search needs
-
-part-put-word-start : tie.Need-part-put-word-start
-part-put-word-start c = search needs
-
-part-put-word-end : tie.Need-part-put-word-end
-part-put-word-end c = search needs
-
-put-word-requires : tie.Need-put-word-requires
-put-word-requires c κs = search needs
 
 finish-requires : tie.Need-finish-requires
 finish-requires c κs =
@@ -36,10 +15,8 @@ finish-requires c κs =
     let at-shared-slice-known = at-clear .before .before .before in
     let at-start = at-shared-slice-known .before in
     let put = at-put-word .put-word .ensures in
-    (at-start .pre .0, word-blank (at-start .pre .1) (at-clear .clear .ensures) put refl (λ i h. omega (arith, at-shared-slice-known .shared-slice-known .given i)))
-
-same-length : tie.Need-same-length
-same-length c = search needs
+    let blank = word-blank (at-start .pre .1) (at-clear .clear .ensures) put refl in
+    (at-start .pre .0, blank (λ i h. omega (arith, at-shared-slice-known .shared-slice-known .given i)))
 
 returns : tie.Need-returns
 returns c =
@@ -50,15 +27,9 @@ returns c =
     at-finish .finish .ensures ∙ ap tableOf (word-put (at-start .pre .1) (at-clear .clear .ensures) (at-put-word .put-word .ensures) refl)
 
 pub fill-spec : {M : Type 1} → statement M
-fill-spec =
-    tie.close
-    (tie.spec
-    clear-requires
-    add-end
-    sub-put-word
-    part-put-word-start
-    part-put-word-end
-    put-word-requires
+fill-spec = tie.close (tie.spec
+    (λ c κs. search needs) (λ c. search needs) (λ c. search needs) (λ c. search needs) (λ c. search needs)
+    (λ c κs. search needs)
     finish-requires
-    same-length
+    (λ c. search needs)
     returns)

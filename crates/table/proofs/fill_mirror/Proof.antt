@@ -1,3 +1,4 @@
+-- `table::fill_mirror` meets its contract, as `fill` does: a mirror's letters are bytes too.
 use mathlib.Core.Path.{ap, _∙_}
 use native.Mathlib.Omega.{arith}
 use lib.ListN.{length-reverse}
@@ -7,29 +8,6 @@ use Rattle.table.proofs.Filling.{word-blank, word-put}
 use Rattle.table.proofs.Copying.{mirror-small}
 use Rattle.table.proofs.fill_mirror.Statement.{statement}
 use Rattle.table.proofs.fill_mirror.Tie as tie
-use Rattle.table.proofs.fill_mirror.Reads as reads
-use Rattle.table.proofs.fill_mirror.Lts as lts
-use Rattle.table.proofs.clear.Reads as clear-reads
-use Rattle.table.proofs.finish.Reads as finish-reads
-use Rattle.table.proofs.put_mirror.Reads as put-mirror-reads
-
-clear-requires : tie.Need-clear-requires
-clear-requires c κs = search needs
-
-add-end : tie.Need-add-end
-add-end c = search needs
-
-sub-put-mirror : tie.Need-sub-put-mirror
-sub-put-mirror c = search needs
-
-part-put-mirror-start : tie.Need-part-put-mirror-start
-part-put-mirror-start c = search needs
-
-part-put-mirror-end : tie.Need-part-put-mirror-end
-part-put-mirror-end c = search needs
-
-put-mirror-requires : tie.Need-put-mirror-requires
-put-mirror-requires c κs = search needs
 
 finish-requires : tie.Need-finish-requires
 finish-requires c κs =
@@ -39,10 +17,8 @@ finish-requires c κs =
     let at-start = at-shared-slice-known .before in
     let w = at-start .args .word .now in
     let small = mirror-small w (λ i. omega (arith, at-shared-slice-known .shared-slice-known .given i)) in
-    (at-start .pre .0, word-blank (at-start .pre .1) (at-clear .clear .ensures) (at-put-mirror .put-mirror .ensures) (length-reverse w) small)
-
-same-length : tie.Need-same-length
-same-length c = search needs
+    let put = at-put-mirror .put-mirror .ensures in
+    (at-start .pre .0, word-blank (at-start .pre .1) (at-clear .clear .ensures) put (length-reverse w) small)
 
 returns : tie.Need-returns
 returns c =
@@ -51,18 +27,13 @@ returns c =
     let at-clear = at-put-mirror .before .before .before .before in
     let at-start = at-clear .before .before .before .before in
     let same-size = length-reverse (at-start .args .word .now) in
-    at-finish .finish .ensures ∙ ap tableOf (word-put (at-start .pre .1) (at-clear .clear .ensures) (at-put-mirror .put-mirror .ensures) same-size)
+    let put = at-put-mirror .put-mirror .ensures in
+    at-finish .finish .ensures ∙ ap tableOf (word-put (at-start .pre .1) (at-clear .clear .ensures) put same-size)
 
 pub fill-mirror-spec : {M : Type 1} → statement M
-fill-mirror-spec =
-    tie.close
-    (tie.spec
-    clear-requires
-    add-end
-    sub-put-mirror
-    part-put-mirror-start
-    part-put-mirror-end
-    put-mirror-requires
+fill-mirror-spec = tie.close (tie.spec
+    (λ c κs. search needs) (λ c. search needs) (λ c. search needs) (λ c. search needs) (λ c. search needs)
+    (λ c κs. search needs)
     finish-requires
-    same-length
+    (λ c. search needs)
     returns)

@@ -1,5 +1,5 @@
--- `table::put_mirror` meets its contract: the law of copying, from the mirror, whose letters are read from the word's end. The measure is how
--- many letters are left.
+-- `table::put_mirror` meets its contract: the law of copying, from the mirror, whose letters are read from the word's end. The measure is
+-- how many letters are left.
 use mathlib.Core.Path.{sym, _∙_}
 use Prim.Native.Nat.{_-_}
 use native.Mathlib.Omega.{arith}
@@ -35,14 +35,9 @@ put-mirror-spec = tie.close (tie.spec
     Inv-loop
     μ-loop
     (λ c. copy-start _ _)
-    (λ c. search needs)
-    (λ c. search needs)
-    (λ c. search needs)
+    (λ c. search needs) (λ c. search needs) (λ c. search needs)
     (λ c. letter-fits (c .before .before .before .args .word .now) (c .shared-slice-known .given) _)
-    (λ c. search needs)
-    (λ c. search needs)
-    (λ c. search needs)
-    (λ c. search needs)
+    (λ c. search needs) (λ c. search needs) (λ c. search needs) (λ c. search needs)
     loop-again
     (λ c. c .before .loop .inv .size)
     returns)

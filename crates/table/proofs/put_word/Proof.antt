@@ -1,4 +1,4 @@
--- `table::put_word` meets its contract: the law of copying, entry by entry; a letter fits an entry. The measure is how many letters are left.
+-- `table::put_word` meets its contract: the law of copying; a letter fits an entry. The measure is how many letters are left.
 use mathlib.Core.Path.{refl}
 use Prim.Native.Nat.{_-_}
 use native.Mathlib.Omega.{arith}
@@ -22,10 +22,7 @@ put-word-spec = tie.close (tie.spec
     (λ c. copy-start _ _)
     (λ c. search needs)
     (λ c. letter-fits (c .before .before .before .args .word .now) (c .shared-slice-known .given) _)
-    (λ c. search needs)
-    (λ c. search needs)
-    (λ c. search needs)
-    (λ c. search needs)
+    (λ c. search needs) (λ c. search needs) (λ c. search needs) (λ c. search needs)
     (λ c. copy-step (c .before .before .loop .inv) (omega arith) refl)
     (λ c. c .before .loop .inv .size)
     (λ c. let at-start = c .before .before in copy-end (c .before .loop .inv) (at-start .pre) (omega (arith, at-start .pre))))
