@@ -8,7 +8,8 @@ use native.Mathlib.Nat.{le-refl, add-zero}
 use native.Mathlib.Decide.{ℕ-discrete}
 use native.Mathlib.Omega.{arith}
 use lib.ListN.{length, getD}
-use Rattle.words.specs.Lists.{from, only, first}
+use lib.Seq.{getD-append-add}
+use Rattle.words.specs.Lists.{at, from, only, first}
 
 -- ── Tests ──────────────────────────────────────────────────────────────────
 
@@ -159,3 +160,15 @@ rising-from P a (suc k) = by (P a) (rising-from P (suc a) k)
     by : (b : Bool) → Rising (suc a) (only P (from (suc a) k)) → Rising a (cond b (a ∷ only P (from (suc a) k)) (only P (from (suc a) k)))
     by true r = up (le-refl a) r
     by false r = lower (omega arith) r
+
+-- ── Tests that agree, lists one behind the other ───────────────────────────
+
+-- tests that agree on the numbers tried list the same
+pub only-same : (P Q : ℕ → Bool) (a k : ℕ) → ((j : ℕ) → a ≤ j → j < a + k → P j ≡ Q j) → only P (from a k) ≡ only Q (from a k)
+unfolding only from
+only-same P Q a zero h = refl
+only-same P Q a (suc k) h = rw (h a (le-refl a) (omega arith), only-same P Q (suc a) k (λ j l b. h j (omega arith) (omega arith)))
+
+-- an entry behind n others
+pub at-behind : (a b : List ℕ) (n i : ℕ) → length a ≡ n → at (a ++ b) (n + i) ≡ at b i
+at-behind a b n i e = rw (← e) (getD-append-add a b i 0)
