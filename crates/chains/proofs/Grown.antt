@@ -13,6 +13,7 @@ use lib.ListN.{length, set, length-set, length-append, length-reverse}
 use lib.Seq.{getD-set-same, getD-set-other, set-getD}
 use Rattle.words.specs.Lists.{at, from, only}
 use Rattle.words.specs.Words.{Letter, Word, letter}
+use Rattle.words.proofs.Lists.{only-same}
 use Rattle.words.proofs.Words.{part-length, part-at}
 use Rattle.oracle.specs.Arrows.{State, Delta}
 use Rattle.oracle.specs.SuffixPath.{SuffixPath, ended}
@@ -30,7 +31,7 @@ use Rattle.chains.specs.Letters.{Begun, Added, first-letter, later-lette
 use Rattle.chains.proofs.Looking.{look-far}
 use Rattle.chains.proofs.Pushing.{chain-kept}
 use Rattle.chains.proofs.Climbing.{begun-ready}
-use Rattle.chains.proofs.Model.{Targets, arrowsOf, extrasUpTo, Gets, only-same, letter-supplied, letter-in-order}
+use Rattle.chains.proofs.Model.{Targets, arrowsOf, extrasUpTo, Gets, letter-supplied, letter-in-order}
 use Rattle.chains.proofs.Sources.{total, Held, held-chained, Climbed, climbed}
 
 pub record Grown (B : List ℕ) (m : ℕ) (L : List ℕ) (t u : ℕ) : Type 0 where

@@ -26,6 +26,11 @@ chain-one (ends e) (links p h y g o r) = absurd (omega arith)
 chain-one (links p h y g o r) (ends e) = absurd (omega arith)
 chain-one (links p h y g o r) (links p′ h′ y′ g′ o′ r′) = cc (chain-one r r′)
 
+-- and they are slots
+pub chain-inside : {L : List ℕ} {n j : ℕ} {l : List State} → 0 < n → Chain L n j l → j < n
+chain-inside b (ends e) = omega arith
+chain-inside b (links p h y g o r) = h
+
 -- ── Supplies ───────────────────────────────────────────────────────────────
 
 module _ (L : List ℕ) (n : ℕ) (x : State) where
@@ -101,16 +106,12 @@ module _ {L : List ℕ} {n : ℕ} {x : State} {c : Letter} where
   chase-start R b f =
       let r = R .chain x b in
       record {
-        inside = by (r .1);
+        inside = chain-inside (omega arith) (r .1);
         off-spine = rw (add-one x) at f;
         rest = r .0;
         chain = r .1;
         same = λ l C. ap (first (has L c)) (chain-one C (r .1));
       }
-    where
-      by : {j : ℕ} {l : List State} → Chain L n j l → j < n
-      by (ends e) = omega arith
-      by (links p h y g o r) = h
 
   -- what is first among the targets from j on is the arrow
   chased : {j t : ℕ} {y : Option State} → x < t → (R : Chasing L n x c j) → first (has L c) (R .rest) ≡ y → Looks L n t x c (arrowTo y)

@@ -14,7 +14,7 @@ use lib.Dec.{eqb}
 use borrow.Author.Tests.{eq-eqb, ne-eqb, eqb-true}
 use Rattle.words.specs.Lists.{from, only, first}
 use Rattle.words.specs.Words.{Letter}
-use Rattle.words.proofs.Lists.{from-snoc, only-yes, only-not, only-append, first-yes, first-not}
+use Rattle.words.proofs.Lists.{from-snoc, only-yes, only-not, only-append, only-same, first-yes, first-not}
 use Rattle.oracle.specs.Arrows.{State, Delta}
 use Rattle.oracle.specs.FileOrder.{leadsTo}
 use Rattle.oracle.proofs.Targets.{never}
@@ -38,12 +38,7 @@ extrasUpTo a δ x t = only (λ y. leadsTo (δ x (a y)) y) (from (suc (suc x)) (t
 abbrev pub Gets : Targets → Targets → List State → State → State → Type 0
 Gets T T′ xs y x = (List·Memᴰ x xs × (T′ x ≡ y ∷ T x)) ⊎ ((List·Memᴰ x xs → ⊥) × (T′ x ≡ T x))
 
--- ── Lists that differ in their tests ───────────────────────────────────────
-
-pub only-same : (P Q : ℕ → Bool) (a k : ℕ) → ((j : ℕ) → a ≤ j → j < a + k → P j ≡ Q j) → only P (from a k) ≡ only Q (from a k)
-unfolding only from
-only-same P Q a zero h = refl
-only-same P Q a (suc k) h = rw (h a (le-refl a) (omega arith), only-same P Q (suc a) k (λ j l b. h j (omega arith) (omega arith)))
+-- ── Tests that agree ───────────────────────────────────────────────────────
 
 leads-true : {o : Option State} {y : State} → o ≡ some y → leadsTo o y ≡ true
 unfolding leadsTo

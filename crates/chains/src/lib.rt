@@ -117,8 +117,8 @@ fn climb(
     Climbed::Ended(slot, y)
 }
 
-// State t + 1, with the letter that stands in row 0; the arrow from state 0 on it is known. Most letters find an arrow at once and climb
-// nowhere.
+// State t + 1, with the letter that stands in row 0; the arrow from state 0 on it is known. A letter that finds an arrow at once climbs
+// nowhere, which saves the call.
 fn add_letter(
     table: &mut [u16],
     n: usize,

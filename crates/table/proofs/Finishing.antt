@@ -8,7 +8,7 @@ use native.Mathlib.Numerals.{one-add}
 use native.Mathlib.Omega.{arith}
 use lib.ListN.{length, getD, take, drop, replicate, length-append, length-take, length-drop, length-replicate}
 use lib.ListN.{List·getD-append, drop-of-length-le}
-use lib.Seq.{length-take-le, getD-take, getD-append-add, ext-getD}
+use lib.Seq.{length-take-le, getD-take, ext-getD}
 use borrow.Rule.Slice.PartMut.{midOf, putMid}
 use Rattle.words.specs.Lists.{at}
 use Rattle.words.specs.Words.{Word}
@@ -20,6 +20,7 @@ use Rattle.oracle.specs.FileOrder.{targetsBefore}
 use Rattle.chains.specs.Letters.{Blank, wordIn, ChainsOf}
 use Rattle.table.specs.Table.{tableOf}
 use Rattle.table.specs.Layout.{Laid}
+use Rattle.words.proofs.Lists.{at-behind}
 use Rattle.words.proofs.Loops.{zeros-at}
 use Rattle.table.proofs.Rows.{from-ext}
 
@@ -99,7 +100,7 @@ module _ {B L : List ℕ} {m u : ℕ} (b : Blank B m) (H : ChainsOf B m L u) whe
     front i h = List·getD-append (take scratch K) _ 0 i (omega (arith, in-front)) ∙ getD-take scratch K i 0 h
 
     behind : (i : ℕ) → at expected (scratch + i) ≡ 0
-    behind i = rw in-front at (getD-append-add (take scratch K) (replicate (length K - scratch) 0) i 0) ∙ zeros-at (length K - scratch) i
+    behind i = at-behind (take scratch K) (replicate (length K - scratch) 0) scratch i in-front ∙ zeros-at (length K - scratch) i
 
     -- what lay before the chains is as it was
     low : (i : ℕ) → i < 2 * suc m → at expected i ≡ at L i

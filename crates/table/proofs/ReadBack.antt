@@ -125,8 +125,7 @@ module _ (p : Word) {δ : Delta} (O : Over p δ) (S : State → State) where
               let z = v .0 in
               let apart : x ≢ z = λ q. f (ap (letter p) q ∙ sym (v .3)) in
               let q : pred y ≡ z = omega (arith, v .1) in
-              let here : List·Memᴰ y (extraTargets δ p x) =
-              target-extra δ p x y (omega (arith, v .1, v .4)) (omega (arith, v .1, v .2)) (rw (q, ← v .3) e) in
+              let here = target-extra δ p x y (omega (arith, v .1, v .4)) (omega (arith, v .1, v .2)) (rw (q, ← v .3) e) in
               let found : at L y ≡ c = rw (v .1) (letter-at z (v .2)) ∙ sym (v .3) in
               first-only _ _ here (eq-eqb (at L y) c found) (λ y′ k t. cc (carries y′ k (eqb-true (at L y′) c t)))
 

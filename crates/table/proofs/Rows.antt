@@ -9,21 +9,16 @@ use native.Mathlib.Decide.{decLt, ℕ-discrete}
 use native.Mathlib.Omega.{arith}
 use lib.ListN.{length, getD, take, replicate, length-append, length-map, length-take, length-replicate}
 use lib.ListN.{List·getD-append, List·getD-eq-default}
-use lib.Seq.{getD-append-add, getD-take, ext-getD}
+use lib.Seq.{getD-take, ext-getD}
 use Rattle.words.specs.Lists.{at, from}
 use Rattle.words.specs.Words.{Word, letter}
-use Rattle.words.proofs.Lists.{from-length, map-from-at}
+use Rattle.words.proofs.Lists.{from-length, map-from-at, at-behind}
 use Rattle.words.proofs.Loops.{padded}
 pub use Rattle.words.proofs.Loops.{zeros-at}
 use Rattle.oracle.specs.Arrows.{State, Delta}
 use Rattle.oracle.specs.FileOrder.{targetsBefore}
 use Rattle.oracle.proofs.FileOrder.{before-room, before-at}
 use Rattle.table.specs.Table.{room, tableFrom}
-
--- ── Lists one behind the other ─────────────────────────────────────────────
-
-behind : (a b : List ℕ) (n i : ℕ) → length a ≡ n → getD (a ++ b) (n + i) 0 ≡ getD b i 0
-behind a b n i e = rw (← e) (getD-append-add a b i 0)
 
 -- ── The entries of a table ─────────────────────────────────────────────────
 
@@ -72,7 +67,7 @@ module _ (p : Word) (δ : Delta) (S : State → State) where
 
   in-row-1 : (i : ℕ) → i < n → at L (n + i) ≡ getD supplyRow i 0
   unfolding tableFrom
-  in-row-1 i h = behind (0 ∷ p) _ n i refl ∙ List·getD-append supplyRow _ 0 i (omega (arith, supply-row))
+  in-row-1 i h = at-behind (0 ∷ p) _ n i refl ∙ List·getD-append supplyRow _ 0 i (omega (arith, supply-row))
 
   -- a zero
   pub row-1-first : at L n ≡ 0
@@ -84,10 +79,10 @@ module _ (p : Word) (δ : Delta) (S : State → State) where
 
   behind-1 : (i : ℕ) → at L (n + (n + i)) ≡ getD (startRow ++ (targetRow ++ zeros)) i 0
   unfolding tableFrom
-  behind-1 i = behind (0 ∷ p) _ n (n + i) refl ∙ behind supplyRow _ n i supply-row
+  behind-1 i = at-behind (0 ∷ p) _ n (n + i) refl ∙ at-behind supplyRow _ n i supply-row
 
   behind-2 : (i : ℕ) → at L (n + (n + (n + i))) ≡ getD (targetRow ++ zeros) i 0
-  behind-2 i = behind-1 (n + i) ∙ behind startRow _ n i start-row
+  behind-2 i = behind-1 (n + i) ∙ at-behind startRow _ n i start-row
 
   -- where each state's extra targets start
   pub row-2 : (i : ℕ) → i < n → at L (2 * n + i) ≡ length (targetsBefore δ p i)
@@ -107,7 +102,7 @@ module _ (p : Word) (δ : Delta) (S : State → State) where
   pub row-4 : (i : ℕ) → i < 2 * n → at L (4 * n + i) ≡ 0
   row-4 i h =
       let e : 4 * n + i ≡ n + (n + (n + (n + i))) = omega arith in
-      rw e (behind-2 (n + i) ∙ behind targetRow _ n i target-row ∙ zeros-at (2 * n) i)
+      rw e (behind-2 (n + i) ∙ at-behind targetRow _ n i target-row ∙ zeros-at (2 * n) i)
 
   -- ── All entries ──────────────────────────────────────────────────────────
 

@@ -12,7 +12,7 @@ use lib.Seq.{getD-set-same, getD-set-other}
 use Rattle.words.specs.Lists.{at}
 use Rattle.oracle.specs.Arrows.{State}
 use Rattle.chains.specs.Chains.{Chain, ends, links}
-use Rattle.chains.proofs.Looking.{chain-one}
+use Rattle.chains.proofs.Looking.{chain-one, chain-inside}
 use Rattle.table.specs.Layout.{Fits, Moved, Unchained}
 
 -- ── What holds before each slot ────────────────────────────────────────────
@@ -43,7 +43,7 @@ module _ {L : List ℕ} {n : ℕ} {x : State} {e : ℕ} where
   -- nothing is moved
   pub unchain-start : x < n → Fits L n x e → Unchaining L n x e L e (at L (2 * n + x))
   unchain-start h F = record {
-    inside = slot-inside (F .chain);
+    inside = chain-inside (omega arith) (F .chain);
     low = le-refl e;
     rest = F .targets;
     gone = [];
@@ -55,10 +55,6 @@ module _ {L : List ℕ} {n : ℕ} {x : State} {e : ℕ} where
     moved = λ i h. absurd (omega arith);
     kept = λ i h. refl;
   }
-    where
-      slot-inside : {j : ℕ} {l : List State} → Chain L n j l → j < n
-      slot-inside (ends z) = omega arith
-      slot-inside (links p i y g o C) = i
 
   module _ {K : List ℕ} {s j : ℕ} (b : e < n) (U : Unchaining L n x e K s j) where
     slots-kept : (i : ℕ) → 4 * n ≤ i → at K i ≡ at L i

@@ -196,3 +196,15 @@ rising-from P a zero = end
 rising-from P a (suc k) = test-cases (P a)
     (λ e. rw e (up (le-refl a) (rising-from P (suc a) k)))
     (λ e. rw e (rising-lower (omega arith) (rising-from P (suc a) k)))
+
+-- ── Tests that agree, lists one behind the other ───────────────────────────
+
+-- tests that agree on the numbers tried list the same
+pub only-same : (P Q : ℕ → Bool) (a k : ℕ) → ((j : ℕ) → a ≤ j → j < a + k → P j ≡ Q j) → only P (from a k) ≡ only Q (from a k)
+unfolding only from
+only-same P Q a zero h = refl
+only-same P Q a (suc k) h = rw (h a (le-refl a) (omega arith), only-same P Q (suc a) k (λ j l b. h j (omega arith) (omega arith)))
+
+-- an entry behind n others
+pub at-behind : (a b : List ℕ) (n i : ℕ) → length a ≡ n → at (a ++ b) (n + i) ≡ at b i
+at-behind a b n i e = rw (← e) (getD-append-add a b i 0)

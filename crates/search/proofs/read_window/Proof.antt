@@ -1,5 +1,6 @@
 -- `search::read_window` meets its contract: `StillToRead` says that what the rest of the window answers is the answer for all of it. The
 -- measure is how many letters are left.
+use native.Mathlib.Omega.{arith}
 use borrow.Author.Needs.{needs}
 use Rattle.table.specs.Table.{readArrow}
 use Rattle.search.proofs.Readings.{StillToRead, all-to-read, none-to-read, letter-fails, letter-goes}
@@ -17,13 +18,15 @@ loop-again c =
     let at-next = c .before in
     let at-lookup = at-next .before .before in
     let at-if1 = at-lookup .before .before in
-    letter-goes (at-if1 .before .loop .inv) (at-if1 .if1 .left) _ (at-lookup .lookup .ensures) _ (at-next .next .given .1)
+    letter-goes (at-if1 .before .loop .inv) (λ z. omega (arith, at-if1 .if1 .left)) _ (at-lookup .lookup .ensures) _
+    (at-next .next .given .1)
 
 returns-2 : tie.Need-returns-2 Inv-loop μ-loop
 returns-2 c =
     let at-lookup = c .before .before in
     let at-if1 = at-lookup .before .before in
-    letter-fails (at-if1 .before .loop .inv) (at-if1 .if1 .left) _ (at-lookup .lookup .ensures) (c .enum-told .given .1)
+    letter-fails (at-if1 .before .loop .inv) (λ z. omega (arith, at-if1 .if1 .left)) _ (at-lookup .lookup .ensures)
+    (c .enum-told .given .1)
 
 pub read-window-spec : {M : Type 1} → statement M
 read-window-spec = tie.close (tie.spec
@@ -34,5 +37,5 @@ read-window-spec = tie.close (tie.spec
     (λ c. search needs) (λ c. search needs) (λ c. search needs) (λ c κs. search needs) (λ c. search needs)
     (λ c. search needs) (λ c. search needs) (λ c. search needs) (λ c. search needs)
     loop-again
-    (λ c. none-to-read (c .before .loop .inv) (c .if1 .taken))
+    (λ c. none-to-read (c .before .loop .inv) (omega (arith, c .if1 .taken)))
     returns-2)
