@@ -16,7 +16,7 @@ after-moves w = omega arith
 -- it moves by the length of the word at most
 pub after-most : (w : Word) → 1 ≤ length w → afterFind w ≤ length w
 unfolding afterFind
-after-most w h = h
+after-most w h = omega arith
 
 -- from an occurrence at s it does not move past a later one at j
 pub after-safe : (w t : Word) (s j : Place) → stands w t s ≡ true → stands w t j ≡ true → s < j → s + afterFind w ≤ j

@@ -1,4 +1,5 @@
--- THE THEOREMS on the backward search, for every word and every text, each a sentence about the definitions alone.
+-- THE THEOREMS on the backward search, for every word and every text, each a sentence about the definitions alone. They are those of
+-- `Windows` and `Reading`, which hold of every automaton that walks as the oracle of the mirrored word does.
 use mathlib.Core.Path.{_≡_, sym, _∙_}
 use mathlib.Core.Bool.{true}
 use mathlib.Core.Logic.{_↔_}
@@ -7,8 +8,8 @@ use mathlib.Core.List.{List·Memᴰ}
 use Prim.Native.Nat.{_+_, _-_, _*_, _≤_, _<_}
 use native.Mathlib.Omega.{arith}
 use lib.ListN.{length, length-reverse}
+use Rattle.words.specs.Lists.{Rising}
 use Rattle.words.specs.Words.{Word, Place, mirror, stands, occurrences}
-use Rattle.words.proofs.Lists.{Rising}
 use Rattle.words.proofs.Occurrences.{occurrence-stands, standing-occurs, occurrences-rise}
 use Rattle.oracle.specs.SuffixRule.{oracle}
 use Rattle.oracle.proofs.Walks.{factor-walk}
@@ -22,7 +23,7 @@ module _ (w t : Word) where
   pub oracle-walker : Walker w (oracle (mirror w))
   oracle-walker = record {
     factor = λ a n h. (_, factor-walk (mirror w) (oracle-supplied (mirror w)) a n (rw (length-reverse w) h));
-    only = λ v y e n. only-walk (mirror w) v y e (n ∙ sym (length-reverse w));
+    no-other = λ v y e n. only-walk (mirror w) v y e (n ∙ sym (length-reverse w));
   }
 
   -- ── The list ─────────────────────────────────────────────────────────────

@@ -1,24 +1,24 @@
 -- The whole search, window after window. With an automaton that walks every part of the mirrored word and nothing else of the word's
 -- length, it lists exactly the occurrences; with any arrows whatever, it reads at most the word's length of letters for each place of a
--- window.
+-- window. Both go by one induction over the windows: past the last, nothing; else one window and the later ones.
 use mathlib.Core.Path.{_≡_, refl, sym, ap, _∙_, fun-ext}
-use mathlib.Core.Bool.{Bool, true, false, not-eq-not}
+use mathlib.Core.Bool.{true}
+use mathlib.Core.Logic.{by-cases}
 use mathlib.Core.Option.{Option, none, some}
-use mathlib.Core.List.{List, [], _∷_}
+use mathlib.Core.List.{List, _∷_}
 use Prim.Native.Nat.{ℕ, zero, suc, _+_, _-_, _*_, _≤_, _<_}
-use native.Mathlib.Nat.{le-refl, add-zero, add-suc, zero-add, suc-add, sub-zero, zero-sub, suc-sub-suc, mul-le-mul-left}
+use native.Mathlib.Nat.{zero-add, mul-le-mul-left}
 use native.Mathlib.Decide.{decLe}
 use native.Mathlib.Omega.{arith}
 use lib.ListN.{length, length-reverse}
 use borrow.Author.Tests.{le-leb, lt-leb}
-use Rattle.words.specs.Lists.{from, only}
 use Rattle.words.specs.Words.{Letter, Word, Place, part, mirror, stands, occurrences}
-use Rattle.words.proofs.Lists.{only-yes, only-not, only-none}
 use Rattle.words.proofs.Words.{part-length, part-of-part, mirror-injective, mirror-part}
-use Rattle.words.proofs.Occurrences.{stands-part, part-stands, stands-inside}
+use Rattle.words.proofs.Occurrences.{stands-part, part-stands, stands-inside, since, since-start, since-past, since-here, since-later}
 use Rattle.oracle.specs.Arrows.{State, Delta, walk}
-use Rattle.backward.specs.Steps.{Searched, nothing, listed, readDown, afterFind, nextWindow, windows, steps}
-use Rattle.backward.proofs.Reading.{Failed, failed-place, letters-most, whole-walked, failed-walk}
+use Rattle.oracle.proofs.Targets.{never}
+use Rattle.backward.specs.Steps.{Sweep, nothing, listed, readDown, afterFind, nextWindow, windows, steps}
+use Rattle.backward.proofs.Reading.{FailedAt, failed-place, reading-letters-most, whole-walked, failed-walk}
 use Rattle.backward.proofs.AfterFind.{after-moves, after-safe, after-mirror}
 
 -- ── One window ─────────────────────────────────────────────────────────────
@@ -26,14 +26,15 @@ use Rattle.backward.proofs.AfterFind.{after-moves, after-safe, after-mi
 -- all that the search asks of an automaton: it walks each part of the mirrored word, and of the words of that length only the mirrored word
 pub record Walker (w : Word) (δ : Delta) : Type 0 where
   pub factor : (a n : ℕ) → a + n ≤ length w → (y : State) × (walk δ 0 (part (mirror w) a n) ≡ some y)
-  pub only : (v : Word) (y : State) → walk δ 0 v ≡ some y → length v ≡ length w → v ≡ mirror w
+  pub no-other : (v : Word) (y : State) → walk δ 0 v ≡ some y → length v ≡ length w → v ≡ mirror w
 
 module _ {w : Word} {δ : Delta} (W : Walker w δ) (t : Word) (s : Place) (inside : s + length w ≤ length t) where
   -- the word stands nowhere from a window's start to its failing letter
-  pub failed-loses-none : (f : Place) → readDown δ t s (length w) 0 .failed ≡ some f → (j : Place) → s ≤ j → j ≤ f → stands w t j ≡ true → ⊥
-  failed-loses-none f e j l h g = let z : _≡_ {A = ℕ} 0 1 = cc (read, walked .1, ap (λ (v : Word). walk δ 0 (mirror v)) same) in omega arith
+  pub failed-loses-none : (f : Place) → readDown δ t s (length w) 0 .failed ≡ some f
+      → (j : Place) → s ≤ j → j ≤ f → stands w t j ≡ true → ⊥
+  failed-loses-none f e j l h g = never (rw same at read) (walked .1)
     where
-      place : Failed s (length w) f (readDown δ t s (length w) 0 .letters)
+      place : FailedAt s (length w) f (readDown δ t s (length w) 0 .letters)
       place = failed-place δ t s (length w) 0 f e
 
       n : ℕ
@@ -47,7 +48,9 @@ module _ {w : Word} {δ : Delta} (W : Walker w δ) (t : Word) (s : Place) (insid
           let i = stands-inside w t j (omega (arith, place)) g in
           let q : f ≡ j + (f - j) = omega arith in
           let p = part-of-part t j (length w) (f - j) n i (omega (arith, place)) in
-          ap (λ (a : Place). part t a n) q ∙ sym p ∙ ap (λ (v : Word). part v (f - j) n) (stands-part w t j g)
+          ap (λ (a : Place). part t a n) q
+          ∙ sym p
+          ∙ ap (λ (v : Word). part v (f - j) n) (stands-part w t j g)
 
       walked : (y : State) × (walk δ 0 (mirror (part w (f - j) n)) ≡ some y)
       walked = rw (mirror-part w (f - j) n (j - s) (omega (arith, place))) (W .factor (j - s) n (omega (arith, place)))
@@ -57,7 +60,8 @@ module _ {w : Word} {δ : Delta} (W : Walker w δ) (t : Word) (s : Place) (insid
   whole-stands e =
       let v = part t s (length w) in
       let r = whole-walked δ t s (length w) 0 inside e in
-      part-stands w t s (mirror-injective v w (W .only (mirror v) (r .0) (r .1) (length-reverse v ∙ part-length t s (length w) inside)))
+      let size : length (mirror v) ≡ length w = length-reverse v ∙ part-length t s (length w) inside in
+      part-stands w t s (mirror-injective v w (W .no-other (mirror v) (r .0) (r .1) size))
 
 -- ── All windows ────────────────────────────────────────────────────────────
 
@@ -67,7 +71,7 @@ module _ (δ : Delta) (w t : Word) where
   next s = nextWindow w s (readDown δ t s (length w) 0 .failed)
 
   -- what the later windows say, with what the one at s adds
-  abbrev pub with-window : Place → Searched → Searched
+  abbrev pub with-window : Place → Sweep → Sweep
   with-window s later =
       let r = readDown δ t s (length w) 0 in
       record { starts = listed s (r .failed) (later .starts); letters = r .letters + later .letters }
@@ -93,25 +97,23 @@ module _ (δ : Delta) (w t : Word) where
 
   -- what holds past the last window, and of one more window where it held, holds of all windows
   windows-induction
-      : (P : Place → Searched → Type 0)
+      : (P : Place → Sweep → Type 0)
       → ((s : Place) → length t < s + length w → P s nothing)
-      → ((s : Place) (later : Searched) → s + length w ≤ length t → P (next s) later → P s (with-window s later))
+      → ((s : Place) (later : Sweep) → s + length w ≤ length t → P (next s) later → P s (with-window s later))
       → (k : ℕ) (s : Place) → length t < k + s → P s (windows δ w t k s)
   windows-induction P past one zero s h = rw (windows-past zero s (omega arith)) (past s (omega arith))
-  windows-induction P past one (suc k) s h = by (decLe (s + length w) (length t)) (windows-induction P past one k)
-    where
-      by : Dec (s + length w ≤ length t) → ((s : Place) → length t < k + s → P s (windows δ w t k s)) → P s (windows δ w t (suc k) s)
-      by (yes l) rec = rw (windows-one k s l) (one s _ l (rec _ (omega (arith, next-moves s))))
-      by (no l) rec = rw (windows-past (suc k) s (omega arith)) (past s (omega arith))
+  windows-induction P past one (suc k) s h = by-cases (decLe (s + length w) (length t))
+      (λ l. rw (windows-one k s l) (one s _ l (windows-induction P past one k _ (omega (arith, next-moves s)))))
+      (λ l. rw (windows-past (suc k) s (omega arith)) (past s (omega arith)))
 
   -- the bound on the windows does not matter, if it is enough
   pub windows-enough : (k k′ : ℕ) (s : Place) → length t < k + s → length t < k′ + s → windows δ w t k s ≡ windows δ w t k′ s
   windows-enough k k′ s h = windows-induction AsAnyBound (λ s l k′ h. sym (windows-past k′ s l)) one k s h k′
     where
-      AsAnyBound : Place → Searched → Type 0
+      AsAnyBound : Place → Sweep → Type 0
       AsAnyBound s r = (k′ : ℕ) → length t < k′ + s → r ≡ windows δ w t k′ s
 
-      one : (s : Place) (later : Searched) → s + length w ≤ length t → AsAnyBound (next s) later → AsAnyBound s (with-window s later)
+      one : (s : Place) (later : Sweep) → s + length w ≤ length t → AsAnyBound (next s) later → AsAnyBound s (with-window s later)
       one s later l rec zero h = absurd (omega arith)
       one s later l rec (suc k′) h = ap (with-window s) (rec k′ (omega (arith, next-moves s))) ∙ sym (windows-one k′ s l)
 
@@ -120,14 +122,18 @@ module _ (δ : Delta) (w t : Word) where
 module _ (δ : Delta) (w t : Word) where
   -- the windows from s on read at most m letters at each of the places from s to n - m
   windows-letters : (k : ℕ) (s : Place) → length t < k + s → windows δ w t k s .letters ≤ length w * (suc (length t) - (s + length w))
-  windows-letters = windows-induction δ w t (λ s r. r .letters ≤ length w * (suc (length t) - (s + length w))) (λ s l. omega arith) one
+  windows-letters = windows-induction δ w t Few (λ s l. omega arith) one
     where
-      one
-          : (s : Place) (later : Searched) → s + length w ≤ length t → later .letters ≤ length w * (suc (length t) - (next δ w t s + length w))
-          → readDown δ t s (length w) 0 .letters + later .letters ≤ length w * (suc (length t) - (s + length w))
+      ahead : Place → ℕ
+      ahead s = suc (length t) - (s + length w)
+
+      Few : Place → Sweep → Type 0
+      Few s r = r .letters ≤ length w * ahead s
+
+      one : (s : Place) (later : Sweep) → s + length w ≤ length t → Few (next δ w t s) later → Few s (with-window δ w t s later)
       one s later l h =
-          let u : suc (suc (length t) - (next δ w t s + length w)) ≤ suc (length t) - (s + length w) = omega (arith, next-moves δ w t s) in
-          omega (arith, mul-le-mul-left (length w) u, letters-most δ t s (length w) 0)
+          let u : suc (ahead (next δ w t s)) ≤ ahead s = omega (arith, next-moves δ w t s) in
+          omega (arith, mul-le-mul-left (length w) u, reading-letters-most δ t s (length w) 0)
 
   -- all windows: at each of the places from 0 to n - m
   pub steps-letters : steps δ w t .letters ≤ length w * (suc (length t) - length w)
@@ -145,57 +151,29 @@ module _ (δ : Delta) (w t : Word) where
 
 -- ── The list ───────────────────────────────────────────────────────────────
 
--- the first d numbers may be left out where they fail the test
-only-later : (P : ℕ → Bool) (d s k : ℕ) → ((j : ℕ) → s ≤ j → j < s + d → P j ≡ false) → only P (from s k) ≡ only P (from (s + d) (k - d))
-unfolding from
-only-later P zero s k f = rw (add-zero, sub-zero)
-only-later P (suc d) s zero f = rw (zero-sub (suc d))
-only-later P (suc d) s (suc k) f =
-    let rest = only-later P d (suc s) k (λ j l u. f j (omega arith) (omega arith)) in
-    only-not P s (from (suc s) k) (f s (le-refl s) (omega arith)) ∙ rw (add-suc, ← suc-add, suc-sub-suc) rest
-
-module _ (w t : Word) where
-  -- the occurrences from place s on
-  abbrev since : Place → List Place
-  since s = only (stands w t) (from s (suc (length t) - (s + length w)))
-
-  -- the first of them is s, where the word stands there
-  since-here : (s : Place) → s + length w ≤ length t → stands w t s ≡ true → since s ≡ s ∷ since (suc s)
-  unfolding from
-  since-here s h e =
-      let q : suc (length t) - (s + length w) ≡ suc (suc (length t) - (suc s + length w)) = omega arith in
-      rw (q, from) (only-yes (stands w t) s _ e)
-
-  -- they are those from s′ on, where the word stands nowhere before s′
-  since-later : (s s′ : Place) → s ≤ s′ → ((j : Place) → s ≤ j → j < s′ → stands w t j ≡ true → ⊥) → since s ≡ since s′
-  since-later s s′ h f =
-      let q : s + (s′ - s) ≡ s′ = omega arith in
-      let c : suc (length t) - (s + length w) - (s′ - s) ≡ suc (length t) - (s′ + length w) = omega arith in
-      rw (q, c) at (only-later (stands w t) (s′ - s) s (suc (length t) - (s + length w)) (λ j l u. not-eq-not {b = false} .0 (f j l (omega arith))))
-
 module _ {w : Word} {δ : Delta} (W : Walker w δ) (t : Word) where
   -- the windows from s on list the occurrences from s on
   windows-list : (k : ℕ) (s : Place) → length t < k + s → windows δ w t k s .starts ≡ since w t s
-  windows-list = windows-induction δ w t (λ s r. r .starts ≡ since w t s) past (λ s later l. one s l (readDown δ t s (length w) 0 .failed) refl (later .starts))
+  windows-list = windows-induction δ w t (λ s r. r .starts ≡ since w t s)
+      (λ s h. sym (since-past w t s h))
+      (λ s later l. one s l (readDown δ t s (length w) 0 .failed) refl (later .starts))
     where
-      past : (s : Place) → length t < s + length w → [] ≡ since w t s
-      past s h = sym (only-none (stands w t) s (suc (length t) - (s + length w)) (λ j l u. absurd (omega arith)))
-
       one
           : (s : Place) → s + length w ≤ length t → (o : Option Place) → readDown δ t s (length w) 0 .failed ≡ o
           → (later : List Place) → later ≡ since w t (nextWindow w s o) → listed s o later ≡ since w t s
       one s l (some f) e later rec =
           let place = failed-place δ t s (length w) 0 f e in
-          rec ∙ sym (since-later w t s (nextWindow w s (some f)) (omega arith) (λ j h u. failed-loses-none W t s l f e j h (omega arith)))
+          rec ∙ sym (since-later w t s _ (omega arith) (λ j h u. failed-loses-none W t s l f e j h (omega arith)))
       one s l none e later rec =
           let here = whole-stands W t s l e in
-          let skip = since-later w t (suc s) (s + afterFind w) (omega (arith, after-moves w)) (λ j h u there. omega (arith, after-safe w t s j here there h)) in
-          ap (λ (p : List Place). s ∷ p) (rec ∙ sym skip) ∙ sym (since-here w t s l here)
+          let moved : suc s ≤ s + afterFind w = omega (arith, after-moves w) in
+          let skipped = since-later w t (suc s) _ moved (λ j h u there. omega (arith, after-safe w t s j here there h)) in
+          ap (λ (p : List Place). s ∷ p) (rec ∙ sym skipped) ∙ sym (since-here w t s l here)
 
   -- the search lists the occurrences
   pub steps-list : steps δ w t .starts ≡ occurrences w t
-  unfolding steps occurrences
-  steps-list = rw (zero-add (length w)) at (windows-list (suc (length t)) 0 (omega arith))
+  unfolding steps
+  steps-list = windows-list (suc (length t)) 0 (omega arith) ∙ since-start w t
 
 -- ── The arrows ─────────────────────────────────────────────────────────────
 

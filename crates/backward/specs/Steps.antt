@@ -6,7 +6,7 @@
 --   readDown δ t s k x   reads the letters at s + k - 1 down to s, from state x
 --   afterFind w          how far the window moves after an occurrence of w
 --   nextWindow w s f     where the window goes from s, f the place of the failing letter if there is one
---   Searched             the starts of the occurrences, rising, and all letters read
+--   Sweep                the starts of the occurrences, rising, and all letters read
 --   windows δ w t k s    the windows from s on; k bounds how many there are
 --   steps δ w t          all windows, with the arrows δ
 --   backward w t         the search: with the oracle of the mirrored word
@@ -47,11 +47,11 @@ abbrev pub nextWindow : Word → Place → Option Place → Place
 nextWindow w s none = s + afterFind w
 nextWindow w s (some f) = f + 1
 
-pub record Searched : Type 0 where
+pub record Sweep : Type 0 where
   pub starts : List Place
   pub letters : ℕ
 
-abbrev pub nothing : Searched
+abbrev pub nothing : Sweep
 nothing = record { starts = []; letters = 0 }
 
 -- s is an occurrence where no letter failed
@@ -59,7 +59,7 @@ abbrev pub listed : Place → Option Place → List Place → List Place
 listed s none l = s ∷ l
 listed s (some f) l = l
 
-unfoldable pub windows : Delta → Word → Word → ℕ → Place → Searched
+unfoldable pub windows : Delta → Word → Word → ℕ → Place → Sweep
 windows δ w t zero s = nothing
 windows δ w t (suc k) s =
     let m = length w in
@@ -68,8 +68,8 @@ windows δ w t (suc k) s =
     cond (leb (s + m) (length t)) (record { starts = listed s (r .failed) (later .starts); letters = r .letters + later .letters }) nothing
 
 -- every window starts at another of the places 0 to n, so n + 1 bounds them
-unfoldable pub steps : Delta → Word → Word → Searched
+unfoldable pub steps : Delta → Word → Word → Sweep
 steps δ w t = windows δ w t (suc (length t)) 0
 
-unfoldable pub backward : Word → Word → Searched
+unfoldable pub backward : Word → Word → Sweep
 backward w t = steps (oracle (mirror w)) w t

@@ -169,7 +169,7 @@ module _ {B : List ℕ} {m : ℕ} (K : Blank B m) where
 
         same : set L (n + suc t) 0 ≡ L
         same = ap (set L (n + suc t)) (sym (G .later (suc t) (le-refl _) more)) ∙ set-getD L (n + suc t) 0
-    grown-letter {L′} {u′} (later-letter L₁ y p C e) = rw e (by (climbed (at B) (rw (G .letters (suc t) (omega arith)) at C) (begun-ready grown-begun (λ z. omega arith) refl) (G .held) (G .letters)))
+    grown-letter {L′} {u′} (later-letter L₁ y p C e) = rw e (by (climbed (at B) (rw (G .letters (suc t) (omega arith)) at C) (begun-ready grown-begun (λ z. omega arith, refl)) (G .held) (G .letters)))
       where
         down : at L (n + t) ≤ t - 1
         down = supply-below (G .supplied) t (le-refl t)

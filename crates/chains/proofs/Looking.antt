@@ -1,7 +1,7 @@
 -- LOOKING ALONG A CHAIN: the cases of the lookup as code meets them. `Chasing` is what holds before each slot that is looked at.
 use mathlib.Core.Path.{_≡_, refl, sym, ap, _∙_}
 use mathlib.Core.Logic.{_≢_}
-use mathlib.Core.Option.{none, some}
+use mathlib.Core.Option.{Option, none, some}
 use mathlib.Core.Bool.{Bool}
 use mathlib.Core.List.{List, [], _∷_, List·Memᴰ, List·Memᴰ·head, List·Memᴰ·tail}
 use Prim.Native.Nat.{ℕ, suc, _+_, _*_, _≤_, _<_}
@@ -67,38 +67,22 @@ first-same P Q (y ∷ l) h = rw (h y (List·Memᴰ·head refl), first-same P Q l
 pub look-same : (a b : State → Letter) {n : ℕ} (t : ℕ) (l : List State) (x : State) (c : Letter) → ((y : State) → y < n → a y ≡ b y)
     → suc x < n → ((y : State) → List·Memᴰ y l → y < n) → lookIn a t l x c ≡ lookIn b t l x c
 unfolding lookIn
-look-same a b t l x c same h inside = rw (same (suc x) h, first-same (λ y. eqb (a y) c) (λ y. eqb (b y) c) l (λ y m. ap (λ d. eqb d c) (same y (inside y m))))
+look-same a b t l x c same h inside =
+    let tests = first-same (λ y. eqb (a y) c) (λ y. eqb (b y) c) l (λ y m. ap (λ d. eqb d c) (same y (inside y m))) in
+    rw (same (suc x) h, tests)
 
 -- ── Slot by slot ───────────────────────────────────────────────────────────
 
-pub record Chasing (L : List ℕ) (n t : ℕ) (x : State) (c : Letter) (j : ℕ) : Type 0 where
+-- the letter of state y is c
+abbrev has : List ℕ → Letter → State → Bool
+has L c y = eqb (at L y) c
+
+-- before slot j of x's chain: the spine does not have the letter, and the first target that has it is the first of those from j on
+pub record Chasing (L : List ℕ) (n : ℕ) (x : State) (c : Letter) (j : ℕ) : Type 0 where
+  pub off-spine : at L (suc x) ≢ c
   pub rest : List State
   pub chain : Chain L n j rest
-  pub same : (l : List State) → Chain L n (at L (2 * n + x)) l → lookIn (at L) t l x c ≡ first (λ y. eqb (at L y) c) rest
-
-module _ {L : List ℕ} {n t : ℕ} {x : State} {c : Letter} where
-  pub looks-zero : {r : Leads} → x ≡ 0 → Looks L n t 0 c r → Looks L n t x c r
-  looks-zero e R = rw e R
-
-  pub looks-far : t ≤ x → Looks L n t x c Missing
-  looks-far h = record { says = λ l C. ap arrowTo (sym (look-far (at L) t l x c h)) }
-
-  pub looks-spine : x < t → at L (x + 1) ≡ c → Looks L n t x c (To (record { 0 = x + 1 }))
-  looks-spine h e = record { says = λ l C. rw (add-one x) (ap arrowTo (sym (look-spine (at L) t l x c h (rw (add-one x) at e)))) }
-
-  pub chase-start : Chained L n → x < n → x < t → at L (x + 1) ≢ c → Chasing L n t x c (at L (2 * n + x))
-  chase-start R b h f =
-      let r = R .chain x b in
-      record { rest = r .0; chain = r .1; same = λ l C. look-chain (at L) t l x c h (rw (add-one x) at f) ∙ ap (first (λ y. eqb (at L y) c)) (chain-one C (r .1)) }
-
-  pub chase-end : {j : ℕ} → Chasing L n t x c j → j ≡ 0 → Looks L n t x c Missing
-  unfolding first
-  chase-end {j} R z = record { says = λ l C. by l (R .chain) (R .same l C) }
-    where
-      by : (l : List State) {r : List State} → Chain L n j r → lookIn (at L) t l x c ≡ first (λ y. eqb (at L y) c) r
-          → Missing ≡ arrowTo (lookIn (at L) t l x c)
-      by l (ends e) s = ap arrowTo (sym s)
-      by l (links p h y g o r) s = absurd (omega arith)
+  pub same : (l : List State) → Chain L n (at L (2 * n + x)) l → first (has L c) l ≡ first (has L c) rest
 
 -- what is known of a slot that is looked at
 pub record Slot (L : List ℕ) (n j : ℕ) : Type 0 where
@@ -106,28 +90,54 @@ pub record Slot (L : List ℕ) (n j : ℕ) : Type 0 where
   pub state : at L (5 * n + j) < n
   pub older : at L (4 * n + j) < j
 
-module _ {L : List ℕ} {n t : ℕ} {x : State} {c : Letter} {j : ℕ} (R : Chasing L n t x c j) (f : j ≢ 0) where
-  pub chase-slot : Slot L n j
-  chase-slot = by (R .chain)
-    where
-      by : {r : List State} → Chain L n j r → Slot L n j
-      by (ends e) = absurd (f e)
-      by (links p h y g o r) = record { inside = h; state = omega arith; older = o }
+module _ {L : List ℕ} {n : ℕ} {x : State} {c : Letter} where
+  pub looks-zero : {t : ℕ} {r : Leads} → x ≡ 0 → Looks L n t 0 c r → Looks L n t x c r
+  looks-zero e R = rw e R
 
-  pub chase-hit : at L (at L (5 * n + j)) ≡ c → Looks L n t x c (To (record { 0 = at L (5 * n + j) }))
-  chase-hit e = record { says = λ l C. by l (R .chain) (R .same l C) }
-    where
-      by : (l : List State) {r : List State} → Chain L n j r → lookIn (at L) t l x c ≡ first (λ y. eqb (at L y) c) r → To (record { 0 = at L (5 * n + j) }) ≡ arrowTo (lookIn (at L) t l x c)
-      by l (ends z) s = absurd (f z)
-      by l (links {y = y} {l = r} p h q g o C′) s =
-          rw (← q) (ap arrowTo (sym (s ∙ first-yes (λ y. eqb (at L y) c) y r (eq-eqb (at L y) c (rw (← q) at e)))))
+  pub looks-spine : {t : ℕ} → x < t → at L (x + 1) ≡ c → Looks L n t x c (To (record { 0 = x + 1 }))
+  looks-spine {t} h e = record { says = λ l C. rw (add-one x) (ap arrowTo (sym (look-spine (at L) t l x c h (rw (add-one x) at e)))) }
 
-  pub chase-next : at L (at L (5 * n + j)) ≢ c → Chasing L n t x c (at L (4 * n + j))
-  chase-next e = by (R .chain) (R .same)
+  pub chase-start : Chained L n → x < n → at L (x + 1) ≢ c → Chasing L n x c (at L (2 * n + x))
+  chase-start R b f =
+      let r = R .chain x b in
+      record { off-spine = rw (add-one x) at f; rest = r .0; chain = r .1; same = λ l C. ap (first (has L c)) (chain-one C (r .1)) }
+
+  -- what is first among the targets from j on is the arrow
+  chased : {j t : ℕ} {y : Option State} → x < t → (R : Chasing L n x c j) → first (has L c) (R .rest) ≡ y → Looks L n t x c (arrowTo y)
+  chased {t = t} h R e = record { says = λ l C. ap arrowTo (sym (look-chain (at L) t l x c h (R .off-spine) ∙ R .same l C ∙ e)) }
+
+  pub chase-end : {j t : ℕ} → x < t → Chasing L n x c j → j ≡ 0 → Looks L n t x c Missing
+  unfolding first
+  chase-end {j} h R z = chased h R (by (R .chain))
     where
-      by : {r : List State} → Chain L n j r
-          → ((l : List State) → Chain L n (at L (2 * n + x)) l → lookIn (at L) t l x c ≡ first (λ y. eqb (at L y) c) r)
-          → Chasing L n t x c (at L (4 * n + j))
-      by (ends z) s = absurd (f z)
-      by (links {y = y} {l = r} p h q g o C′) s =
-          record { rest = r; chain = C′; same = λ l C. s l C ∙ first-not (λ y. eqb (at L y) c) y r (ne-eqb (at L y) c (rw (← q) at e)) }
+      by : {r : List State} → Chain L n j r → first (has L c) r ≡ none
+      by (ends e) = refl
+      by (links p h y g o r) = absurd (omega arith)
+
+  module _ {j : ℕ} (R : Chasing L n x c j) (f : j ≢ 0) where
+    pub chase-slot : Slot L n j
+    chase-slot = by (R .chain)
+      where
+        by : {r : List State} → Chain L n j r → Slot L n j
+        by (ends e) = absurd (f e)
+        by (links p h y g o r) = record { inside = h; state = omega arith; older = o }
+
+    pub chase-hit : {t : ℕ} → x < t → at L (at L (5 * n + j)) ≡ c → Looks L n t x c (To (record { 0 = at L (5 * n + j) }))
+    chase-hit h e = chased h R (by (R .chain))
+      where
+        by : {r : List State} → Chain L n j r → first (has L c) r ≡ some (at L (5 * n + j))
+        by (ends z) = absurd (f z)
+        by (links {y = y} {l = r} p h q g o C) = rw (← q) (first-yes (has L c) y r (eq-eqb (at L y) c (rw (← q) at e)))
+
+    pub chase-next : at L (at L (5 * n + j)) ≢ c → Chasing L n x c (at L (4 * n + j))
+    chase-next e = by (R .chain) (R .same)
+      where
+        by : {r : List State} → Chain L n j r → ((l : List State) → Chain L n (at L (2 * n + x)) l → first (has L c) l ≡ first (has L c) r)
+            → Chasing L n x c (at L (4 * n + j))
+        by (ends z) s = absurd (f z)
+        by (links {y = y} {l = r} p h q g o C) s = record {
+          off-spine = R .off-spine;
+          rest = r;
+          chain = C;
+          same = λ l D. s l D ∙ first-not (has L c) y r (ne-eqb (at L y) c (rw (← q) at e));
+        }

@@ -19,8 +19,8 @@ use Rattle.oracle.proofs.Grow.{Climb, stop, out, go}
 use Rattle.chains.specs.Chains.{Chain, Chained, lookIn, pushed}
 use Rattle.chains.specs.Letters.{Ready, Climbs, finds, runs-out, goes-on}
 use Rattle.chains.proofs.Looking.{chain-states, look-same}
-use Rattle.chains.proofs.Pushing.{push-size, push-elsewhere, push-chain, other-chain, push-heads}
-use Rattle.chains.proofs.Climbing.{ready-slot, ready-state, ready-next}
+use Rattle.chains.proofs.Pushing.{Pushable, push-size, push-elsewhere, push-low, push-chain, other-chain, push-heads}
+use Rattle.chains.proofs.Climbing.{ready-push, ready-next}
 use Rattle.chains.proofs.Model.{Targets, arrowsOf, Gets}
 
 -- ── Targets ────────────────────────────────────────────────────────────────
@@ -70,17 +70,13 @@ pub record Held (L : List ℕ) (n u : ℕ) (T : Targets) : Type 0 where
 pub held-chained : {L : List ℕ} {n u : ℕ} {T : Targets} → Held L n u T → Chained L n
 held-chained {T = T} H = record { size = H .size; chain = λ x h. (T x, H .chain x h) }
 
-push-held : {L : List ℕ} {n u : ℕ} {T : Targets} → Held L n u T → suc u < n → (k : State) → k < n → (y : State) → y < n
+push-held : {L : List ℕ} {n u : ℕ} {T : Targets} {k : State} → Held L n u T → Pushable L n u k → (y : State) → y < n
     → Held (pushed L n u k y) n (suc u) (put T k y)
-push-held {L} {n} {u} {T} H more k b y g = record {
-  size = push-size (held-chained H) more (H .heads) k b y;
-  heads = push-heads (held-chained H) more (H .heads) k b y;
-  chain = λ x h. by x h (ℕ-discrete x k);
-}
+push-held {L} {n} {u} {T} {k} H P y g = record { size = push-size P y; heads = push-heads P y; chain = λ x h. by x h (ℕ-discrete x k) }
   where
     by : (x : State) → x < n → Dec (x ≡ k) → Chain (pushed L n u k y) n (at (pushed L n u k y) (2 * n + x)) (put T k y x)
-    by x h (yes e) = rw (e, put-here T k y) (push-chain (held-chained H) more (H .heads) k b y g (H .chain k b))
-    by x h (no e) = rw (put-other T k y x e) (other-chain (held-chained H) more (H .heads) k b y x h e (H .chain x h))
+    by x h (yes e) = rw (e, put-here T k y) (push-chain P y g (H .chain k (P .source)))
+    by x h (no e) = rw (put-other T k y x e) (other-chain P y x h e (H .chain x h))
 
 -- ── Climbs ─────────────────────────────────────────────────────────────────
 
@@ -117,18 +113,16 @@ module _ {L : List ℕ} {n t u : ℕ} {T : Targets} {k : State} (R : Ready L n t
   T₁ = put T k (suc t)
 
   held₁ : Held L₁ n (suc u) T₁
-  held₁ = push-held H (ready-slot R) k (ready-state R) (suc t) (R .inside)
+  held₁ = push-held H (ready-push R) (suc t) (R .inside)
 
   kept₁ : (i : ℕ) → i < 2 * n → at L₁ i ≡ at L i
-  kept₁ i h = push-elsewhere (R .chained) (ready-slot R) (R .heads) k (ready-state R) (suc t) i (omega arith) (omega arith) (omega arith)
+  kept₁ i h = push-low (ready-push R) (suc t) i h
 
   unlaid₁ : (i : ℕ) → i < n → at L₁ (3 * n + i) ≡ at L (3 * n + i)
-  unlaid₁ i h =
-      let b = ready-state R in
-      push-elsewhere (R .chained) (ready-slot R) (R .heads) k b (suc t) (3 * n + i) (omega arith) (omega arith) (omega arith)
+  unlaid₁ i h = let P = ready-push R in push-elsewhere P (suc t) (3 * n + i) (omega (arith, P .source)) (omega arith) (omega arith)
 
   counts₁ : total T₁ n ≡ suc (total T n)
-  counts₁ = total-put T k (suc t) n (ready-state R)
+  counts₁ = total-put T k (suc t) n (ready-push R .source)
 
   out-of : (x : State) → x ≢ k → List·Memᴰ x (k ∷ []) → ⊥
   out-of x f (List·Memᴰ·head e) = f e
@@ -155,7 +149,7 @@ module _ (a : State → Letter) {n t : ℕ} {c : Letter} where
   climbed {L} {u = u} {T = T} {k = k} {y = y} (finds s e q) R H same = rw (e, q) (record {
     xs = [];
     T′ = T;
-    climb = stop (sym (look-held a t c H same (omega (arith, R .below, R .inside))) ∙ arrow-told _ _ (record { 0 = y }) (s .says (T k) (H .chain k (ready-state R))) refl);
+    climb = stop (sym (look-held a t c H same (omega (arith, R .below, R .inside))) ∙ arrow-told _ _ (record { 0 = y }) (s .says (T k) (H .chain k (ready-push R .source))) refl);
     news = λ x. inr (λ m. elim m [ ], refl);
     low = λ x m. absurd (elim m [ ]);
     held = H;
@@ -167,7 +161,7 @@ module _ (a : State → Letter) {n t : ℕ} {c : Letter} where
   climbed {L} {u = u} {T = T} {k = k} {y = y} (runs-out z q s e f) R H same = rw (e, f) (record {
     xs = k ∷ [];
     T′ = put T k (suc t);
-    climb = out z q (sym (look-held a t c H same (omega (arith, R .below, R .inside))) ∙ arrow-untold _ _ (s .says (T k) (H .chain k (ready-state R))) refl);
+    climb = out z q (sym (look-held a t c H same (omega (arith, R .below, R .inside))) ∙ arrow-untold _ _ (s .says (T k) (H .chain k (ready-push R .source))) refl);
     news = news₁ R H;
     low = λ x m. one x m;
     held = held₁ R H;
@@ -193,7 +187,7 @@ module _ (a : State → Letter) {n t : ℕ} {c : Letter} where
       join I = record {
         xs = k ∷ I .xs;
         T′ = I .T′;
-        climb = go p (sym (look-held a t c H same (omega (arith, R .below, R .inside))) ∙ arrow-untold _ _ (s .says (T k) (H .chain k (ready-state R))) refl) inner;
+        climb = go p (sym (look-held a t c H same (omega (arith, R .below, R .inside))) ∙ arrow-untold _ _ (s .says (T k) (H .chain k (ready-push R .source))) refl) inner;
         news = λ x. news x (ℕ-discrete x k) (I .news x);
         low = low;
         held = I .held;

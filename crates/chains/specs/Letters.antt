@@ -2,9 +2,10 @@
 -- once the table is laid out.
 --
 --   Ready L n t u k     a climb from k can go all its way: its states have chains, and slots enough are free
+--   Climbing ..         it has come to k, which has no arrow on the letter
 --   Climbs ..           what a climb does, a case for each way in which it goes on or ends
---   Steps ..            what a climb has done that took so many states and has not ended
---   ClimbSays .. r      what the answer r says of a climb that takes so many states at most
+--   Resting ..          what a climb has done that has not ended: it can go on, and where it ends from there it ends from k
+--   ClimbSays .. r      what the answer r says of a climb
 --   Begun L n t u       letter t + 1 can be added
 --   Added ..            what adding it does, a case for state 0 and one for the others
 --   zeroArrow y         the arrow from state 0 on a letter whose first state is y, 0 standing for none
@@ -44,23 +45,30 @@ pub record Ready (L : List ℕ) (n t u : ℕ) (k : State) : Type 0 where
   pub suffix : SuffixPath (λ x. at L (n + x)) k path
   pub free : u + suc (length path) ≤ t
 
+-- the letter is c, and z the arrow of state 0 on it
+pub record Climbing (n t : ℕ) (c : Letter) (z : Leads) (L : List ℕ) (u : ℕ) (k : State) : Type 0 where
+  pub ready : Ready L n t u k
+  pub zero : Looks L n t 0 c z
+  pub missing : Looks L n t k c Missing
+
 -- from L with u slots used, at k, to L′ with u′ slots used, the new state's supply being y
 pub data Climbs (n t : ℕ) (c : Letter) : List ℕ → ℕ → State → List ℕ → ℕ → State → Type 0 where
-  finds : {L L′ : List ℕ} {u u′ : ℕ} {k y : State} → Looks L n t k c (To (record { 0 = y })) → L′ ≡ L → u′ ≡ u → Climbs n t c L u k L′ u′ y
-  runs-out : {L L′ : List ℕ} {u u′ : ℕ} {k y : State} → k ≡ 0 → y ≡ 0 → Looks L n t k c Missing → L′ ≡ pushed L n u k (suc t) → u′ ≡ suc u
+  finds : {L L′ : List ℕ} {u u′ : ℕ} {k y : State} → Looks L n t k c (To (record { 0 = y })) → L′ ≡ L → u′ ≡ u
       → Climbs n t c L u k L′ u′ y
+  runs-out : {L L′ : List ℕ} {u u′ : ℕ} {k y : State} → k ≡ 0 → y ≡ 0 → Looks L n t k c Missing
+      → L′ ≡ pushed L n u k (suc t) → u′ ≡ suc u → Climbs n t c L u k L′ u′ y
   goes-on : {L L′ : List ℕ} {u u′ : ℕ} {k y : State} → 0 < k → Looks L n t k c Missing
       → Climbs n t c (pushed L n u k (suc t)) (suc u) (at L (n + k)) L′ u′ y → Climbs n t c L u k L′ u′ y
 
--- so many states taken, from L with u slots used, at k, to L′ with u′ slots used, at k′
-pub data Steps (n t : ℕ) (c : Letter) : ℕ → List ℕ → ℕ → State → List ℕ → ℕ → State → Type 0 where
-  no-step : {d : ℕ} {L L′ : List ℕ} {u u′ : ℕ} {k k′ : State} → d ≡ 0 → L′ ≡ L → u′ ≡ u → k′ ≡ k → Steps n t c d L u k L′ u′ k′
-  one-more : {d e : ℕ} {L L′ : List ℕ} {u u′ : ℕ} {k k′ : State} → d ≡ suc e → 0 < k → Looks L n t k c Missing
-      → Steps n t c e (pushed L n u k (suc t)) (suc u) (at L (n + k)) L′ u′ k′ → Steps n t c d L u k L′ u′ k′
+-- from L with u slots used, at k, to L₁ with u₁ slots used, at k₁
+pub record Resting (n t : ℕ) (c : Letter) (z : Leads) (L : List ℕ) (u : ℕ) (k : State) (L₁ : List ℕ) (u₁ : ℕ) (k₁ : State) : Type 0 where
+  pub there : Climbing n t c z L₁ u₁ k₁
+  pub onward : {L′ : List ℕ} {u′ : ℕ} {y : State} → Climbs n t c L₁ u₁ k₁ L′ u′ y → Climbs n t c L u k L′ u′ y
 
-abbrev pub ClimbSays : ℕ → ℕ → Letter → ℕ → List ℕ → ℕ → State → List ℕ → Climbed → Type 0
-ClimbSays n t c left L u k L′ (Ended u′ y) = Climbs n t c L u k L′ u′ (y .0)
-ClimbSays n t c left L u k L′ (Rests u′ k′) = Steps n t c left L u k L′ u′ (k′ .0)
+-- a rest is at a smaller state
+abbrev pub ClimbSays : ℕ → ℕ → Letter → Leads → List ℕ → ℕ → State → List ℕ → Climbed → Type 0
+ClimbSays n t c z L u k L′ (Ended u′ y) = Climbs n t c L u k L′ u′ (y .0)
+ClimbSays n t c z L u k L′ (Rests u′ k′) = (k′ .0 < k) × Resting n t c z L u k L′ u′ (k′ .0)
 
 pub record Begun (L : List ℕ) (n t u : ℕ) : Type 0 where
   pub chained : Chained L n
@@ -74,8 +82,8 @@ pub record Begun (L : List ℕ) (n t u : ℕ) : Type 0 where
 
 pub data Added (n t : ℕ) (L : List ℕ) (u : ℕ) (L′ : List ℕ) (u′ : ℕ) : Type 0 where
   first-letter : t ≡ 0 → L′ ≡ L → u′ ≡ u → Added n t L u L′ u′
-  later-letter : (L₁ : List ℕ) (y : State) → 0 < t → Climbs n t (at L (suc t)) L u (at L (n + t)) L₁ u′ y → L′ ≡ set L₁ (n + suc t) y
-      → Added n t L u L′ u′
+  later-letter : (L₁ : List ℕ) (y : State) → 0 < t → Climbs n t (at L (suc t)) L u (at L (n + t)) L₁ u′ y
+      → L′ ≡ set L₁ (n + suc t) y → Added n t L u L′ u′
 
 unfoldable pub zeroArrow : ℕ → Leads
 zeroArrow y = arrowTo (cond (eqb y 0) none (some y))
@@ -105,6 +113,7 @@ pub record ChainsOf (B : List ℕ) (m : ℕ) (L : List ℕ) (u : ℕ) : Type 0 w
   pub letters : (i : ℕ) → i < suc m → at L i ≡ at B i
   pub no-supply : at L (suc m) ≡ 0
   pub supplies : (x : State) → x < m → supply (wordIn B m) (suc x) ≡ some (at L (suc m + suc x))
-  pub targets : (x : State) → x < suc m → Chain L (suc m) (at L (2 * suc m + x)) (reverse (extraTargets (oracle (wordIn B m)) (wordIn B m) x))
+  pub targets : (x : State) → x < suc m
+      → Chain L (suc m) (at L (2 * suc m + x)) (reverse (extraTargets (oracle (wordIn B m)) (wordIn B m) x))
   pub counted : length (targetsBefore (oracle (wordIn B m)) (wordIn B m) (suc m)) ≡ u
   pub unlaid : (i : ℕ) → i < suc m → at L (3 * suc m + i) ≡ 0

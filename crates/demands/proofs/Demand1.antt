@@ -1,76 +1,77 @@
 -- DEMAND 1, clause by clause: each is quoted word for word, and under it stands what says just that of the entries' outcomes, by citing the
 -- file where it is proved. Wrong programs that 01 wants shut out by this demand are named in plain words, each with what shuts it out.
 use mathlib.Core.Path.{_≡_, refl, ap}
+use mathlib.Core.Bool.{true}
 use mathlib.Core.Logic.{_⊎_, _↔_}
-use mathlib.Core.List.{List, [], _∷_, _++_, map, List·Memᴰ}
+use mathlib.Core.List.{List, [], _∷_, _++_, map}
 use Prim.Native.Nat.{ℕ, _+_, _-_, _≤_, _<_}
 use lib.ListN.{length, drop, replicate}
 use Rattle.words.specs.Words.{Word, Place, mirror}
-use Rattle.words.specs.Limits.{longestWord, longestText}
+use Rattle.words.specs.Limits.{longestWord, longestText, leastSaved, greatestFile}
 use Rattle.table.specs.Table.{room}
 use Rattle.saved.specs.File.{edition, spell}
 use Rattle.loaded.specs.Load.{letters}
 use Rattle.loaded.specs.Cases.{Reads, BadLength, FrontCase, letters-missing}
-use Rattle.marks.specs.declared.Built.{Built}
-use Rattle.marks.specs.declared.Saved.{Saved}
-use Rattle.marks.specs.declared.Searched.{Searched}
-use Rattle.marks.specs.declared.Loaded.{Loaded}
-use Rattle.marks.specs.declared.FileSearched.{FileSearched}
-use Rattle.marks.specs.Answers.{done, refused, refusals}
+use Rattle.answers.specs.declared.SizeAnswer.{SizeAnswer}
+use Rattle.answers.specs.declared.TallyAnswer.{TallyAnswer}
+use Rattle.answers.specs.Answers.{done, refused, refusesOnly, refusals}
 use Rattle.marks.specs.Build.{built, buildSays}
-use Rattle.marks.specs.Save.{savedAs, saveSays}
+use Rattle.mark_files.specs.Save.{savedAs, saveSays}
 use Rattle.marks.specs.Search.{found, searched, searchSays}
-use Rattle.marks.specs.Load.{loadedAs, loadSays}
-use Rattle.marks.specs.SearchFile.{fileSearched, searchFileSays}
+use Rattle.mark_files.specs.Load.{loadedAs, loadSays}
+use Rattle.mark_files.specs.SearchFile.{fileSearched, searchFileSays}
 use Rattle.marks.specs.Build
-use Rattle.marks.specs.Save
+use Rattle.mark_files.specs.Save
 use Rattle.marks.specs.Search
-use Rattle.marks.specs.Load
-use Rattle.marks.specs.SearchFile
-use Rattle.marks.specs.Cases.{BuildCase, SaveCase, SearchCase, LoadCase, SearchFileCase, AfterRefusal}
-use Rattle.marks.proofs.Numbers
+use Rattle.mark_files.specs.Load
+use Rattle.mark_files.specs.SearchFile
+use Rattle.marks.specs.Cases.{BuildCase, SearchCase}
+use Rattle.mark_files.specs.Cases.{SaveCase, LoadCase, SearchFileCase, AfterRefusal}
+use Rattle.marks.proofs.Numbers as WordNumbers
+use Rattle.mark_files.proofs.Numbers as FileNumbers
 use Rattle.marks.proofs.BuildSays
-use Rattle.marks.proofs.SaveSays
+use Rattle.mark_files.proofs.SaveSays
 use Rattle.marks.proofs.SearchSays
-use Rattle.marks.proofs.LoadSays
-use Rattle.marks.proofs.LoadTheorems
-use Rattle.marks.proofs.SearchFileSays
+use Rattle.mark_files.proofs.LoadSays
+use Rattle.mark_files.proofs.LoadTheorems
+use Rattle.mark_files.proofs.SearchFileSays
 
 -- ── 'Any word, text, file and room may be handed to any public entry.' ─────
 
--- Of the code, crates/marks/src/lib.rt: an entry has no `requires`, and its one `ensures` says that its answer and every lent buffer as it is left
--- are `buildSays`, `saveSays`, `searchSays`, `loadSays` or `searchFileSays` of what is handed over. These are functions on all lists of numbers.
+-- Of the code, crates/marks/src/lib.rt and crates/mark_files/src/lib.rt: an entry has no `requires`, and its one `ensures` says that its
+-- answer and every lent buffer as it is left are `buildSays`, `saveSays`, `searchSays`, `loadSays` or `searchFileSays` of what is handed over.
+-- These are functions on all lists of numbers.
 
 -- ── 'Each entry comes to an end with an answer, or refuses with a number from the written table,' ──
 
--- Of the code: every function is proved to end. What it ends with is `marks/Answers/Answer`: done with an answer, or refused with a number.
+-- Of the code: every function is proved to end. What it ends with is `answers/Answers/Answer`: done with an answer, or refused with a number.
 
 -- the numbers of the written table
 pub table-numbers : map (λ r. r .number) refusals ≡ 1 ∷ 2 ∷ 3 ∷ 4 ∷ 5 ∷ 6 ∷ 7 ∷ 8 ∷ 9 ∷ 10 ∷ 11 ∷ 12 ∷ []
 unfolding refusals
 table-numbers = refl
 
--- for every word, text and file, and every word room R, tables T, output O and list F
+-- for every word, text and file, and every word room R, tables T, output O and list F: each entry is done, or refuses with one of its numbers,
+-- and 'a refusal returns its number only'
 module _ (word text : Word) (file R T O : List ℕ) (F : List Place) where
-  module _ {n : ℕ} where
-    pub build-numbers : buildSays word T .answer ≡ refused n → List·Memᴰ n (1 ∷ 2 ∷ 3 ∷ [])
-    build-numbers = Numbers.build-numbers word T
+  pub build-numbers : refusesOnly (1 ∷ 2 ∷ 3 ∷ []) (buildSays word T .answer) ≡ true
+  build-numbers = WordNumbers.build-numbers word T
 
-    pub save-numbers : saveSays word T O .answer ≡ refused n → List·Memᴰ n (1 ∷ 2 ∷ 3 ∷ 12 ∷ [])
-    save-numbers = Numbers.save-numbers word T O
+  pub save-numbers : refusesOnly (1 ∷ 2 ∷ 3 ∷ 12 ∷ []) (saveSays word T O .answer) ≡ true
+  save-numbers = FileNumbers.save-numbers word T O
 
-    pub search-numbers : searchSays word text T F .answer ≡ refused n → List·Memᴰ n (1 ∷ 2 ∷ 4 ∷ 3 ∷ [])
-    search-numbers = Numbers.search-numbers word text T F
+  pub search-numbers : refusesOnly (1 ∷ 2 ∷ 4 ∷ 3 ∷ []) (searchSays word text T F .answer) ≡ true
+  search-numbers = WordNumbers.search-numbers word text T F
 
-    pub load-numbers : loadSays file R T .answer ≡ refused n → List·Memᴰ n (3 ∷ 5 ∷ 6 ∷ 7 ∷ 8 ∷ 9 ∷ 10 ∷ 11 ∷ [])
-    load-numbers = Numbers.load-numbers file R T
+  pub load-numbers : refusesOnly (3 ∷ 5 ∷ 6 ∷ 7 ∷ 8 ∷ 9 ∷ 10 ∷ 11 ∷ []) (loadSays file R T .answer) ≡ true
+  load-numbers = FileNumbers.load-numbers file R T
 
-    pub search-file-numbers : searchFileSays file text R T F .answer ≡ refused n → List·Memᴰ n (4 ∷ 3 ∷ 5 ∷ 6 ∷ 7 ∷ 8 ∷ 9 ∷ 10 ∷ 11 ∷ [])
-    search-file-numbers = Numbers.search-file-numbers file text R T F
+  pub search-file-numbers : refusesOnly (4 ∷ 3 ∷ 5 ∷ 6 ∷ 7 ∷ 8 ∷ 9 ∷ 10 ∷ 11 ∷ []) (searchFileSays file text R T F .answer) ≡ true
+  search-file-numbers = FileNumbers.search-file-numbers file text R T F
 
   -- ── 'exactly when the table says and at no other time.' ──────────────────
 
-  -- The table with its order is `marks/Cases`: a line is a constructor, with what word, bytes and rooms have to be for it, and its outcome.
+  -- The table with its order is `marks/Cases` and `mark_files/Cases`: a line is a constructor, with what word, bytes and rooms have to be for it, and its outcome.
 
   pub build-exactly : (o : Build.Outcome) → (buildSays word T ≡ o) ↔ BuildCase word T o
   build-exactly = BuildSays.build-is word T
@@ -117,31 +118,31 @@ module _ (word text : Word) (file R T O : List ℕ) (F : List Place) where
     search-file-refusal = SearchFileSays.refusal-leaves file text R T F
 
   -- and any two outcomes that an entry's promise allows are equal: the code's answers r and r′, and all that is left
-  pub build-fixed : (r r′ : Built) (T₁ T₂ : List ℕ) → built r T₁ ≡ buildSays word T → built r′ T₂ ≡ buildSays word T → (r ≡ r′) × (T₁ ≡ T₂)
+  pub build-fixed : (r r′ : SizeAnswer) (T₁ T₂ : List ℕ) → built r T₁ ≡ buildSays word T → built r′ T₂ ≡ buildSays word T → (r ≡ r′) × (T₁ ≡ T₂)
   build-fixed = BuildSays.build-one word T
 
-  pub save-fixed : (r r′ : Saved) (T₁ T₂ O₁ O₂ : List ℕ) → savedAs r T₁ O₁ ≡ saveSays word T O → savedAs r′ T₂ O₂ ≡ saveSays word T O
+  pub save-fixed : (r r′ : SizeAnswer) (T₁ T₂ O₁ O₂ : List ℕ) → savedAs r T₁ O₁ ≡ saveSays word T O → savedAs r′ T₂ O₂ ≡ saveSays word T O
       → (r ≡ r′) × (T₁ ≡ T₂) × (O₁ ≡ O₂)
   save-fixed = SaveSays.save-one word T O
 
-  pub search-fixed : (r r′ : Searched) (T₁ T₂ : List ℕ) (F₁ F₂ : List Place) → searched r T₁ F₁ ≡ searchSays word text T F
+  pub search-fixed : (r r′ : TallyAnswer) (T₁ T₂ : List ℕ) (F₁ F₂ : List Place) → searched r T₁ F₁ ≡ searchSays word text T F
       → searched r′ T₂ F₂ ≡ searchSays word text T F → (r ≡ r′) × (T₁ ≡ T₂) × (F₁ ≡ F₂)
   search-fixed = SearchSays.search-one word text T F
 
-  pub load-fixed : (r r′ : Loaded) (R₁ R₂ T₁ T₂ : List ℕ) → loadedAs r R₁ T₁ ≡ loadSays file R T → loadedAs r′ R₂ T₂ ≡ loadSays file R T
+  pub load-fixed : (r r′ : SizeAnswer) (R₁ R₂ T₁ T₂ : List ℕ) → loadedAs r R₁ T₁ ≡ loadSays file R T → loadedAs r′ R₂ T₂ ≡ loadSays file R T
       → (r ≡ r′) × (R₁ ≡ R₂) × (T₁ ≡ T₂)
   load-fixed = LoadSays.load-one file R T
 
-  pub search-file-fixed : (r r′ : FileSearched) (R₁ R₂ T₁ T₂ : List ℕ) (F₁ F₂ : List Place)
+  pub search-file-fixed : (r r′ : TallyAnswer) (R₁ R₂ T₁ T₂ : List ℕ) (F₁ F₂ : List Place)
       → fileSearched r R₁ T₁ F₁ ≡ searchFileSays file text R T F → fileSearched r′ R₂ T₂ F₂ ≡ searchFileSays file text R T F
       → (r ≡ r′) × (R₁ ≡ R₂) × (T₁ ≡ T₂) × (F₁ ≡ F₂)
   search-file-fixed = SearchFileSays.search-file-one file text R T F
 
   -- ── 'and no declared count is acted on before it has been checked.' ──────
 
-  -- Put as values, as 01 has it: what 8 or 9 returns and leaves is the same whichever bad number was declared. Of the code: a check that is left
-  -- out or moved is refused by the prover, as the must-fail edits no_limit_check and count_unchecked of crates/loaded and load_room_unchecked of
-  -- crates/marks show.
+  -- Put as values, as 01 has it: what 8 or 9 returns and leaves is the same whichever bad number was declared. Of the code: a check that is
+  -- left out or moved is refused by the prover, as the must-fail edits no_limit_check and count_unchecked of crates/loaded and
+  -- load_room_unchecked of crates/mark_files show.
 
   -- Shut out: a loader that clears before 8. A declared length that no word may have is refused with every lent buffer as it was
   pub bad-length-touches-nothing : {i m j : ℕ} → Reads file 0 edition i → Reads file i m j → BadLength m
@@ -171,27 +172,31 @@ module _ (word text : Word) (file R T O : List ℕ) (F : List Place) where
   -- ── Shut out: refusals in another order ──────────────────────────────────
 
   -- letters that are missing are refused with 5, however short the rooms are: 3 comes behind them
-  pub letters-before-rooms : {i m j : ℕ} → Reads file 0 edition i → Reads file i m j → 1 ≤ m → m ≤ longestWord → length file < j + m
+  pub letters-before-rooms : {i m j : ℕ} → Reads file 0 edition i → Reads file i m j → leastSaved ≤ m → m ≤ longestWord → length file < j + m
       → loadSays file R T ≡ Load.outcome (refused 5) R T
   letters-before-rooms e r least most cut = load-exactly _ .1 (LoadCase.head-refused (letters-missing e r least most cut))
 
   -- ── Shut out: an entry that refuses everything ───────────────────────────
 
   -- with a word within the limits and rooms large enough, none of the five refuses
-  module _ (least : 1 ≤ length word) (most : length word ≤ longestWord) (enough : room (length word) ≤ length T) where
-    pub build-answers : buildSays word T .answer ≡ done (length word)
-    build-answers = ap (λ o. o .answer) (BuildSays.says-done word T least most enough)
+  module _ (most : length word ≤ longestWord) (enough : room (length word) ≤ length T) where
+    pub build-answers : 1 ≤ length word → buildSays word T .answer ≡ done (length word)
+    build-answers some = ap (λ o. o .answer) (BuildSays.says-done word T some most enough)
 
-    pub save-answers : length (spell word) ≤ length O → saveSays word T O .answer ≡ done (length (spell word))
-    save-answers out = ap (λ o. o .answer) (SaveSays.says-done word T O least most enough out)
+    pub search-answers : 1 ≤ length word → length text ≤ longestText → searchSays word text T F .answer ≡ done (found word text)
+    search-answers some short = ap (λ o. o .answer) (SearchSays.says-done word text T F some most short enough)
 
-    pub search-answers : length text ≤ longestText → searchSays word text T F .answer ≡ done (found word text)
-    search-answers short = ap (λ o. o .answer) (SearchSays.says-done word text T F least most short enough)
+    pub save-answers : 1 ≤ length word → length (spell word) ≤ length O → saveSays word T O .answer ≡ done (length (spell word))
+    save-answers some out = ap (λ o. o .answer) (SaveSays.says-done word T O some most enough out)
 
-    pub load-answers : length word ≤ length R → loadSays (spell word) R T .answer ≡ done (length word)
-    load-answers fits = ap (λ o. o .answer) (LoadTheorems.file-loads R T word least most fits enough)
+    pub load-answers : leastSaved ≤ length word → length word ≤ length R → loadSays (spell word) R T .answer ≡ done (length word)
+    load-answers least fits = ap (λ o. o .answer) (LoadTheorems.file-loads R T word least most fits enough)
 
-    pub search-file-answers : length text ≤ longestText → length word ≤ length R
+    pub search-file-answers : leastSaved ≤ length word → length text ≤ longestText → length word ≤ length R
         → searchFileSays (spell word) text R T F .answer ≡ done (found (mirror word) text)
-    search-file-answers short fits =
+    search-file-answers least short fits =
         ap (λ o. o .answer) (SearchFileSays.file-searched (spell word) text R T F word least most refl short fits enough)
+
+  -- and the output that 01 promises to be enough always is
+  pub save-never-short : greatestFile ≤ length O → saveSays word T O .answer ≡ refused 12 → ⊥
+  save-never-short = SaveSays.enough-output word T O

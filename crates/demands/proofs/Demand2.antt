@@ -7,8 +7,8 @@ use mathlib.Core.List.{List, _++_, List·Memᴰ}
 use Prim.Native.Nat.{ℕ, _+_, _*_, _-_, _≤_, _<_}
 use lib.ListN.{length, take, drop, getD}
 use Rattle.words.specs.Words.{Letter, Word, Place, part, mirror, occurrences}
-use Rattle.words.specs.Limits.{longestWord, longestText}
-use Rattle.words.proofs.Lists.{Rising}
+use Rattle.words.specs.Limits.{longestWord, longestText, leastSaved}
+use Rattle.words.specs.Lists.{Rising}
 use Rattle.words.proofs.Occurrences.{stands-part, part-stands}
 use Rattle.oracle.specs.Arrows.{State, Arrow, target}
 use Rattle.oracle.specs.SuffixRule.{suffixRule, oracle}
@@ -19,15 +19,17 @@ use Rattle.backward.specs.Steps.{backward}
 use Rattle.table.specs.Table.{room, tableOf, readWord, readArrow, readSupply}
 use Rattle.table.specs.Freedom.{ExtraSet, Lower, ReadAs}
 use Rattle.table.proofs.Freedom
+use Rattle.finds.specs.declared.Tally.{Tally}
 use Rattle.finds.specs.Finds.{filled}
+use Rattle.finds.proofs.Theorems as Listed
 use Rattle.saved.specs.File.{spell}
-use Rattle.marks.specs.Answers.{done}
+use Rattle.answers.specs.Answers.{done}
 use Rattle.marks.specs.Build.{buildSays}
-use Rattle.marks.specs.Search.{Found, found, searchSays}
-use Rattle.marks.specs.SearchFile.{outcome, searchFileSays}
+use Rattle.marks.specs.Search.{found, searchSays}
+use Rattle.mark_files.specs.SearchFile.{outcome, searchFileSays}
 use Rattle.marks.proofs.BuildSays
 use Rattle.marks.proofs.SearchSays
-use Rattle.marks.proofs.SearchFileSays
+use Rattle.mark_files.proofs.SearchFileSays
 use Rattle.demands.proofs.TwoTables.{ab}
 use Rattle.demands.proofs.TwoTables
 
@@ -65,7 +67,7 @@ module _ (word text : Word) (T : List ℕ) (least : 1 ≤ length word) (most : l
     abbrev finds : List Place
     finds = searchSays word text T F .finds
 
-    found-is : (f : Found) → searchSays word text T F .answer ≡ done f → f ≡ found word text
+    found-is : (f : Tally) → searchSays word text T F .answer ≡ done f → f ≡ found word text
     found-is f e = let a = SearchSays.letters-said word text T F least most short enough in cc
 
     -- ── 'The backward search lists exactly the places where the word stands in the text, overlaps included,' ──
@@ -76,7 +78,7 @@ module _ (word text : Word) (T : List ℕ) (least : 1 ≤ length word) (most : l
         let e = SearchSays.found-exactly word text T F least most short enough j in
         (λ i. let r = e .0 i in (r .0, stands-part word text j (r .1)), λ r. e .1 (r .0, part-stands word text j (r .1)))
 
-    pub count-exact : (f : Found) → searchSays word text T F .answer ≡ done f → f .count ≡ length places
+    pub count-exact : (f : Tally) → searchSays word text T F .answer ≡ done f → f .count ≡ length places
     count-exact f e = ap (λ f. f .count) (found-is f e)
 
     -- ── 'rising (the first of them where the caller's list is short),' ─────
@@ -86,25 +88,25 @@ module _ (word text : Word) (T : List ℕ) (least : 1 ≤ length word) (most : l
 
     -- entry i of the list is place i of them, as far as both go; the others are as they were
     pub first-listed : (i : ℕ) → i < length places → i < length F → getD finds i 0 ≡ getD places i 0
-    first-listed i h b = rw (SearchSays.finds-left word text T F least most short enough) (SearchSays.filled-find places F i h b)
+    first-listed i h b = rw (SearchSays.finds-left word text T F least most short enough) (Listed.filled-find places F i h b)
 
     pub others-kept : (i : ℕ) → length places ≤ i → i < length F → getD finds i 0 ≡ getD F i 0
-    others-kept i h b = rw (SearchSays.finds-left word text T F least most short enough) (SearchSays.filled-kept places F i h b)
+    others-kept i h b = rw (SearchSays.finds-left word text T F least most short enough) (Listed.filled-kept places F i h b)
 
     -- ── 'and the number of letters read is the one that the published steps give.' ──
 
     -- Shut out: a made-up letters-read number. Whatever number is answered, it is the steps' own count
-    pub letters-of-the-steps : (f : Found) → searchSays word text T F .answer ≡ done f → f .letters ≡ backward word text .letters
+    pub letters-of-the-steps : (f : Tally) → searchSays word text T F .answer ≡ done f → f .letters ≡ backward word text .letters
     letters-of-the-steps f e = ap (λ f. f .letters) (found-is f e)
 
     pub letters-at-most : m ≤ length text → backward word text .letters ≤ m * (length text - m + 1)
     letters-at-most = SearchSays.letters-most word text T F least most short enough
 
     -- all this of a search with a word's file too: it is the search for the word's mirror
-    pub file-search : (R : List ℕ) → m ≤ length R → searchFileSays (spell word) text R T F
+    pub file-search : (R : List ℕ) → leastSaved ≤ m → m ≤ length R → searchFileSays (spell word) text R T F
         ≡ outcome (done (found (mirror word) text)) (word ++ drop m R) (tableOf word ++ drop (room m) T)
         (filled (occurrences (mirror word) text) F)
-    file-search R fits = SearchFileSays.file-searched (spell word) text R T F word least most refl short fits enough
+    file-search R saved fits = SearchFileSays.file-searched (spell word) text R T F word saved most refl short fits enough
 
     -- ── Shut out: a search that lists nothing ──────────────────────────────
 
@@ -112,7 +114,7 @@ module _ (word text : Word) (T : List ℕ) (least : 1 ≤ length word) (most : l
     pub standing-listed : (j : Place) → j + m ≤ length text → part text j m ≡ word → length places ≤ length F
         → List·Memᴰ j (take (length places) finds)
     standing-listed j h e b =
-        rw (SearchSays.finds-left word text T F least most short enough, SearchSays.filled-all places F b) (places-exactly j .1 (h, e))
+        rw (SearchSays.finds-left word text T F least most short enough, Listed.filled-all places F b) (places-exactly j .1 (h, e))
 
   -- ── Shut out: a build that leaves the tables alone ───────────────────────
 

@@ -4,25 +4,30 @@ use mathlib.Core.Path.{_≡_, sym, ap, _∙_}
 use mathlib.Core.Logic.{_↔_}
 use mathlib.Core.Option.{some}
 use mathlib.Core.List.{List, _∷_, _++_, List·Memᴰ}
-use Prim.Native.Nat.{ℕ, _*_, _-_, _≤_, _<_}
+use Prim.Native.Nat.{ℕ, _+_, _*_, _-_, _≤_, _<_}
 use native.Mathlib.Omega.{arith}
 use lib.ListN.{length, take, drop}
-use Rattle.words.specs.Words.{Letter, Word, Factor}
-use Rattle.words.specs.Limits.{longestWord}
+use Rattle.words.specs.Words.{Letter, Word, Place, Factor}
+use Rattle.words.specs.Limits.{longestWord, longestText, leastSaved, greatestFile}
+use Rattle.words.proofs.Limits.{saved-some}
 use Rattle.oracle.specs.Arrows.{State, Arrow, arrow, Delta, walk, OneEach}
 use Rattle.oracle.specs.SuffixRule.{suffixRule, oracle}
 use Rattle.oracle.proofs.Targets.{target-member, member-target}
 use Rattle.oracle.proofs.Theorems
 use Rattle.table.specs.Table.{room, tableOf, readArrow}
 use Rattle.number.specs.Number.{Bytes}
+use Rattle.finds.specs.declared.Tally.{Tally}
 use Rattle.saved.specs.File.{spell, Saved}
+use Rattle.saved.proofs.Theorems.{size-least, size-most}
 use Rattle.loaded.proofs.Theorems.{spell-injective}
-use Rattle.marks.specs.Answers.{done, refused}
-use Rattle.marks.specs.Save.{saveSays}
-use Rattle.marks.specs.Load.{outcome, loadSays}
-use Rattle.marks.proofs.SaveSays
-use Rattle.marks.proofs.LoadTheorems.{Handed}
-use Rattle.marks.proofs.LoadTheorems
+use Rattle.answers.specs.Answers.{done, refused}
+use Rattle.mark_files.specs.Save.{saveSays}
+use Rattle.mark_files.specs.Load.{outcome, loadSays}
+use Rattle.mark_files.specs.SearchFile.{searchFileSays}
+use Rattle.mark_files.proofs.SaveSays
+use Rattle.mark_files.proofs.SearchFileSays
+use Rattle.mark_files.proofs.LoadTheorems.{Handed}
+use Rattle.mark_files.proofs.LoadTheorems
 
 -- ── 'Given enough room, a saved file is accepted exactly when it is the one spelling of some word of 1 to 1,024 bytes with that word's
 --    oracle,' ──
@@ -32,8 +37,20 @@ pub accepted-exactly : (s R T : List ℕ) → Bytes s
     → ((m : ℕ) × (loadSays s R T .answer ≡ done m)) ↔ ((f : Saved s) × (length (f .word) ≤ length R) × (room (length (f .word)) ≤ length T))
 accepted-exactly s R T bytes = LoadTheorems.accepted-exactly R T s bytes
 
+-- a search with a file accepts the same files
+pub searched-exactly : (s : List ℕ) (text : Word) (R T : List ℕ) (F : List Place) → Bytes s → length text ≤ longestText
+    → ((t : Tally) × (searchFileSays s text R T F .answer ≡ done t))
+    ↔ ((f : Saved s) × (length (f .word) ≤ length R) × (room (length (f .word)) ≤ length T))
+searched-exactly s text R T F = SearchFileSays.accepted-exactly s text R T F
+
+-- the least file has leastSaved + 3 bytes, and greatestFile bytes are room enough for any
+pub file-sizes : (s : List ℕ) → Saved s → (leastSaved + 3 ≤ length s) × (length s ≤ greatestFile)
+file-sizes s f =
+    let some : 1 ≤ length (f .word) = omega (arith, saved-some, f .savable .least) in
+    (size-least s f, rw (f .file) (size-most (f .word) some (f .savable .most)))
+
 -- for every word within the limits, and rooms R and T that are large enough for it
-module _ (word : Word) (R T : List ℕ) (least : 1 ≤ length word) (most : length word ≤ longestWord) (fits : length word ≤ length R)
+module _ (word : Word) (R T : List ℕ) (least : leastSaved ≤ length word) (most : length word ≤ longestWord) (fits : length word ≤ length R)
     (enough : room (length word) ≤ length T) where
   abbrev m : ℕ
   m = length word
@@ -53,20 +70,22 @@ module _ (word : Word) (R T : List ℕ) (least : 1 ≤ length word) (most : leng
   pub oracle-handed-over : readArrow m (take (room m) (loadSays (spell word) R T .tables)) ≡ oracle word
   oracle-handed-over = LoadTheorems.loaded-arrows R T word least most fits enough
 
-  -- ── 'saving a word writes that file,' ────────────────────────────────────
+-- ── 'saving a word writes that file,' ──────────────────────────────────────
 
-  pub saving-writes : (O : List ℕ) → length (spell word) ≤ length O → take (length (spell word)) (saveSays word T O .output) ≡ spell word
-  saving-writes O out = SaveSays.done-leaves word T O least most enough out .file
+pub saving-writes : (word : Word) (T O : List ℕ) → 1 ≤ length word → length word ≤ longestWord → room (length word) ≤ length T
+    → length (spell word) ≤ length O → take (length (spell word)) (saveSays word T O .output) ≡ spell word
+saving-writes word T O letters most enough out = SaveSays.done-leaves word T O letters most enough out .file
 
 -- ── 'and no two words share one.' ──────────────────────────────────────────
 
-pub no-two-words-share : (w w′ : Word) → 1 ≤ length w → length w ≤ longestWord → 1 ≤ length w′ → length w′ ≤ longestWord
+pub no-two-words-share : (w w′ : Word) → leastSaved ≤ length w → length w ≤ longestWord → leastSaved ≤ length w′ → length w′ ≤ longestWord
     → spell w ≡ spell w′ → w ≡ w′
 no-two-words-share = spell-injective
 
 -- ── 'This set of files is defined without the loader.' ─────────────────────
 
--- It is `Saved` of crates/saved/specs/File.antt. The crate `saved` has never seen the loader: `loaded` and `marks` stand above it (crates.txt).
+-- It is `Saved` of crates/saved/specs/File.antt. The crate `saved` has never seen the loader: `loaded` and `mark_files` stand above it
+-- (crates.txt).
 
 -- ── 'In each accepted oracle of a word of length m,' ───────────────────────
 
@@ -119,7 +138,8 @@ module _ (s R T : List ℕ) (bytes : Bytes s) {m : ℕ} (accepted : loadSays s R
   hands-over-its-word = H .file
 
 -- for two different words within the limits
-module _ (w w′ : Word) (least : 1 ≤ length w) (most : length w ≤ longestWord) (least′ : 1 ≤ length w′) (most′ : length w′ ≤ longestWord)
+module _ (w w′ : Word) (least : leastSaved ≤ length w) (most : length w ≤ longestWord)
+    (least′ : leastSaved ≤ length w′) (most′ : length w′ ≤ longestWord)
     (differ : w ≡ w′ → ⊥) (R T : List ℕ) (enough : room (length w) ≤ length T) (enough′ : room (length w′) ≤ length T) where
   -- ── Shut out: a loader that answers the same for all files ───────────────
 
@@ -133,6 +153,6 @@ module _ (w w′ : Word) (least : 1 ≤ length w) (most : length w ≤ longestWo
   pub saves-differ : (O : List ℕ) → length (spell w) ≤ length O → length (spell w′) ≤ length O
       → take (length (spell w)) (saveSays w T O .output) ≡ take (length (spell w′)) (saveSays w′ T O .output) → ⊥
   saves-differ O out out′ e =
-      let file = SaveSays.done-leaves w T O least most enough out .file in
-      let file′ = SaveSays.done-leaves w′ T O least′ most′ enough′ out′ .file in
+      let file = saving-writes w T O (omega (arith, saved-some, least)) most enough out in
+      let file′ = saving-writes w′ T O (omega (arith, saved-some, least′)) most′ enough′ out′ in
       differ (spell-injective w w′ least most least′ most′ (sym file ∙ e ∙ file′))

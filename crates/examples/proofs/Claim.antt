@@ -2,7 +2,7 @@
 use lib.Dec.{T}
 use Rattle.words.specs.Lists.{from, only, first}
 use Rattle.words.specs.Words.{same, stands, occurrences}
-use Rattle.words.specs.Limits.{longestWord}
+use Rattle.words.specs.Limits.{longestWord, leastSaved}
 use Rattle.oracle.specs.Arrows.{target, walk, spine}
 use Rattle.oracle.specs.SuffixRule.{far, mend, missing, extrasAfter, extraArrows, suffixRule}
 use Rattle.oracle.specs.LetterRule.{climb, addLetter, builtUpTo, letterRule}
@@ -10,14 +10,17 @@ use Rattle.oracle.specs.Supply.{ends, twice, repeated, supply}
 use Rattle.oracle.specs.FileOrder.{leadsTo, extraTargets, extrasBefore, fileArrows}
 use Rattle.backward.specs.Steps.{readDown, afterFind, windows, steps, backward}
 use Rattle.number.specs.Number.{groups, spellNumber, refuses, see, seeNumber, numberAt}
-use Rattle.saved.specs.File.{edition, stepsFrom, spellSteps, ownSteps, spell}
+use Rattle.saved.specs.File.{edition, stepsFrom, spellSteps, ownSteps, body, spell}
 use Rattle.loaded.specs.Load.{frontAt}
-use Rattle.marks.specs.Load.{loadSays}
-use Rattle.examples.specs.Examples.{is, isNone, walked, empty, has, gives, isRefused, refusedWith, refusedInRooms, holds, allHold, word, digit, bytes, table}
+use Rattle.mark_files.specs.Load.{loadSays}
+use Rattle.examples.specs.Examples.{is, isNone, walked, empty, has, gives, isRefused, refusedWith, refusedInRooms, holds, allHold}
+use Rattle.examples.specs.Examples.{word, digit, bytes, table}
 
 pub examples-hold : T (allHold table)
-unfolding from only first same stands occurrences target walk spine far mend missing extrasAfter extraArrows suffixRule climb addLetter builtUpTo letterRule
-    ends twice repeated supply readDown afterFind windows steps backward
-    longestWord leadsTo extraTargets extrasBefore fileArrows groups spellNumber refuses see seeNumber numberAt edition stepsFrom spellSteps ownSteps spell frontAt loadSays
+unfolding from only first same stands occurrences longestWord leastSaved
+    target walk spine far mend missing extrasAfter extraArrows suffixRule climb addLetter builtUpTo letterRule
+    ends twice repeated supply leadsTo extraTargets extrasBefore fileArrows
+    readDown afterFind windows steps backward
+    groups spellNumber refuses see seeNumber numberAt edition stepsFrom spellSteps ownSteps body spell frontAt loadSays
     is isNone walked empty has gives isRefused refusedWith refusedInRooms holds allHold word digit bytes table
 examples-hold = tt

@@ -19,14 +19,14 @@ use lib.Dec.{eqb, ltb}
 use Rattle.words.specs.Words.{Word, Place, letter, same, occurrences}
 use Rattle.oracle.specs.Arrows.{State, Delta, target, walk}
 use Rattle.oracle.specs.SuffixRule.{suffixRule, extraArrows, oracle}
-use Rattle.oracle.specs.LetterRule.{supplyIn, letterRule}
+use Rattle.oracle.specs.LetterRule.{supplyMade, letterRule}
 use Rattle.oracle.specs.Supply.{supply}
 use Rattle.oracle.specs.FileOrder.{Extra, extra}
 use Rattle.backward.specs.Steps.{backward}
 use Rattle.table.specs.Table.{room}
 use Rattle.saved.specs.File.{spell}
-use Rattle.marks.specs.Answers.{Answer, done, refused}
-use Rattle.marks.specs.Load.{Outcome, loadSays}
+use Rattle.answers.specs.Answers.{Answer, done, refused, refusedAt}
+use Rattle.mark_files.specs.Load.{Outcome, loadSays}
 
 -- an extra arrow as 01 writes it, 0-2: its letter is that of the state it leads to
 abbrev pub _to_ : State → State → Extra
@@ -74,6 +74,7 @@ gives S i (y ∷ l) = is (S i) y && gives S (suc i) l
 unfoldable pub isRefused : Answer ℕ → ℕ → Bool
 isRefused (done m) n = false
 isRefused (refused r) n = eqb r n
+isRefused (refusedAt r p) n = false
 
 -- refused with n, both rooms as they were
 unfoldable pub refusedWith : ℕ → List ℕ → List ℕ → Outcome → Bool
@@ -96,8 +97,8 @@ holds (arrowsOf p extra n l) =
     && (eqb (length (rule .arrows)) n
     && (isNone (supply p 0)
     && (gives (supply p) 1 l
-    && (isNone (supplyIn rule 0)
-    && gives (supplyIn rule) 1 l)))))))
+    && (isNone (supplyMade rule 0)
+    && gives (supplyMade rule) 1 l)))))))
 holds (acceptsNoFactor p v) = walked (walk (oracle p) 0 v) && empty (occurrences v p)
 holds (search w t starts n) =
     let r = backward w t in
@@ -135,7 +136,8 @@ table =
     ∷ arrowsOf (word "abbbaab") (0 to 2 ∷ 1 to 6 ∷ 2 to 5 ∷ 3 to 5 ∷ []) 11 (0 ∷ 0 ∷ 2 ∷ 3 ∷ 1 ∷ 1 ∷ 2 ∷ [])
     ∷ acceptsNoFactor (word "abbbaab") (word "aba")
     ∷ fileOf (word "abbbaab") (bytes "01 07 61 62 62 62 61 61 62 04 00 00 01 03 01 01 01 00")
-    ∷ arrowsOf (word "abcacdace") (0 to 2 ∷ 0 to 3 ∷ 0 to 6 ∷ 0 to 9 ∷ 1 to 5 ∷ 3 to 6 ∷ 3 to 9 ∷ 5 to 9 ∷ []) 17 (0 ∷ 0 ∷ 0 ∷ 1 ∷ 3 ∷ 0 ∷ 1 ∷ 5 ∷ 0 ∷ [])
+    ∷ arrowsOf (word "abcacdace") (0 to 2 ∷ 0 to 3 ∷ 0 to 6 ∷ 0 to 9 ∷ 1 to 5 ∷ 3 to 6 ∷ 3 to 9 ∷ 5 to 9 ∷ []) 17
+    (0 ∷ 0 ∷ 0 ∷ 1 ∷ 3 ∷ 0 ∷ 1 ∷ 5 ∷ 0 ∷ [])
     ∷ acceptsNoFactor (word "abcacdace") (word "cace")
     ∷ search (word "aa") (word "aaaa") (0 ∷ 1 ∷ 2 ∷ []) 6
     ∷ search (word "ab") (word "aab") (1 ∷ []) 4

@@ -1,8 +1,8 @@
--- The ways of `specs/Cases` are those that `frontAt`, `arrowsAt`, `ending` and `verdict` go: for each, first that some way leads to what it shows, then
--- that every way that applies leads there.
+-- The ways of `specs/Cases` are those that `frontAt`, `arrowsAt`, `ending` and `verdict` go: for each, first that some way leads to what it
+-- shows, then that every way that applies leads there.
 use mathlib.Core.Path.{_≡_, refl}
 use mathlib.Core.Bool.{Bool, true, false, _&&_, cond}
-use mathlib.Core.Logic.{_⊎_, inl, inr}
+use mathlib.Core.Logic.{inl, inr}
 use mathlib.Core.List.{List, [], _∷_}
 use Prim.Native.Nat.{ℕ, zero, suc, _+_, _-_, _≤_, _<_}
 use native.Mathlib.Omega.{arith}
@@ -10,33 +10,37 @@ use lib.ListN.{length}
 use lib.Dec.{eqb, leb, ltb}
 use borrow.Author.Tests.{eqb-true, eqb-false, leb-true, leb-false, ltb-true, ltb-false, eq-eqb, ne-eqb, le-leb, lt-leb, lt-ltb, le-ltb}
 use Rattle.words.specs.Words.{Word, Place}
-use Rattle.words.specs.Limits.{longestWord}
+use Rattle.words.specs.Limits.{leastSaved, longestWord}
 use Rattle.words.proofs.Lists.{and-true}
+use Rattle.words.proofs.Limits.{least-below-longest}
 use Rattle.number.specs.declared.Number.{Number}
 use Rattle.number.specs.declared.Number.the-variants.{Value, Refused}
 use Rattle.number.specs.Number.{numberAt}
-use Rattle.number.proofs.Theorems.{number-at-refused}
+use Rattle.number.proofs.Theorems.{Refusal, number-at-refused, cut-exactly, bad-exactly}
 use Rattle.saved.specs.File.{edition, Step, ownSteps}
-use Rattle.loaded.specs.Load.{taking, field, Front, stop, frontAt, neither, twoAt, nextIs, compared}
+use Rattle.loaded.specs.Load.{taking, field, Front, stop, frontAt, neither, twoAt, nextIs, takingTwo}
 use Rattle.loaded.specs.Load.{Ending, behind, broken, arrowsAt, ending, Verdict, closed, verdict}
 use Rattle.loaded.specs.Cases.{Reads, Unread, cut-off, bad-byte}
-use Rattle.loaded.specs.Cases.{BadLength, FrontCaseAt, edition-unread, edition-other, length-unread, length-bad, letters-missing, letters-there}
-use Rattle.loaded.specs.Cases.{ArrowsCase, arrow-agrees, up-unread, over-unread, arrow-differs, no-arrow-left, arrows-missing, all-agree}
+use Rattle.loaded.specs.Cases.{BadLength, FrontCaseAt, edition-unread, edition-other, length-unread, length-bad}
+use Rattle.loaded.specs.Cases.{letters-missing, letters-there}
+use Rattle.loaded.specs.Cases.{ArrowsCase, arrow-agrees, up-unread, over-unread, arrow-differs, no-arrow-left}
+use Rattle.loaded.specs.Cases.{arrows-missing, all-agree}
 use Rattle.loaded.specs.Cases.{EndingCase, count-unread, count-too-large, count-fits}
 use Rattle.loaded.specs.Cases.{VerdictCase, arrows-wrong, leftovers, all-read}
 
 -- ── A number ───────────────────────────────────────────────────────────────
 
-unread : {s : List ℕ} {i : Place} {r : ℕ} {p : Place} → Unread s i r p → numberAt s i ≡ Refused r p
-unread (cut-off e) = e
-unread (bad-byte e) = e
+module _ (s : List ℕ) (i : Place) where
+  pub unread : {r : ℕ} {p : Place} → Unread s i r p → numberAt s i ≡ Refused r p
+  unread (cut-off c) = cut-exactly s i .1 c
+  unread (bad-byte {p = p} b) = bad-exactly s i p .1 b
 
-refused-unread : (s : List ℕ) (i : Place) {r : ℕ} {p : Place} → numberAt s i ≡ Refused r p → Unread s i r p
-refused-unread s i {r} {p} e = by (number-at-refused s i e)
-  where
-    by : ((r ≡ 5) × (p ≡ length s)) ⊎ ((r ≡ 6) × (i ≤ p) × (p < length s)) → Unread s i r p
-    by (inl q) = rw (q .0, q .1) (cut-off (rw (q .0, q .1) at e))
-    by (inr q) = rw (q .0) (bad-byte (rw (q .0) at e))
+  pub refused-unread : {r : ℕ} {p : Place} → numberAt s i ≡ Refused r p → Unread s i r p
+  refused-unread {r} {p} e = by (number-at-refused s i e)
+    where
+      by : Refusal s i r p → Unread s i r p
+      by (inl q) = rw (q .0, q .1) (cut-off (q .2))
+      by (inr q) = rw (q .0) (bad-byte (q .1))
 
 -- ── Fields and tests, by cases ─────────────────────────────────────────────
 
@@ -56,10 +60,13 @@ module _ {A : Type 0} (P : A → Type 0) where
   most-case : (a b : ℕ) {x y : A} → (a ≤ b → P x) → (b < a → P y) → P (cond (leb a b) x y)
   most-case a b f g = test-case (leb a b) (λ t. f (leb-true a b t)) (λ t. g (leb-false a b t))
 
-  length-case : (m : ℕ) {x y : A} → (1 ≤ m → m ≤ longestWord → P x) → (BadLength m → P y) → P (cond (leb 1 m && leb m longestWord) x y)
-  length-case zero f g = g (inl refl)
-  length-case (suc m) f g =
-      rw (le-leb 1 (suc m) (omega arith)) (most-case (suc m) longestWord (λ h. f (omega arith) h) (λ h. g (inr h)))
+  length-case : (m : ℕ) {x y : A} → (leastSaved ≤ m → m ≤ longestWord → P x) → (BadLength m → P y)
+      → P (cond (leb leastSaved m && leb m longestWord) x y)
+  length-case m {x} {y} f g = by (leb leastSaved m) refl
+    where
+      by : (b : Bool) → leb leastSaved m ≡ b → P (cond (b && leb m longestWord) x y)
+      by true e = most-case m longestWord (f (leb-true leastSaved m e)) (λ h. g (inr h))
+      by false e = g (inl (leb-false leastSaved m e))
 
 -- whether two numbers are those of the arrow t
 module _ (a b : ℕ) (t : Step) where
@@ -92,26 +99,27 @@ module _ (s : List ℕ) where
   -- and every way that applies leads there
   pub case-front : {o : Place} {f : Front} → FrontCaseAt s o f → frontAt s o ≡ f
   unfolding frontAt
-  case-front (edition-unread u) = rw (unread u)
+  case-front (edition-unread u) = rw (unread s _ u)
   case-front (edition-other {e = e} h d) = rw (h, ne-eqb e edition d)
-  case-front (length-unread h u) = rw (h, eq-eqb edition edition refl, unread u)
-  case-front (length-bad {m = m} h k (inl z)) = rw (h, eq-eqb edition edition refl, k, lt-leb 1 m (omega arith))
-  case-front (length-bad {m = m} h k (inr z)) = rw (h, eq-eqb edition edition refl, k, le-leb 1 m (omega arith), lt-leb m longestWord z)
+  case-front (length-unread h u) = rw (h, eq-eqb edition edition refl, unread s _ u)
+  case-front (length-bad {m = m} h k (inl z)) = rw (h, eq-eqb edition edition refl, k, lt-leb leastSaved m z)
+  case-front (length-bad {m = m} h k (inr z)) =
+      rw (h, eq-eqb edition edition refl, k, le-leb leastSaved m (omega (arith, least-below-longest)), lt-leb m longestWord z)
   case-front (letters-missing {m = m} {j = j} h k a b c) =
-      rw (h, eq-eqb edition edition refl, k, le-leb 1 m a, le-leb m longestWord b, lt-leb (j + m) (length s) c)
+      rw (h, eq-eqb edition edition refl, k, le-leb leastSaved m a, le-leb m longestWord b, lt-leb (j + m) (length s) c)
   case-front (letters-there {m = m} {j = j} h k a b c) =
-      rw (h, eq-eqb edition edition refl, k, le-leb 1 m a, le-leb m longestWord b, le-leb (j + m) (length s) c)
+      rw (h, eq-eqb edition edition refl, k, le-leb leastSaved m a, le-leb m longestWord b, le-leb (j + m) (length s) c)
 
   -- ── The arrows ───────────────────────────────────────────────────────────
 
   two-case : {C : Type 0} (P : C → Type 0) (i : Place) (off : ℕ → ℕ → C) (on : ℕ → ℕ → ℕ → C)
       → ((r : ℕ) (p : Place) → Unread s i r p → P (off r p))
       → ((a : ℕ) (j : Place) (r : ℕ) (p : Place) → Reads s i a j → Unread s j r p → P (off r p))
-      → ((a : ℕ) (j : Place) (b : ℕ) (k : Place) → Reads s i a j → Reads s j b k → P (on a b k)) → P (compared (twoAt s i) off on)
+      → ((a : ℕ) (j : Place) (b : ℕ) (k : Place) → Reads s i a j → Reads s j b k → P (on a b k)) → P (takingTwo (twoAt s i) off on)
   unfolding twoAt
   two-case P i off on f g h =
-      field-case (λ t. P (compared t off on)) s i neither _ f (λ a j x.
-      field-case (λ t. P (compared t off on)) s j neither _ (λ r p u. g a j r p x u) (λ b k y. h a j b k x y))
+      field-case (λ t. P (takingTwo t off on)) s i neither _ f (λ a j x.
+      field-case (λ t. P (takingTwo t off on)) s j neither _ (λ r p u. g a j r p x u) (λ b k y. h a j b k x y))
 
   -- some way leads to what is shown
   pub arrows-case : (i : Place) (n : ℕ) (l : List Step) → ArrowsCase s i n l (arrowsAt s i n l)
@@ -119,7 +127,8 @@ module _ (s : List ℕ) where
   arrows-case i zero [] = all-agree
   arrows-case i zero (t ∷ l) = arrows-missing
   arrows-case i (suc n) [] =
-      two-case (ArrowsCase s i (suc n) []) i broken _ (λ r p u. up-unread u) (λ a j r p h u. over-unread h u) (λ a j b k h g. no-arrow-left h g)
+      two-case (ArrowsCase s i (suc n) []) i broken _ (λ r p u. up-unread u) (λ a j r p h u. over-unread h u)
+      (λ a j b k h g. no-arrow-left h g)
   arrows-case i (suc n) (t ∷ l) =
       two-case (ArrowsCase s i (suc n) (t ∷ l)) i broken _ (λ r p u. up-unread u) (λ a j r p h u. over-unread h u) (λ a j b k h g.
       test-case (ArrowsCase s i (suc n) (t ∷ l)) (nextIs a b (t ∷ l)) (λ e. let q = and-true {a = eqb a (t .up)} e in
@@ -130,8 +139,8 @@ module _ (s : List ℕ) where
   pub case-arrows : {i : Place} {n : ℕ} {l : List Step} {e : Ending} → ArrowsCase s i n l e → arrowsAt s i n l ≡ e
   unfolding arrowsAt twoAt
   case-arrows (arrow-agrees {t = t} h g c) = rw (h, g, eq-eqb (t .up) (t .up) refl, eq-eqb (t .over) (t .over) refl) (case-arrows c)
-  case-arrows (up-unread u) = rw (unread u)
-  case-arrows (over-unread h u) = rw (h, unread u)
+  case-arrows (up-unread u) = rw (unread s _ u)
+  case-arrows (over-unread h u) = rw (h, unread s _ u)
   case-arrows (arrow-differs {a = a} {b = b} {t = t} h g d) = rw (h, g, differs-next a b t d)
   case-arrows (no-arrow-left h g) = rw (h, g)
   case-arrows arrows-missing = refl
@@ -149,7 +158,7 @@ module _ (s : List ℕ) where
   -- and every way that applies leads there
   pub case-ending : {i : Place} {w : Word} {e : Ending} → EndingCase s i w e → ending s i w ≡ e
   unfolding ending
-  case-ending (count-unread u) = rw (unread u)
+  case-ending (count-unread u) = rw (unread s _ u)
   case-ending {w = w} (count-too-large {n = n} h g) = rw (h, lt-leb n (length w - 1) g)
   case-ending {w = w} (count-fits {n = n} h g c) = rw (h, le-leb n (length w - 1) g) (case-arrows c)
 
@@ -162,7 +171,8 @@ module _ (s : List ℕ) where
     where
       by : (e : Ending) → EndingCase s i w e → VerdictCase s i w (closed s e)
       by (behind p) c =
-          test-case (VerdictCase s i w) (ltb p (length s)) (λ t. leftovers c (ltb-true p (length s) t)) (λ t. all-read c (ltb-false p (length s) t))
+          test-case (VerdictCase s i w) (ltb p (length s))
+          (λ t. leftovers c (ltb-true p (length s) t)) (λ t. all-read c (ltb-false p (length s) t))
       by (broken r p) c = arrows-wrong c
 
   -- and every way that applies leads there

@@ -2,10 +2,10 @@
 -- what it shows at first against all of them.
 use mathlib.Core.Path.{_≡_, refl, sym, _∙_}
 use mathlib.Core.Bool.{true, false, _&&_, cond}
-use mathlib.Core.List.{List, []}
+use mathlib.Core.List.{List}
 use Prim.Native.Nat.{ℕ, zero, suc, _+_, _-_, _≤_, _<_}
 use native.Mathlib.Omega.{arith}
-use lib.ListN.{length, drop-of-length-le}
+use lib.ListN.{length}
 use lib.Seq.{drop-cons}
 use lib.Dec.{eqb}
 use Rattle.words.specs.Words.{Word}
@@ -14,8 +14,8 @@ use Rattle.oracle.specs.FileOrder.{extra, fileArrows}
 use Rattle.saved.specs.File.{Step, stepsFrom, ownSteps}
 use Rattle.saved.specs.Stepping.{stepsAhead, Standing, Leapt}
 use Rattle.saved.specs.declared.Leap.{Leap}
-use Rattle.saved.proofs.Slots.{steps-length, stand-start}
-use Rattle.loaded.specs.Load.{both, neither, twoAt, Ending, behind, broken, nextIs, later, none-left, compared, arrowsAt}
+use Rattle.saved.proofs.Slots.{steps-length, none-ahead, stand-start}
+use Rattle.loaded.specs.Load.{both, neither, twoAt, Ending, behind, broken, nextIs, later, none-left, takingTwo, arrowsAt}
 
 -- ── One arrow ──────────────────────────────────────────────────────────────
 
@@ -28,25 +28,21 @@ module _ (s : List ℕ) (i : ℕ) (l : List Step) where
 
   -- one is
   arrows-some : (n : ℕ) → 0 < n
-      → arrowsAt s i n l ≡ compared (twoAt s i) broken (λ a b k. cond (nextIs a b l) (arrowsAt s k (n - 1) (later l)) (broken 10 i))
+      → arrowsAt s i n l ≡ takingTwo (twoAt s i) broken (λ a b k. cond (nextIs a b l) (arrowsAt s k (n - 1) (later l)) (broken 10 i))
   unfolding arrowsAt
   arrows-some zero h = absurd (omega arith)
   arrows-some (suc n) h = let e : suc n - 1 ≡ n = omega arith in simp e
 
 module _ (w : Word) (x : State) (slot : ℕ) where
-  -- the word has no steps ahead
-  none-ahead : length (ownSteps w) ≤ slot → stepsAhead w x slot ≡ []
-  unfolding stepsFrom ownSteps
-  none-ahead g = let n = steps-length 0 (fileArrows w) in let h : length (fileArrows w) ≤ slot = omega arith in simp (drop-of-length-le (fileArrows w) h)
-
-  -- it has some
+  -- the word has steps ahead
   some-ahead : slot < length (ownSteps w) → none-left (stepsAhead w x slot) ≡ false
   unfolding stepsFrom ownSteps
-  some-ahead h = let n = steps-length 0 (fileArrows w) in simp (drop-cons (fileArrows w) slot (extra 0 0) (omega arith))
+  some-ahead h = simp (drop-cons (fileArrows w) slot (extra 0 0) (omega (arith, steps-length 0 (fileArrows w))))
 
 -- ── All of them ────────────────────────────────────────────────────────────
 
--- of n declared arrows from place i on, `left` are still to be read, from place j on; the word's own are ahead from `slot` on, x being the source before
+-- of n declared arrows from place i on, `left` are still to be read, from place j on; the word's own are ahead from `slot` on, x being
+-- the source before
 pub record Comparing (w : Word) (s : List ℕ) (i n j left slot : ℕ) (x : State) : Type 0 where
   pub same : arrowsAt s j left (stepsAhead w x slot) ≡ arrowsAt s i n (ownSteps w)
   pub stands : Standing w x slot

@@ -3,7 +3,7 @@
 use mathlib.Core.Path.{_≡_, refl, sym, _∙_}
 use mathlib.Core.Logic.{_⊎_, inl, inr, ⊎-elim}
 use mathlib.Core.List.{List, _∷_, _++_}
-use Prim.Native.Nat.{ℕ, _+_, _≤_, _<_}
+use Prim.Native.Nat.{ℕ, _+_, _≤_}
 use native.Mathlib.Omega.{arith}
 use lib.ListN.{length, drop, length-append, length-drop}
 use lib.Seq.{take-append-le, drop-append-le}
@@ -12,8 +12,10 @@ use Rattle.saved.specs.File.{Step}
 use Rattle.loaded.specs.Load.{Front, letters, stop, front, Ending, behind, broken, right, wrong}
 use Rattle.loaded.specs.Accepts.{Judged, Accepts}
 use Rattle.loaded.specs.Cases.{Reads, Unread}
-use Rattle.loaded.specs.Cases.{FrontCaseAt, FrontCase, edition-unread, edition-other, length-unread, length-bad, letters-missing, letters-there}
-use Rattle.loaded.specs.Cases.{ArrowsCase, arrow-agrees, up-unread, over-unread, arrow-differs, no-arrow-left, arrows-missing, all-agree}
+use Rattle.loaded.specs.Cases.{FrontCaseAt, FrontCase, edition-unread, edition-other, length-unread, length-bad}
+use Rattle.loaded.specs.Cases.{letters-missing, letters-there}
+use Rattle.loaded.specs.Cases.{ArrowsCase, arrow-agrees, up-unread, over-unread, arrow-differs, no-arrow-left}
+use Rattle.loaded.specs.Cases.{arrows-missing, all-agree}
 use Rattle.loaded.specs.Cases.{EndingCase, count-unread, count-too-large, count-fits, VerdictCase, arrows-wrong, all-read}
 use Rattle.loaded.proofs.Cases.{front-case, case-front, ending-case, case-ending, verdict-case, case-verdict}
 use Rattle.loaded.proofs.Fields.{reads-inside, reads-longer, unread-longer}
@@ -90,8 +92,8 @@ module _ (s : List ℕ) (b : ℕ) (x : List ℕ) where
   pub shorter-cut : {w : Word} → Accepts longer w → (front s ≡ stop 5 (length s)) ⊎ Judged s w (wrong 5 (length s))
   shorter-cut {w} a = by (front-longer (front-case s 0))
     where
-      cut : {i : Place} (e : Ending) → EndingCase s i w e → (e ≡ broken 5 (length s)) ⊎ EndingCase longer i w e → VerdictCase longer i w right
-          → EndingCase s i w (broken 5 (length s))
+      cut : {i : Place} (e : Ending) → EndingCase s i w e → (e ≡ broken 5 (length s)) ⊎ EndingCase longer i w e
+          → VerdictCase longer i w right → EndingCase s i w (broken 5 (length s))
       cut e c (inl q) v = rw q at c
       cut e c (inr d) (all-read {p = p} f h) =
           let q : e ≡ behind p = sym (case-ending longer d) ∙ case-ending longer f in

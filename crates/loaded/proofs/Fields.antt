@@ -2,18 +2,16 @@
 -- stood there is a law of the numbers, `number-at-stood`.
 use mathlib.Core.Path.{_≡_, refl, sym, ap, _∙_}
 use mathlib.Core.Logic.{_⊎_, inl, inr}
-use mathlib.Core.List.{List, _++_}
+use mathlib.Core.List.{List, _++_, append-assoc}
 use Prim.Native.Nat.{ℕ, _+_, _≤_, _<_}
 use native.Mathlib.Decide.{decLe}
 use native.Mathlib.Omega.{arith}
-use lib.ListN.{length, drop, length-drop, drop-of-length-le}
+use lib.ListN.{length, drop}
 use lib.Seq.{drop-drop, drop-append-seam, drop-append-le}
 use Rattle.words.specs.Words.{Place}
-use Rattle.number.specs.declared.Cursor.{Cursor}
-use Rattle.number.specs.declared.Number.the-variants.{Value, Refused}
-use Rattle.number.specs.Number.{greatest, spellNumber, Seen, number, ends, refused, see, seeNumber, placed, numberAt}
-use Rattle.number.proofs.Seeing.{Within, see-within}
-use Rattle.number.proofs.Theorems.{spelling-length, read-append, number-at-spelled, number-at-cut}
+use Rattle.number.specs.declared.Number.the-variants.{Refused}
+use Rattle.number.specs.Number.{greatest, spellNumber, Seen, number, ends, refused, seeNumber, numberAt}
+use Rattle.number.proofs.Theorems.{read-append, number-at-spelled, number-at-inside, cut-exactly, bad-exactly}
 use Rattle.loaded.specs.Cases.{Reads, Unread, cut-off, bad-byte}
 
 -- ── Numbers that stand there ───────────────────────────────────────────────
@@ -25,27 +23,25 @@ pub record ReadsBefore (s : List ℕ) (i v : ℕ) (l : List ℕ) : Type 0 where
   pub rest : drop next s ≡ l
   pub size : next ≡ i + length (spellNumber v)
 
--- a number that stands there is read
-pub reads-spelled : (s : List ℕ) (i v : ℕ) {l : List ℕ} → v ≤ greatest → drop i s ≡ spellNumber v ++ l → ReadsBefore s i v l
-reads-spelled s i v {l} h e = record {
-  next = i + length (spellNumber v);
-  read = number-at-spelled s i v l h e;
-  rest = sym (drop-drop (length (spellNumber v)) i s) ∙ ap (drop (length (spellNumber v))) e ∙ drop-append-seam (spellNumber v) l;
-  size = refl;
-}
+-- a number that stands there, before x and what follows, is read
+pub reads-spelled : (s : List ℕ) (i v : ℕ) (x l : List ℕ) → v ≤ greatest → drop i s ≡ (spellNumber v ++ x) ++ l
+    → ReadsBefore s i v (x ++ l)
+reads-spelled s i v x l h e =
+    let n = length (spellNumber v) in
+    let split = e ∙ append-assoc (spellNumber v) x l in
+    record {
+      next = i + n;
+      read = number-at-spelled s i v (x ++ l) h split;
+      rest = sym (drop-drop n i s) ∙ ap (drop n) split ∙ drop-append-seam (spellNumber v) (x ++ l);
+      size = refl;
+    }
 
 -- ── Where they stand ───────────────────────────────────────────────────────
 
 module _ (s : List ℕ) (i : Place) where
   -- a number that is read has at least one byte, and ends within the file
   pub reads-inside : {v : ℕ} {j : Place} → Reads s i v j → (i < j) × (j ≤ length s)
-  unfolding numberAt seeNumber
-  reads-inside {v} {j} e = by (see 0 (drop i s)) (see-within 0 (drop i s)) e
-    where
-      by : (g : Seen) → Within 0 (length (drop i s)) g → {c : Cursor} → placed s i g ≡ Value v c → (i < c .at) × (c .at ≤ length s)
-      by (number u n) w {c} q = let r : c .at ≡ i + n = cc in (omega arith, omega (arith, length-drop i s))
-      by ends w q = let z : _≡_ {A = ℕ} 0 1 = cc in absurd (omega arith)
-      by (refused n) w q = let z : _≡_ {A = ℕ} 0 1 = cc in absurd (omega arith)
+  reads-inside e = number-at-inside s i e
 
   -- ── With more bytes behind ───────────────────────────────────────────────
 
@@ -69,7 +65,7 @@ module _ (s : List ℕ) (i : Place) where
 
         by-place : Dec (i ≤ length s) → Same
         by-place (yes h) = by (read-append (drop i s) x) h
-        by-place (no h) = inl (number-at-cut s i {v = 0} {n = 0} (omega arith) (spelling-length 0 .0) (drop-of-length-le s {i = i} (omega arith)))
+        by-place (no h) = inl (cut-exactly s i .1 (record { few = omega arith; follow = λ k g. absurd (omega arith) }))
 
     -- what was read is read
     pub reads-longer : {v : ℕ} {j : Place} → Reads s i v j → Reads (s ++ x) i v j
@@ -82,8 +78,9 @@ module _ (s : List ℕ) (i : Place) where
     -- what was refused is refused, unless the file ended too soon
     pub unread-longer : {r : ℕ} {p : Place} → Unread s i r p → ((r ≡ 5) × (p ≡ length s)) ⊎ Unread (s ++ x) i r p
     unread-longer (cut-off e) = inl (refl, refl)
-    unread-longer (bad-byte {p = p} e) = inr (bad-byte (by number-longer))
+    unread-longer (bad-byte {p = p} b) = inr (bad-byte (bad-exactly (s ++ x) i p .0 (by number-longer (bad-exactly s i p .1 b))))
       where
-        by : (numberAt s i ≡ Refused 5 (length s)) ⊎ (numberAt (s ++ x) i ≡ numberAt s i) → numberAt (s ++ x) i ≡ Refused 6 p
-        by (inl q) = let z : _≡_ {A = ℕ} 0 1 = cc in absurd (omega arith)
-        by (inr q) = q ∙ e
+        by : (numberAt s i ≡ Refused 5 (length s)) ⊎ (numberAt (s ++ x) i ≡ numberAt s i) → numberAt s i ≡ Refused 6 p
+            → numberAt (s ++ x) i ≡ Refused 6 p
+        by (inl q) e = let z : _≡_ {A = ℕ} 0 1 = cc in absurd (omega arith)
+        by (inr q) e = q ∙ e

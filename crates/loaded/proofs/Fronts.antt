@@ -1,6 +1,6 @@
 -- THE FILE UP TO ITS LETTERS: what it shows, from the numbers that were read; and what a caller may take from the answer that the letters
 -- are there.
-use mathlib.Core.Path.{_≡_, refl}
+use mathlib.Core.Path.{_≡_}
 use mathlib.Core.Bool.{true, false, _&&_}
 use mathlib.Core.List.{List}
 use Prim.Native.Nat.{ℕ, _+_, _-_, _≤_, _<_}
@@ -8,46 +8,39 @@ use native.Mathlib.Omega.{arith}
 use lib.ListN.{length}
 use lib.Dec.{leb}
 use borrow.Author.Tests.{le-leb, lt-leb, leb-true}
-use Rattle.words.specs.Limits.{longestWord}
+use Rattle.words.specs.Limits.{leastSaved, longestWord}
 use Rattle.words.proofs.Lists.{and-true}
-use Rattle.words.proofs.Limits.{word-limit}
+use Rattle.words.proofs.Limits.{saved-some}
 use Rattle.number.specs.declared.Cursor.{Cursor}
 use Rattle.number.specs.declared.Number.the-variants.{Value}
 use Rattle.number.specs.Number.{numberAt}
-use Rattle.saved.specs.File.{edition}
 use Rattle.loaded.specs.Cases.{FrontCaseAt, edition-unread, edition-other, length-unread, length-bad, letters-missing, letters-there}
 use Rattle.loaded.proofs.Cases.{front-case}
 use Rattle.loaded.specs.Load.{Front, letters, stop, lettersAt, frontAt, front}
 
--- the code's constant
-pub edition-number : edition ≡ 1
-unfolding edition
-edition-number = refl
-
-between : (m k : ℕ) → leb 1 m && leb m k ≡ true → (1 ≤ m) × (m ≤ k)
-between m k e = let tests = and-true {a = leb 1 m} {b = leb m k} e in (leb-true 1 m (tests .0), leb-true m k (tests .1))
-
 -- ── From the number of letters ─────────────────────────────────────────────
 
 module _ (s : List ℕ) (i : ℕ) {m : ℕ} {c : Cursor} (read : numberAt s i ≡ Value m c) where
-  -- it is 0 or above the limit
-  pub shows-other-size : leb 1 m && leb m 1024 ≡ false → stop 8 i ≡ lettersAt s i
-  shows-other-size off = simp (read, word-limit, off)
+  -- it is below the least or above the greatest
+  pub shows-other-size : leb leastSaved m && leb m longestWord ≡ false → stop 8 i ≡ lettersAt s i
+  shows-other-size off = simp (read, off)
 
-  module _ (sized : leb 1 m && leb m 1024 ≡ true) where
+  module _ (sized : leb leastSaved m && leb m longestWord ≡ true) where
     -- the file ends before the last of the letters
     pub shows-cut : length s - c .at < m → stop 5 (length s) ≡ lettersAt s i
-    shows-cut short = simp (read, word-limit, sized, lt-leb (c .at + m) (length s) (omega arith))
+    shows-cut short = simp (read, sized, lt-leb (c .at + m) (length s) (omega arith))
 
     -- the letters are there
     pub shows-letters : m ≤ length s - c .at → letters m (c .at) ≡ lettersAt s i
-    shows-letters there = simp (read, word-limit, sized, le-leb (c .at + m) (length s) (omega (arith, between m 1024 sized)))
+    shows-letters there =
+        let some : 1 ≤ m = omega (arith, saved-some, leb-true leastSaved m (and-true {a = leb leastSaved m} sized .0)) in
+        simp (read, sized, le-leb (c .at + m) (length s) (omega arith))
 
 -- ── What a caller has ──────────────────────────────────────────────────────
 
 -- m letters, as many as are allowed, stand in the file s from place j on
 pub record LettersIn (s : List ℕ) (m j : ℕ) : Type 0 where
-  pub least : 1 ≤ m
+  pub least : leastSaved ≤ m
   pub most : m ≤ longestWord
   pub inside : j + m ≤ length s
 

@@ -12,11 +12,11 @@ use Rattle.words.specs.Words.{Word, Place, part}
 use Rattle.words.proofs.Words.{part-length, part-at}
 use Rattle.number.specs.Number.{Bytes, spellNumber}
 use Rattle.number.proofs.Theorems.{number-at-stood}
-use Rattle.saved.specs.File.{edition, Step, spellSteps, ownSteps, spell}
+use Rattle.saved.specs.File.{Step, spellSteps, ownSteps, body, spell, Savable}
 use Rattle.loaded.specs.Load.{letters, behind, right}
 use Rattle.loaded.specs.Accepts.{ShownAt, Accepts, FileOf}
-use Rattle.loaded.specs.Cases.{Reads, FrontCaseAt, letters-there, ArrowsCase, arrow-agrees, all-agree, EndingCase, count-fits, VerdictCase, all-read}
-use Rattle.loaded.proofs.Accepted.{spell-append}
+use Rattle.loaded.specs.Cases.{Reads, FrontCaseAt, letters-there, ArrowsCase, arrow-agrees, all-agree}
+use Rattle.loaded.specs.Cases.{EndingCase, count-fits, VerdictCase, all-read}
 use Rattle.loaded.proofs.Cases.{front-case, ending-case, case-ending, verdict-case}
 
 -- the arrows of a word as its file has them
@@ -24,9 +24,9 @@ abbrev arrowsOf : Word → List ℕ
 arrowsOf w = spellNumber (length (ownSteps w)) ++ spellSteps (ownSteps w)
 
 module _ (s : List ℕ) (bytes : Bytes s) where
-  -- what is read stood there
-  stood : (i : Place) {v j : ℕ} → Reads s i v j → drop i s ≡ spellNumber v ++ drop j s
-  stood i h = number-at-stood s i bytes h .spelled
+  -- what is read stood there, before what stands behind it
+  stood : (i : Place) {v j : ℕ} (x r : List ℕ) → Reads s i v j → drop j s ≡ x ++ r → drop i s ≡ (spellNumber v ++ x) ++ r
+  stood i {v} x r h e = number-at-stood s i bytes h .spelled ∙ rw e (sym (append-assoc (spellNumber v) x r))
 
   arrows-stood : {i : Place} {n : ℕ} {l : List Step} {p : Place} → ArrowsCase s i n l (behind p)
       → (n ≡ length l) × (drop i s ≡ spellSteps l ++ drop p s)
@@ -34,15 +34,12 @@ module _ (s : List ℕ) (bytes : Bytes s) where
   arrows-stood all-agree = (refl, refl)
   arrows-stood {i} {p = p} (arrow-agrees {j = j} {t = t} {l = l} h g c) =
       let r = arrows-stood c in
-      let up = spellNumber (t .up) in
-      let over = spellNumber (t .over) in
-      let join = append-assoc up (over ++ spellSteps l) (drop p s) ∙ ap (λ z. up ++ z) (append-assoc over (spellSteps l) (drop p s)) in
-      (ap suc (r .0), stood i h ∙ rw (stood j g, r .1) (sym join))
+      (ap suc (r .0), stood i (spellNumber (t .over) ++ spellSteps l) (drop p s) h (stood j (spellSteps l) (drop p s) g (r .1)))
 
   ending-stood : {i : Place} {w : Word} {p : Place} → EndingCase s i w (behind p) → drop i s ≡ arrowsOf w ++ drop p s
   ending-stood {i} {w} {p} (count-fits h few c) =
       let r = arrows-stood c in
-      stood i h ∙ rw (r .0, r .1) (sym (append-assoc (spellNumber (length (ownSteps w))) (spellSteps (ownSteps w)) (drop p s)))
+      stood i (spellSteps (ownSteps w)) (drop p s) (rw (r .0) at h) (r .1)
 
   -- the letters are bytes too
   letters-bytes : (i m : ℕ) → i + m ≤ length s → Bytes (part s i m)
@@ -54,21 +51,19 @@ module _ (s : List ℕ) (bytes : Bytes s) where
 
   -- the file of w stands in s from place o on, and r behind it
   pub record StoodAt (o : Place) (w : Word) (r : List ℕ) : Type 0 where
-    pub file : FileOf (spell w) w
+    pub savable : Savable w
     pub there : drop o s ≡ spell w ++ r
 
   front-stood : {o : Place} {m i : ℕ} {w : Word} {r : List ℕ} → FrontCaseAt s o (letters m i) → w ≡ part s i m
       → drop (i + m) s ≡ arrowsOf w ++ r → StoodAt o w r
+  unfolding spell body
   front-stood {o} {m} {i} {w} {r} (letters-there {i = k} h g least most there) e d =
-      let n : length w ≡ m = ap length e ∙ part-length s i m there in
+      let n : m ≡ length w = sym (ap length e ∙ part-length s i m there) in
       let split : drop i s ≡ w ++ drop (i + m) s = sym (take-append-drop m (drop i s)) ∙ rw (← e, drop-drop m i s) in
-      let count = spellNumber (length (ownSteps w)) in
-      let own = spellSteps (ownSteps w) in
-      let joined : drop o s ≡ spellNumber edition ++ (spellNumber (length w) ++ (w ++ (count ++ (own ++ r)))) =
-      stood o h ∙ rw (stood k g, split, d, n, append-assoc count own r) in
+      let letters : drop i s ≡ (w ++ arrowsOf w) ++ r = split ∙ rw d (sym (append-assoc w (arrowsOf w) r)) in
       record {
-        file = record { bytes = rw e (letters-bytes i m there); least = omega arith; most = omega arith; file = refl };
-        there = joined ∙ sym (spell-append w r);
+        savable = record { bytes = rw e (letters-bytes i m there); least = omega arith; most = omega arith };
+        there = stood o (body w) r h (stood k (w ++ arrowsOf w) r (rw n at g) letters);
       }
 
   -- what is read as a file from place o on, up to place p, is the file of the word that it shows
@@ -85,5 +80,4 @@ module _ (s : List ℕ) (bytes : Bytes s) where
       by : VerdictCase s (a .place + length w) w right → FileOf s w
       by (all-read {p = p} c h) =
           let S = shown-stood (record { place = a .place; shown = a .shown; word = a .word; judged = case-ending s c }) in
-          let f = S .file in
-          record { bytes = f .bytes; least = f .least; most = f .most; file = S .there ∙ ap (λ z. spell w ++ z) (drop-of-length-le s h) ∙ append-nil (spell w) }
+          record { savable = S .savable; file = S .there ∙ ap (λ z. spell w ++ z) (drop-of-length-le s h) ∙ append-nil (spell w) }

@@ -9,10 +9,10 @@ use Rattle.loaded.specs.declared.Head.{Head}
 use Rattle.loaded.specs.declared.Head.the-variants.{Letters, Stop}
 use Rattle.loaded.specs.declared.Pair.{Pair}
 use Rattle.loaded.specs.declared.Pair.the-variants.{Both, Neither}
-use Rattle.loaded.specs.declared.Ending.{Ending as Ended}
-use Rattle.loaded.specs.declared.Ending.the-variants.{Behind, Broken}
-use Rattle.loaded.specs.declared.Verdict.{Verdict as Compared}
-use Rattle.loaded.specs.declared.Verdict.the-variants.{Right, Wrong}
+use Rattle.loaded.specs.declared.Ended.{Ended}
+use Rattle.loaded.specs.declared.Ended.the-variants.{Behind, Broken}
+use Rattle.loaded.specs.declared.Compared.{Compared}
+use Rattle.loaded.specs.declared.Compared.the-variants.{Right, Wrong}
 
 abbrev pub headOf : Head → Front
 headOf (Letters m i) = letters m i

@@ -1,9 +1,10 @@
 -- THE WAYS OF LOADING, one constructor each, with what the bytes have to be for it: so each refusal reads as 01's 'given exactly when'. The
 -- theorems show that `frontAt`, `ending` and `verdict` go such a way exactly when it applies.
 --
---   Reads s i v j           the number v is read at place i of the file s, and j is the place behind it
+--   Reads s i v j           the number v is read at place i of the file s, and j is the place behind it: in a file of bytes exactly if its
+--                           one spelling stands there (`number/Theorems/value-exactly`)
 --   Unread s i r p          none is read there: 5 where the file ends before or inside it, 6 where a byte is refused, and the place p where
---                           that shows
+--                           that shows; `numberAt` refuses exactly so (`number/Theorems/cut-exactly`, `number/Theorems/bad-exactly`)
 --   BadLength m             no word may have m letters
 --   FrontCaseAt s o f       what the file that stands in s from place o on shows up to its letters
 --   FrontCase s f           the same of a file that is all of s
@@ -18,9 +19,10 @@ use mathlib.Core.List.{List, [], _∷_}
 use Prim.Native.Nat.{ℕ, zero, suc, _+_, _-_, _≤_, _<_}
 use lib.ListN.{length}
 use Rattle.words.specs.Words.{Word, Place}
-use Rattle.words.specs.Limits.{longestWord}
-use Rattle.number.specs.declared.Number.the-variants.{Value, Refused}
+use Rattle.words.specs.Limits.{leastSaved, longestWord}
+use Rattle.number.specs.declared.Number.the-variants.{Value}
 use Rattle.number.specs.Number.{numberAt}
+use Rattle.number.specs.Exactly.{CutOff, BadByte}
 use Rattle.saved.specs.File.{edition, Step, ownSteps}
 use Rattle.loaded.specs.Load.{Front, letters, stop, Ending, behind, broken, Verdict, right, wrong}
 
@@ -30,23 +32,23 @@ abbrev pub Reads : List ℕ → Place → ℕ → Place → Type 0
 Reads s i v j = numberAt s i ≡ Value v (record { at = j })
 
 pub data Unread (s : List ℕ) (i : Place) : ℕ → Place → Type 0 where
-  cut-off : numberAt s i ≡ Refused 5 (length s) → Unread s i 5 (length s)
-  bad-byte : {p : Place} → numberAt s i ≡ Refused 6 p → Unread s i 6 p
+  cut-off : CutOff s i → Unread s i 5 (length s)
+  bad-byte : {p : Place} → BadByte s i p → Unread s i 6 p
 
 -- ── Up to the letters ──────────────────────────────────────────────────────
 
 abbrev pub BadLength : ℕ → Type 0
-BadLength m = (m ≡ 0) ⊎ (longestWord < m)
+BadLength m = (m < leastSaved) ⊎ (longestWord < m)
 
 pub data FrontCaseAt (s : List ℕ) (o : Place) : Front → Type 0 where
   edition-unread : {r : ℕ} {p : Place} → Unread s o r p → FrontCaseAt s o (stop r p)
   edition-other : {e : ℕ} {i : Place} → Reads s o e i → (e ≡ edition → ⊥) → FrontCaseAt s o (stop 7 o)
   length-unread : {i : Place} {r : ℕ} {p : Place} → Reads s o edition i → Unread s i r p → FrontCaseAt s o (stop r p)
   length-bad : {i : Place} {m : ℕ} {j : Place} → Reads s o edition i → Reads s i m j → BadLength m → FrontCaseAt s o (stop 8 i)
-  letters-missing : {i : Place} {m : ℕ} {j : Place} → Reads s o edition i → Reads s i m j → 1 ≤ m → m ≤ longestWord → length s < j + m
-      → FrontCaseAt s o (stop 5 (length s))
-  letters-there : {i : Place} {m : ℕ} {j : Place} → Reads s o edition i → Reads s i m j → 1 ≤ m → m ≤ longestWord → j + m ≤ length s
-      → FrontCaseAt s o (letters m j)
+  letters-missing : {i : Place} {m : ℕ} {j : Place} → Reads s o edition i → Reads s i m j → leastSaved ≤ m → m ≤ longestWord
+      → length s < j + m → FrontCaseAt s o (stop 5 (length s))
+  letters-there : {i : Place} {m : ℕ} {j : Place} → Reads s o edition i → Reads s i m j → leastSaved ≤ m → m ≤ longestWord
+      → j + m ≤ length s → FrontCaseAt s o (letters m j)
 
 abbrev pub FrontCase : List ℕ → Front → Type 0
 FrontCase s = FrontCaseAt s 0
@@ -62,7 +64,8 @@ pub data ArrowsCase (s : List ℕ) : Place → ℕ → List Step → Ending → 
       → ArrowsCase s i (suc n) l (broken r p)
   arrow-differs : {i : Place} {n a : ℕ} {j : Place} {b : ℕ} {k : Place} {t : Step} {l : List Step} → Reads s i a j → Reads s j b k
       → (a ≡ t .up → b ≡ t .over → ⊥) → ArrowsCase s i (suc n) (t ∷ l) (broken 10 i)
-  no-arrow-left : {i : Place} {n a : ℕ} {j : Place} {b : ℕ} {k : Place} → Reads s i a j → Reads s j b k → ArrowsCase s i (suc n) [] (broken 10 i)
+  no-arrow-left : {i : Place} {n a : ℕ} {j : Place} {b : ℕ} {k : Place} → Reads s i a j → Reads s j b k
+      → ArrowsCase s i (suc n) [] (broken 10 i)
   arrows-missing : {i : Place} {t : Step} {l : List Step} → ArrowsCase s i zero (t ∷ l) (broken 10 i)
   all-agree : {i : Place} → ArrowsCase s i zero [] (behind i)
 

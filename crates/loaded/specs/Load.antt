@@ -23,7 +23,7 @@ use Prim.Native.Nat.{ℕ, zero, suc, _+_, _-_}
 use lib.ListN.{length}
 use lib.Dec.{eqb, leb, ltb}
 use Rattle.words.specs.Words.{Word}
-use Rattle.words.specs.Limits.{longestWord}
+use Rattle.words.specs.Limits.{leastSaved, longestWord}
 use Rattle.number.specs.declared.Number.{Number}
 use Rattle.number.specs.declared.Number.the-variants.{Value, Refused}
 use Rattle.number.specs.Number.{numberAt}
@@ -46,7 +46,8 @@ pub data Front : Type 0 where
 
 abbrev pub lettersAt : List ℕ → ℕ → Front
 lettersAt s i =
-    field s i stop (λ m j. cond (leb 1 m && leb m longestWord) (cond (leb (j + m) (length s)) (letters m j) (stop 5 (length s))) (stop 8 i))
+    field s i stop (λ m j.
+    cond (leb leastSaved m && leb m longestWord) (cond (leb (j + m) (length s)) (letters m j) (stop 5 (length s))) (stop 8 i))
 
 unfoldable pub frontAt : List ℕ → ℕ → Front
 frontAt s o = field s o stop (λ e i. cond (eqb e edition) (lettersAt s i) (stop 7 o))
@@ -80,13 +81,13 @@ abbrev pub none-left : List Step → Bool
 none-left [] = true
 none-left (s ∷ l) = false
 
-abbrev pub compared : {A : Type 0} → Two → (ℕ → ℕ → A) → (ℕ → ℕ → ℕ → A) → A
-compared (both a b k) off on = on a b k
-compared (neither r i) off on = off r i
+abbrev pub takingTwo : {A : Type 0} → Two → (ℕ → ℕ → A) → (ℕ → ℕ → ℕ → A) → A
+takingTwo (both a b k) off on = on a b k
+takingTwo (neither r i) off on = off r i
 
 unfoldable pub arrowsAt : List ℕ → ℕ → ℕ → List Step → Ending
 arrowsAt s i zero l = cond (none-left l) (behind i) (broken 10 i)
-arrowsAt s i (suc n) l = compared (twoAt s i) broken (λ a b k. cond (nextIs a b l) (arrowsAt s k n (later l)) (broken 10 i))
+arrowsAt s i (suc n) l = takingTwo (twoAt s i) broken (λ a b k. cond (nextIs a b l) (arrowsAt s k n (later l)) (broken 10 i))
 
 unfoldable pub ending : List ℕ → ℕ → Word → Ending
 ending s i w = field s i broken (λ n j. cond (leb n (length w - 1)) (arrowsAt s j n (ownSteps w)) (broken 9 i))

@@ -32,7 +32,7 @@ fn read_letters(file: &[u8], c: Cursor) -> Head
         Number::Refused(why, place) => Head::Stop(why, place),
         Number::Value(size, next) => {
             let m = size as usize;
-            if !((1 <= m) & (m <= words::WORD_LIMIT)) {
+            if !((words::LEAST_SAVED <= m) & (m <= words::WORD_LIMIT)) {
                 return Head::Stop(8, c.at);
             }
             if file.len() - next.at < m {
@@ -83,13 +83,13 @@ fn read_two(file: &[u8], c: Cursor) -> Pair
 }
 
 // The place behind the file, whose arrows are the word's own; or the refusal and where it shows.
-pub enum Ending {
+pub enum Ended {
     Behind(usize),
     Broken(u8, usize),
 }
 
 // So many declared arrows from a place of the file on, against all of the word's own.
-fn compare_arrows(word: &[u8], table: &[u16], file: &[u8], start: Cursor, declared: u32) -> Ending
+fn compare_arrows(word: &[u8], table: &[u16], file: &[u8], start: Cursor, declared: u32) -> Ended
     requires { ⌜ Tabled (now word) (now table) ⌝ }
     ensures { λ r. ⌜ endingOf r ≡ arrowsAt (now (file .entry)) (start .at) declared (ownSteps (now (word .entry))) ⌝ }
 {
@@ -102,15 +102,15 @@ fn compare_arrows(word: &[u8], table: &[u16], file: &[u8], start: Cursor, declar
         let two = read_two(file, Cursor { at });
         match two {
             Pair::Neither(why, place) => {
-                return Ending::Broken(why, place);
+                return Ended::Broken(why, place);
             }
             Pair::Both(up, over, next) => {
                 if slot >= total {
-                    return Ending::Broken(10, at);
+                    return Ended::Broken(10, at);
                 }
                 let own = saved::next_step(word, table, from, slot);
                 if !((up == own.up) & (over == own.over)) {
-                    return Ending::Broken(10, at);
+                    return Ended::Broken(10, at);
                 }
                 at = next;
                 left -= 1;
@@ -120,22 +120,22 @@ fn compare_arrows(word: &[u8], table: &[u16], file: &[u8], start: Cursor, declar
         }
     }
     if slot < total {
-        return Ending::Broken(10, at);
+        return Ended::Broken(10, at);
     }
-    Ending::Behind(at)
+    Ended::Behind(at)
 }
 
 // The file from a place on, where the number of arrows stands, against a word and its table; bytes may follow.
-pub fn compare_open(word: &[u8], table: &[u16], file: &[u8], at: usize) -> Ending
+pub fn compare_open(word: &[u8], table: &[u16], file: &[u8], at: usize) -> Ended
     requires { ⌜ Tabled (now word) (now table) ⌝ }
     ensures { λ r. ⌜ endingOf r ≡ ending (now (file .entry)) at (now (word .entry)) ⌝ }
 {
     let count = number_at(file, at);
     match count {
-        Number::Refused(why, place) => Ending::Broken(why, place),
+        Number::Refused(why, place) => Ended::Broken(why, place),
         Number::Value(declared, next) => {
             if declared as usize > word.len() - 1 {
-                return Ending::Broken(9, at);
+                return Ended::Broken(9, at);
             }
             compare_arrows(word, table, file, next, declared)
         }
@@ -143,24 +143,24 @@ pub fn compare_open(word: &[u8], table: &[u16], file: &[u8], at: usize) -> Endin
 }
 
 // The file's arrows are the word's own, and nothing follows; or the refusal and where it shows.
-pub enum Verdict {
+pub enum Compared {
     Right,
     Wrong(u8, usize),
 }
 
 // The same where nothing may follow.
-pub fn compare(word: &[u8], table: &[u16], file: &[u8], at: usize) -> Verdict
+pub fn compare(word: &[u8], table: &[u16], file: &[u8], at: usize) -> Compared
     requires { ⌜ Tabled (now word) (now table) ⌝ }
     ensures { λ r. ⌜ verdictOf r ≡ verdict (now (file .entry)) at (now (word .entry)) ⌝ }
 {
     let shown = compare_open(word, table, file, at);
     match shown {
-        Ending::Broken(why, place) => Verdict::Wrong(why, place),
-        Ending::Behind(end) => {
+        Ended::Broken(why, place) => Compared::Wrong(why, place),
+        Ended::Behind(end) => {
             if end < file.len() {
-                return Verdict::Wrong(11, end);
+                return Compared::Wrong(11, end);
             }
-            Verdict::Right
+            Compared::Right
         }
     }
 }

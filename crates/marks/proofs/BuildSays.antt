@@ -15,11 +15,11 @@ use Rattle.oracle.specs.SuffixRule.{oracle}
 use Rattle.oracle.specs.Supply.{supply}
 use Rattle.table.specs.Table.{room, tableOf, readWord, readArrow, readSupply}
 use Rattle.table.proofs.Theorems.{table-size, table-word, table-arrow, table-supply}
-use Rattle.marks.specs.declared.Built.{Built}
-use Rattle.marks.specs.declared.Built.the-variants.{Done, EmptyWord, LongWord, ShortRoom}
 use Rattle.words.specs.Limits.{longestWord}
-use Rattle.marks.specs.Answers.{done, refused, emptyWord, longWord, shortRoom}
-use Rattle.marks.specs.Build.{Outcome, outcome, answerOf, built, buildSays}
+use Rattle.answers.specs.declared.SizeAnswer.{SizeAnswer}
+use Rattle.answers.specs.Answers.{done, refused, emptyWord, longWord, shortRoom}
+use Rattle.answers.proofs.Answers.{done-not-refused, size-answer-one}
+use Rattle.marks.specs.Build.{Outcome, outcome, built, buildSays}
 use Rattle.marks.specs.Cases.{BuildCase}
 
 module _ (word : Word) (T : List ℕ) where
@@ -43,6 +43,11 @@ module _ (word : Word) (T : List ℕ) where
   pub says-done : 1 ≤ m → m ≤ longestWord → room m ≤ length T → buildSays word T ≡ outcome (done m) (tableOf word ++ drop (room m) T)
   unfolding buildSays
   says-done h l s = rw (le-ltb m 1 h, le-ltb longestWord m l, le-ltb (length T) (room m) s)
+
+  -- the room is lent and filled
+  pub says-filled : {L : List ℕ} → L ≡ tableOf word → 1 ≤ m → m ≤ longestWord → room m ≤ length T
+      → outcome (done m) (L ++ drop (room m) T) ≡ buildSays word T
+  says-filled e h l s = rw e (sym (says-done h l s))
 
   -- ── When each is given ───────────────────────────────────────────────────
 
@@ -97,30 +102,13 @@ module _ (word : Word) (T : List ℕ) where
       by (BuildCase.empty-word h) e = refl
       by (BuildCase.long-word h l) e = refl
       by (BuildCase.short-room h l s) e = refl
-      by (BuildCase.accepted h l s) e = let z : _≡_ {A = ℕ} 0 1 = cc in absurd (omega arith)
+      by (BuildCase.accepted h l s) e = done-not-refused e
 
 -- ── One outcome ────────────────────────────────────────────────────────────
 
--- different answers of the code mean different things
-answer-one : (r s : Built) → answerOf r ≡ answerOf s → r ≡ s
-answer-one (Done a) (Done b) e = cc
-answer-one (Done a) EmptyWord e = cc
-answer-one (Done a) LongWord e = cc
-answer-one (Done a) ShortRoom e = cc
-answer-one EmptyWord (Done b) e = cc
-answer-one EmptyWord EmptyWord e = refl
-answer-one EmptyWord LongWord e = cc
-answer-one EmptyWord ShortRoom e = cc
-answer-one LongWord (Done b) e = cc
-answer-one LongWord EmptyWord e = cc
-answer-one LongWord LongWord e = refl
-answer-one LongWord ShortRoom e = cc
-answer-one ShortRoom (Done b) e = cc
-answer-one ShortRoom EmptyWord e = cc
-answer-one ShortRoom LongWord e = cc
-answer-one ShortRoom ShortRoom e = refl
-
 -- two outcomes that the promise of build allows are equal
-pub build-one : (word : Word) (T : List ℕ) (r s : Built) (A B : List ℕ) → built r A ≡ buildSays word T → built s B ≡ buildSays word T
+pub build-one : (word : Word) (T : List ℕ) (r s : SizeAnswer) (A B : List ℕ) → built r A ≡ buildSays word T → built s B ≡ buildSays word T
     → (r ≡ s) × (A ≡ B)
-build-one word T r s A B e f = let g : built r A ≡ built s B = e ∙ sym f in (answer-one r s (ap (λ o. o .answer) g), ap (λ o. o .tables) g)
+build-one word T r s A B e f =
+    let g : built r A ≡ built s B = e ∙ sym f in
+    (size-answer-one r s (ap (λ o. o .answer) g), ap (λ o. o .tables) g)

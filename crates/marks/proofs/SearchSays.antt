@@ -7,11 +7,11 @@ use mathlib.Core.List.{List, _++_, List·Memᴰ}
 use Prim.Native.Nat.{ℕ, _+_, _*_, _-_, _≤_, _<_}
 use native.Mathlib.Decide.{decLt}
 use native.Mathlib.Omega.{arith}
-use lib.ListN.{length, take, drop, getD, length-take, length-reverse, List·getD-append}
-use lib.Seq.{take-all, take-at, drop-at, getD-take, getD-drop, getD-append-add}
+use lib.ListN.{length, take, drop, length-reverse}
+use lib.Seq.{take-at, drop-at}
 use borrow.Author.Tests.{lt-ltb, le-ltb}
 use Rattle.words.specs.Words.{Word, Place, mirror, stands, occurrences}
-use Rattle.words.proofs.Lists.{Rising}
+use Rattle.words.specs.Lists.{Rising}
 use Rattle.words.proofs.Occurrences.{occurrence-stands, standing-occurs, occurrences-rise}
 use Rattle.oracle.specs.SuffixRule.{oracle}
 use Rattle.backward.specs.Steps.{steps, backward}
@@ -24,36 +24,15 @@ use Rattle.table.proofs.Formed.{table-formed}
 use Rattle.finds.specs.declared.Tally.{Tally}
 use Rattle.search.specs.Answers.{tallyOf}
 use Rattle.finds.specs.Finds.{filled}
-use Rattle.marks.specs.declared.Searched.{Searched}
-use Rattle.marks.specs.declared.Searched.the-variants.{Done, EmptyWord, LongWord, LongText, ShortRoom}
 use Rattle.words.specs.Limits.{longestWord, longestText}
-use Rattle.marks.specs.Answers.{Answer, done, refused, emptyWord, longWord, longText, shortRoom}
-use Rattle.marks.specs.Search.{Found, found, Outcome, outcome, answerOf, searched, searchSays}
+use Rattle.answers.specs.declared.TallyAnswer.{TallyAnswer}
+use Rattle.answers.specs.Answers.{done, refused, emptyWord, longWord, longText, shortRoom}
+use Rattle.answers.proofs.Answers.{done-not-refused, tally-answer-one}
+use Rattle.marks.specs.Search.{found, Outcome, outcome, searched, searchSays}
 use Rattle.marks.specs.Cases.{SearchCase}
 
--- ── The caller's list ──────────────────────────────────────────────────────
-
--- an entry that a find is for holds it
-pub filled-find : (l F : List ℕ) (i : ℕ) → i < length l → i < length F → getD (filled l F) i 0 ≡ getD l i 0
-unfolding filled
-filled-find l F i h b =
-    let n : i < length (take (length F) l) = simp length-take (omega arith) in
-    List·getD-append (take (length F) l) (drop (length l) F) 0 i n ∙ getD-take (length F) l i 0 b
-
--- the others are as they were
-pub filled-kept : (l F : List ℕ) (i : ℕ) → length l ≤ i → i < length F → getD (filled l F) i 0 ≡ getD F i 0
-unfolding filled
-filled-kept l F i h b =
-    let n : length (take (length F) l) ≡ length l = simp length-take (omega arith) in
-    let e : i ≡ length (take (length F) l) + (i - length l) = omega arith in
-    let k : length l + (i - length l) ≡ i = omega arith in
-    ap (λ j. getD (take (length F) l ++ drop (length l) F) j 0) e ∙ getD-append-add (take (length F) l) (drop (length l) F) (i - length l) 0
-    ∙ getD-drop (length l) F (i - length l) 0 ∙ ap (λ j. getD F j 0) k
-
--- a list that is long enough begins with all of them
-pub filled-all : (l F : List ℕ) → length l ≤ length F → take (length l) (filled l F) ≡ l
-unfolding filled
-filled-all l F h = rw (take-all (length F) l h) (take-at l (drop (length l) F) (length l) refl)
+mirror-size : (word : Word) → length (tableOf (mirror word)) ≡ room (length word)
+mirror-size word = table-size (mirror word) ∙ ap room (length-reverse word)
 
 module _ (word text : Word) (T : List ℕ) (F : List Place) where
   abbrev m : ℕ
@@ -62,9 +41,6 @@ module _ (word text : Word) (T : List ℕ) (F : List Place) where
   -- what a search that is not refused says
   abbrev pub counted : Outcome
   counted = outcome (done (found word text)) (tableOf (mirror word) ++ drop (room m) T) (filled (occurrences word text) F)
-
-  mirror-size : length (tableOf (mirror word)) ≡ room m
-  mirror-size = table-size (mirror word) ∙ ap room (length-reverse word)
 
   -- ── Its cases, in the order of the tests ─────────────────────────────────
 
@@ -144,10 +120,10 @@ module _ (word text : Word) (T : List ℕ) (F : List Place) where
 
     -- the first 6(m+1) entries are the mirrored word's table, and the others are as they were
     pub entries-left : take (room m) (searchSays word text T F .tables) ≡ tableOf (mirror word)
-    entries-left = ap (λ o. take (room m) (o .tables)) is-counted ∙ take-at (tableOf (mirror word)) (drop (room m) T) (room m) mirror-size
+    entries-left = ap (λ o. take (room m) (o .tables)) is-counted ∙ take-at (tableOf (mirror word)) (drop (room m) T) (room m) (mirror-size word)
 
     pub others-left : drop (room m) (searchSays word text T F .tables) ≡ drop (room m) T
-    others-left = ap (λ o. drop (room m) (o .tables)) is-counted ∙ drop-at (tableOf (mirror word)) (drop (room m) T) (room m) mirror-size
+    others-left = ap (λ o. drop (room m) (o .tables)) is-counted ∙ drop-at (tableOf (mirror word)) (drop (room m) T) (room m) (mirror-size word)
 
   -- a refusal changes nothing
   pub refusal-leaves : {n : ℕ} → searchSays word text T F .answer ≡ refused n
@@ -159,71 +135,42 @@ module _ (word text : Word) (T : List ℕ) (F : List Place) where
       by (SearchCase.long-word h l) e = (refl, refl)
       by (SearchCase.long-text h l k) e = (refl, refl)
       by (SearchCase.short-room h l k s) e = (refl, refl)
-      by (SearchCase.accepted h l k s) e = let z : _≡_ {A = ℕ} 0 1 = cc in absurd (omega arith)
+      by (SearchCase.accepted h l k s) e = done-not-refused e
 
-  -- ── What the code's scan comes to ────────────────────────────────────────
+-- ── What the code's scan comes to ──────────────────────────────────────────
 
-  -- the steps over the mirrored word's table are the published ones
-  table-steps : steps (readArrow m (tableOf (mirror word))) word text ≡ backward word text
-  unfolding backward
-  table-steps = steps-same (readArrow m (tableOf (mirror word))) (oracle (mirror word)) word text (λ x c. rw (length-reverse word) at (table-arrow (mirror word) x c))
+-- the steps over the mirrored word's table are the published ones
+table-steps : (word text : Word) → steps (readArrow (length word) (tableOf (mirror word))) word text ≡ backward word text
+unfolding backward
+table-steps word text =
+    steps-same (readArrow (length word) (tableOf (mirror word))) (oracle (mirror word)) word text
+    (λ x c. rw (length-reverse word) at (table-arrow (mirror word) x c))
 
-  -- the part of the room that the scan is lent, P being what was filled and R what stands behind it
-  module _ {P : List ℕ} (R : List ℕ) (filled-in : P ≡ tableOf (mirror word)) where
-    lent : take (room m) (P ++ R) ≡ tableOf (mirror word)
-    lent = take-at P R (room m) (ap length filled-in ∙ mirror-size) ∙ filled-in
+-- the part of the room that the scan is lent, P being what was filled and R what stands behind it
+module _ (word : Word) {P : List ℕ} (R : List ℕ) (filled-in : P ≡ tableOf (mirror word)) where
+  abbrev lent : List ℕ
+  lent = take (room (length word)) (P ++ R)
 
-    pub lent-size : room m ≡ length (take (room m) (P ++ R))
-    lent-size = sym (ap length lent ∙ mirror-size)
+  lent-table : lent ≡ tableOf (mirror word)
+  lent-table = take-at P R (room (length word)) (ap length filled-in ∙ mirror-size word) ∙ filled-in
 
-    pub lent-formed : m < 65535 → Formed (take (room m) (P ++ R)) m
-    lent-formed h = rw (lent, ← length-reverse word) (table-formed (mirror word) (rw (length-reverse word) h))
+  pub lent-size : room (length word) ≡ length lent
+  lent-size = sym (ap length lent-table ∙ mirror-size word)
 
-    pub scan-counts : {t : Tally} {F′ : List Place} → t ≡ tallyOf (steps (readArrow m (take (room m) (P ++ R))) word text)
-        → F′ ≡ filled (steps (readArrow m (take (room m) (P ++ R))) word text .starts) F
-        → searched (Done t) (P ++ drop (room m) T) F′ ≡ counted
-    scan-counts t f = rw (t, f, lent, filled-in, table-steps, search-lists-occurrences word text)
+  pub lent-formed : length word < 65535 → Formed lent (length word)
+  lent-formed h = rw (lent-table, ← length-reverse word) (table-formed (mirror word) (rw (length-reverse word) h))
+
+  pub scan-counts : (text : Word) (T : List ℕ) (F : List Place) {t : Tally} {F′ : List Place}
+      → t ≡ tallyOf (steps (readArrow (length word) lent) word text)
+      → F′ ≡ filled (steps (readArrow (length word) lent) word text .starts) F
+      → outcome (done t) (P ++ drop (room (length word)) T) F′ ≡ counted word text T F
+  scan-counts text T F t f = rw (t, f, lent-table, filled-in, table-steps word text, search-lists-occurrences word text)
 
 -- ── One outcome ────────────────────────────────────────────────────────────
 
--- a tally is what is told of it
-abbrev pub told : Tally → Found
-told t = record { count = t .count; letters = t .letters }
-
-pub tally-one : (a b : Tally) → _≡_ {A = Answer Found} (done (told a)) (done (told b)) → a ≡ b
-tally-one a b e = let q : told a ≡ told b = cc in ap (λ (f : Found). record { count = f .count; letters = f .letters }) q
-
--- different answers of the code mean different things
-answer-one : (r s : Searched) → answerOf r ≡ answerOf s → r ≡ s
-answer-one (Done a) (Done b) e = ap Done (tally-one a b e)
-answer-one (Done a) EmptyWord e = cc
-answer-one (Done a) LongWord e = cc
-answer-one (Done a) LongText e = cc
-answer-one (Done a) ShortRoom e = cc
-answer-one EmptyWord (Done b) e = cc
-answer-one EmptyWord EmptyWord e = refl
-answer-one EmptyWord LongWord e = cc
-answer-one EmptyWord LongText e = cc
-answer-one EmptyWord ShortRoom e = cc
-answer-one LongWord (Done b) e = cc
-answer-one LongWord EmptyWord e = cc
-answer-one LongWord LongWord e = refl
-answer-one LongWord LongText e = cc
-answer-one LongWord ShortRoom e = cc
-answer-one LongText (Done b) e = cc
-answer-one LongText EmptyWord e = cc
-answer-one LongText LongWord e = cc
-answer-one LongText LongText e = refl
-answer-one LongText ShortRoom e = cc
-answer-one ShortRoom (Done b) e = cc
-answer-one ShortRoom EmptyWord e = cc
-answer-one ShortRoom LongWord e = cc
-answer-one ShortRoom LongText e = cc
-answer-one ShortRoom ShortRoom e = refl
-
 -- two outcomes that the promise of search allows are equal
-pub search-one : (word text : Word) (T : List ℕ) (F : List Place) (r s : Searched) (A B : List ℕ) (G H : List Place)
+pub search-one : (word text : Word) (T : List ℕ) (F : List Place) (r s : TallyAnswer) (A B : List ℕ) (G H : List Place)
     → searched r A G ≡ searchSays word text T F → searched s B H ≡ searchSays word text T F → (r ≡ s) × (A ≡ B) × (G ≡ H)
 search-one word text T F r s A B G H e f =
     let g : searched r A G ≡ searched s B H = e ∙ sym f in
-    (answer-one r s (ap (λ o. o .answer) g), ap (λ o. o .tables) g, ap (λ o. o .finds) g)
+    (tally-answer-one r s (ap (λ o. o .answer) g), ap (λ o. o .tables) g, ap (λ o. o .finds) g)

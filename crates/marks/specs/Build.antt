@@ -12,10 +12,9 @@ use lib.ListN.{length, drop}
 use lib.Dec.{ltb}
 use Rattle.words.specs.Words.{Word}
 use Rattle.table.specs.Table.{room, tableOf}
-use Rattle.marks.specs.declared.Built.{Built}
-use Rattle.marks.specs.declared.Built.the-variants.{Done, EmptyWord, LongWord, ShortRoom}
 use Rattle.words.specs.Limits.{longestWord}
-use Rattle.marks.specs.Answers.{Answer, done, refused, emptyWord, longWord, shortRoom}
+use Rattle.answers.specs.declared.SizeAnswer.{SizeAnswer}
+use Rattle.answers.specs.Answers.{Answer, done, refused, sizeAnswer, emptyWord, longWord, shortRoom}
 
 pub record Outcome : Type 0 where
   pub answer : Answer ℕ
@@ -24,15 +23,8 @@ pub record Outcome : Type 0 where
 abbrev pub outcome : Answer ℕ → List ℕ → Outcome
 outcome a T = record { answer = a; tables = T }
 
--- each case of the code's answer, as 01 lists it
-abbrev pub answerOf : Built → Answer ℕ
-answerOf (Done m) = done m
-answerOf EmptyWord = refused emptyWord
-answerOf LongWord = refused longWord
-answerOf ShortRoom = refused shortRoom
-
-abbrev pub built : Built → List ℕ → Outcome
-built r T = outcome (answerOf r) T
+abbrev pub built : SizeAnswer → List ℕ → Outcome
+built r T = outcome (sizeAnswer r) T
 
 unfoldable pub buildSays : Word → List ℕ → Outcome
 buildSays word T =

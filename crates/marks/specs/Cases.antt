@@ -1,57 +1,32 @@
--- THE CASES OF EVERY ENTRY: 01's table in its order, one constructor for each line, with what the word, the bytes and the rooms have to be
+-- THE CASES OF THE ENTRIES OVER WORDS: 01's table in its order, one constructor for each line, with what the word and the rooms have to be
 -- for it and the whole outcome that it has: the answer and every lent buffer. The theorems show that an entry's outcome is o exactly when a
 -- case with the outcome o applies.
 --
---   BuildCase word T o                 build of a word into the tables T: 1, 2, 3
---   SaveCase word T O o                save with the output O: 1, 2, 3, 12
---   SearchCase word text T F o         search with the list F: 1, 2, 4, 3
---   LoadCase file R T o                load into the word room R: up to the letters 5 to 8, then 3, behind them 5, 6, 9 to 11
---   SearchFileCase file text R T F o   search with a file: 4, then as loading
---   AfterRefusal R T R′ T′             what a refusal may leave of the rooms R and T that were lent with a file
+--   BuildCase word T o           build of a word into the tables T: 1, 2, 3
+--   SearchCase word text T F o   search with the list F: 1, 2, 4, 3
 --
--- What a file's bytes have to be for 5 to 11 is said by `loaded/Cases`. 01, 'When the library says no'; demand 1.
-use mathlib.Core.Logic.{_⊎_}
+-- 01, 'When the library says no'; demand 1.
 use mathlib.Core.List.{List, _++_}
-use Prim.Native.Nat.{ℕ, _+_, _≤_, _<_}
-use lib.ListN.{length, take, drop, replicate}
-use Rattle.words.specs.Words.{Word, Place, part, mirror, occurrences}
+use Prim.Native.Nat.{ℕ, _≤_, _<_}
+use lib.ListN.{length, drop}
+use Rattle.words.specs.Words.{Word, Place, mirror, occurrences}
 use Rattle.words.specs.Limits.{longestWord, longestText}
 use Rattle.table.specs.Table.{room, tableOf}
 use Rattle.finds.specs.Finds.{filled}
-use Rattle.saved.specs.File.{spell}
-use Rattle.loaded.specs.Load.{letters, stop, right, wrong}
-use Rattle.loaded.specs.Cases.{FrontCase, VerdictCase}
-use Rattle.marks.specs.Answers.{done, refused, emptyWord, longWord, shortRoom, longText, shortOutput}
+use Rattle.answers.specs.Answers.{done, refused, emptyWord, longWord, shortRoom, longText}
 use Rattle.marks.specs.Build
-use Rattle.marks.specs.Save
 use Rattle.marks.specs.Search
 use Rattle.marks.specs.Search.{found}
-use Rattle.marks.specs.Load
-use Rattle.marks.specs.SearchFile
-
--- ── With a word ────────────────────────────────────────────────────────────
 
 module _ (word : Word) where
   abbrev m : ℕ
   m = length word
-
-  abbrev size : ℕ
-  size = length (spell word)
 
   pub data BuildCase (T : List ℕ) : Build.Outcome → Type 0 where
     empty-word : m < 1 → BuildCase T (Build.outcome (refused emptyWord) T)
     long-word : 1 ≤ m → longestWord < m → BuildCase T (Build.outcome (refused longWord) T)
     short-room : 1 ≤ m → m ≤ longestWord → length T < room m → BuildCase T (Build.outcome (refused shortRoom) T)
     accepted : 1 ≤ m → m ≤ longestWord → room m ≤ length T → BuildCase T (Build.outcome (done m) (tableOf word ++ drop (room m) T))
-
-  pub data SaveCase (T O : List ℕ) : Save.Outcome → Type 0 where
-    empty-word : m < 1 → SaveCase T O (Save.outcome (refused emptyWord) T O)
-    long-word : 1 ≤ m → longestWord < m → SaveCase T O (Save.outcome (refused longWord) T O)
-    short-room : 1 ≤ m → m ≤ longestWord → length T < room m → SaveCase T O (Save.outcome (refused shortRoom) T O)
-    short-output : 1 ≤ m → m ≤ longestWord → room m ≤ length T → length O < size
-        → SaveCase T O (Save.outcome (refused shortOutput) (replicate (room m) 0 ++ drop (room m) T) O)
-    accepted : 1 ≤ m → m ≤ longestWord → room m ≤ length T → size ≤ length O
-        → SaveCase T O (Save.outcome (done size) (tableOf word ++ drop (room m) T) (spell word ++ drop size O))
 
   pub data SearchCase (text : Word) (T : List ℕ) (F : List Place) : Search.Outcome → Type 0 where
     empty-word : m < 1 → SearchCase text T F (Search.outcome (refused emptyWord) T F)
@@ -62,31 +37,3 @@ module _ (word : Word) where
     accepted : 1 ≤ m → m ≤ longestWord → length text ≤ longestText → room m ≤ length T
         → SearchCase text T F (Search.outcome (done (found word text)) (tableOf (mirror word) ++ drop (room m) T)
         (filled (occurrences word text) F))
-
--- ── With a file ────────────────────────────────────────────────────────────
-
--- m letters are declared and stand at place i, where the file shows any
-pub data LoadCase (file R T : List ℕ) : Load.Outcome → Type 0 where
-  head-refused : {n : ℕ} {p : Place} → FrontCase file (stop n p) → LoadCase file R T (Load.outcome (refused n) R T)
-  short-room : {m : ℕ} {i : Place} → FrontCase file (letters m i) → (length R < m) ⊎ (length T < room m)
-      → LoadCase file R T (Load.outcome (refused shortRoom) R T)
-  arrows-refused : {m : ℕ} {i : Place} {n : ℕ} {p : Place} → FrontCase file (letters m i) → m ≤ length R → room m ≤ length T
-      → VerdictCase file (i + m) (part file i m) (wrong n p)
-      → LoadCase file R T (Load.outcome (refused n) (replicate m 0 ++ drop m R) (replicate (room m) 0 ++ drop (room m) T))
-  accepted : {m : ℕ} {i : Place} → FrontCase file (letters m i) → m ≤ length R → room m ≤ length T
-      → VerdictCase file (i + m) (part file i m) right
-      → LoadCase file R T (Load.outcome (done m) (part file i m ++ drop m R) (tableOf (part file i m) ++ drop (room m) T))
-
--- R and T are lent, loading leaves R′ and T′ of them, and with m letters accepted the file's word is the first m of R′
-pub data SearchFileCase (file : List ℕ) (text : Word) (R T : List ℕ) (F : List Place) : SearchFile.Outcome → Type 0 where
-  long-text : longestText < length text → SearchFileCase file text R T F (SearchFile.outcome (refused longText) R T F)
-  load-refused : {n : ℕ} {R′ T′ : List ℕ} → length text ≤ longestText → LoadCase file R T (Load.outcome (refused n) R′ T′)
-      → SearchFileCase file text R T F (SearchFile.outcome (refused n) R′ T′ F)
-  accepted : {m : ℕ} {R′ T′ : List ℕ} → length text ≤ longestText → LoadCase file R T (Load.outcome (done m) R′ T′)
-      → SearchFileCase file text R T F (SearchFile.outcome (done (found (mirror (take m R′)) text)) R′ T′
-      (filled (occurrences (mirror (take m R′)) text) F))
-
--- before the rooms were found large enough, nothing is changed; after it, the first m letters' part of both is zero
-pub data AfterRefusal (R T : List ℕ) : List ℕ → List ℕ → Type 0 where
-  unchanged : AfterRefusal R T R T
-  zeroed : {m : ℕ} → m ≤ length R → room m ≤ length T → AfterRefusal R T (replicate m 0 ++ drop m R) (replicate (room m) 0 ++ drop (room m) T)

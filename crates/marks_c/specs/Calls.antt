@@ -2,27 +2,46 @@
 -- it.
 --
 --   resultOf a          0 for an answer, the number of 01's table for a refusal
---   answered v a f      an answer that C is given: f of it, or v as it was where the call was refused
+--   given v a f         an answer that C is given: f of it, or v as it was where the call was refused
+--   sizeGiven v a ..    the same of a size, of the number of finds, and of the letters read
 --   buildCall ..        the outcome of code that returns, and leaves, so much
+--   buildReturns ..     what is returned and left for an outcome of the entry
 --   buildCallSays ..    what it must be
---   saveCall .., loadCall .., searchCall .., searchFileCall .., and each with Says: the same of the other entries
+--   saveCall .., loadCall .., searchCall .., searchFileCall .., and each with Returns and Says: the same of the other entries
 use mathlib.Core.List.{List}
 use Prim.Native.Nat.{ℕ}
 use Rattle.words.specs.Words.{Word, Place}
-use Rattle.marks.specs.Answers.{Answer, done, refused}
+use Rattle.finds.specs.declared.Tally.{Tally}
+use Rattle.answers.specs.Answers.{Answer, done, refused, refusedAt}
+use Rattle.marks.specs.Build
 use Rattle.marks.specs.Build.{buildSays}
-use Rattle.marks.specs.Save.{saveSays}
-use Rattle.marks.specs.Load.{loadSays}
+use Rattle.marks.specs.Search
 use Rattle.marks.specs.Search.{searchSays}
-use Rattle.marks.specs.SearchFile.{searchFileSays}
+use Rattle.mark_files.specs.Save
+use Rattle.mark_files.specs.Save.{saveSays}
+use Rattle.mark_files.specs.Load
+use Rattle.mark_files.specs.Load.{loadSays}
+use Rattle.mark_files.specs.SearchFile
+use Rattle.mark_files.specs.SearchFile.{searchFileSays}
 
 abbrev pub resultOf : {A : Type 0} → Answer A → ℕ
 resultOf (done a) = 0
 resultOf (refused r) = r
+resultOf (refusedAt r p) = r
 
-abbrev pub answered : {A : Type 0} → ℕ → Answer A → (A → ℕ) → ℕ
-answered v (done a) f = f a
-answered v (refused r) f = v
+abbrev pub given : {A : Type 0} → ℕ → Answer A → (A → ℕ) → ℕ
+given v (done a) f = f a
+given v (refused r) f = v
+given v (refusedAt r p) f = v
+
+abbrev pub sizeGiven : ℕ → Answer ℕ → ℕ
+sizeGiven v a = given v a (λ n. n)
+
+abbrev pub countGiven : ℕ → Answer Tally → ℕ
+countGiven v a = given v a (λ t. t .count)
+
+abbrev pub lettersGiven : ℕ → Answer Tally → ℕ
+lettersGiven v a = given v a (λ t. t .letters)
 
 -- ── Build ──────────────────────────────────────────────────────────────────
 
@@ -34,10 +53,11 @@ pub record BuildCall : Type 0 where
 abbrev pub buildCall : ℕ → List ℕ → ℕ → BuildCall
 buildCall r T m = record { result = r; tables = T; m = m }
 
-unfoldable pub buildCallSays : Word → List ℕ → ℕ → BuildCall
-buildCallSays word T m =
-    let o = buildSays word T in
-    buildCall (resultOf (o .answer)) (o .tables) (answered m (o .answer) (λ size. size))
+abbrev pub buildReturns : ℕ → Build.Outcome → BuildCall
+buildReturns m o = buildCall (resultOf (o .answer)) (o .tables) (sizeGiven m (o .answer))
+
+abbrev pub buildCallSays : Word → List ℕ → ℕ → BuildCall
+buildCallSays word T m = buildReturns m (buildSays word T)
 
 -- ── Save ───────────────────────────────────────────────────────────────────
 
@@ -50,10 +70,11 @@ pub record SaveCall : Type 0 where
 abbrev pub saveCall : ℕ → List ℕ → List ℕ → ℕ → SaveCall
 saveCall r T O n = record { result = r; tables = T; output = O; length = n }
 
-unfoldable pub saveCallSays : Word → List ℕ → List ℕ → ℕ → SaveCall
-saveCallSays word T O n =
-    let o = saveSays word T O in
-    saveCall (resultOf (o .answer)) (o .tables) (o .output) (answered n (o .answer) (λ size. size))
+abbrev pub saveReturns : ℕ → Save.Outcome → SaveCall
+saveReturns n o = saveCall (resultOf (o .answer)) (o .tables) (o .output) (sizeGiven n (o .answer))
+
+abbrev pub saveCallSays : Word → List ℕ → List ℕ → ℕ → SaveCall
+saveCallSays word T O n = saveReturns n (saveSays word T O)
 
 -- ── Load ───────────────────────────────────────────────────────────────────
 
@@ -66,10 +87,11 @@ pub record LoadCall : Type 0 where
 abbrev pub loadCall : ℕ → List ℕ → List ℕ → ℕ → LoadCall
 loadCall r R T m = record { result = r; word = R; tables = T; m = m }
 
-unfoldable pub loadCallSays : List ℕ → List ℕ → List ℕ → ℕ → LoadCall
-loadCallSays file R T m =
-    let o = loadSays file R T in
-    loadCall (resultOf (o .answer)) (o .word) (o .tables) (answered m (o .answer) (λ size. size))
+abbrev pub loadReturns : ℕ → Load.Outcome → LoadCall
+loadReturns m o = loadCall (resultOf (o .answer)) (o .word) (o .tables) (sizeGiven m (o .answer))
+
+abbrev pub loadCallSays : List ℕ → List ℕ → List ℕ → ℕ → LoadCall
+loadCallSays file R T m = loadReturns m (loadSays file R T)
 
 -- ── Search ─────────────────────────────────────────────────────────────────
 
@@ -83,10 +105,11 @@ pub record SearchCall : Type 0 where
 abbrev pub searchCall : ℕ → List ℕ → List Place → ℕ → ℕ → SearchCall
 searchCall r T F c l = record { result = r; tables = T; finds = F; count = c; letters = l }
 
-unfoldable pub searchCallSays : Word → Word → List ℕ → List Place → ℕ → ℕ → SearchCall
-searchCallSays word text T F c l =
-    let o = searchSays word text T F in
-    searchCall (resultOf (o .answer)) (o .tables) (o .finds) (answered c (o .answer) (λ f. f .count)) (answered l (o .answer) (λ f. f .letters))
+abbrev pub searchReturns : ℕ → ℕ → Search.Outcome → SearchCall
+searchReturns c l o = searchCall (resultOf (o .answer)) (o .tables) (o .finds) (countGiven c (o .answer)) (lettersGiven l (o .answer))
+
+abbrev pub searchCallSays : Word → Word → List ℕ → List Place → ℕ → ℕ → SearchCall
+searchCallSays word text T F c l = searchReturns c l (searchSays word text T F)
 
 -- ── Search with a file ─────────────────────────────────────────────────────
 
@@ -101,8 +124,9 @@ pub record SearchFileCall : Type 0 where
 abbrev pub searchFileCall : ℕ → List ℕ → List ℕ → List Place → ℕ → ℕ → SearchFileCall
 searchFileCall r R T F c l = record { result = r; word = R; tables = T; finds = F; count = c; letters = l }
 
-unfoldable pub searchFileCallSays : List ℕ → Word → List ℕ → List ℕ → List Place → ℕ → ℕ → SearchFileCall
-searchFileCallSays file text R T F c l =
-    let o = searchFileSays file text R T F in
-    searchFileCall (resultOf (o .answer)) (o .word) (o .tables) (o .finds) (answered c (o .answer) (λ f. f .count))
-    (answered l (o .answer) (λ f. f .letters))
+abbrev pub searchFileReturns : ℕ → ℕ → SearchFile.Outcome → SearchFileCall
+searchFileReturns c l o =
+    searchFileCall (resultOf (o .answer)) (o .word) (o .tables) (o .finds) (countGiven c (o .answer)) (lettersGiven l (o .answer))
+
+abbrev pub searchFileCallSays : List ℕ → Word → List ℕ → List ℕ → List Place → ℕ → ℕ → SearchFileCall
+searchFileCallSays file text R T F c l = searchFileReturns c l (searchFileSays file text R T F)

@@ -2,7 +2,39 @@
 // the last pointers, or returns the refusal's number and leaves those pointers alone. There is no state and no heap, so calls on buffers of
 // their own may run at the same time.
 ghost use mathlib.Core.Path.{_≡_};
-ghost use Rattle.marks_c.specs.Calls.{buildCall, buildCallSays, saveCall, saveCallSays, loadCall, loadCallSays, searchCall, searchCallSays, searchFileCall, searchFileCallSays};
+ghost use Rattle.answers.specs.Answers.{sizeAnswer, tallyAnswer};
+ghost use Rattle.marks_c.specs.Calls.{resultOf, sizeGiven, countGiven, lettersGiven};
+ghost use Rattle.marks_c.specs.Calls.{buildCall, buildCallSays, saveCall, saveCallSays, loadCall, loadCallSays};
+ghost use Rattle.marks_c.specs.Calls.{searchCall, searchCallSays, searchFileCall, searchFileCallSays};
+
+// What C is told of an answer: the number that is returned, and the size where the entry is done.
+fn tell_size(answer: answers::SizeAnswer, size: &mut u64) -> u32
+    ensures { λ r. ⌜ (r ≡ resultOf (sizeAnswer answer)) × (now (size .exit) ≡ sizeGiven (now (size .entry)) (sizeAnswer answer)) ⌝ }
+{
+    match answer {
+        answers::SizeAnswer::Done(n) => {
+            *size = n as u64;
+            0
+        }
+        answers::SizeAnswer::Refused(why) => answers::number(why) as u32,
+    }
+}
+
+// The same of a search: the number of finds, and of letters read.
+fn tell_tally(answer: answers::TallyAnswer, count: &mut u64, letters: &mut u64) -> u32
+    ensures { λ r. ⌜ (r ≡ resultOf (tallyAnswer answer))
+        × (now (count .exit) ≡ countGiven (now (count .entry)) (tallyAnswer answer))
+        × (now (letters .exit) ≡ lettersGiven (now (letters .entry)) (tallyAnswer answer)) ⌝ }
+{
+    match answer {
+        answers::TallyAnswer::Done(tally) => {
+            *count = tally.count as u64;
+            *letters = tally.letters;
+            0
+        }
+        answers::TallyAnswer::Refused(why) => answers::number(why) as u32,
+    }
+}
 
 #[no_mangle]
 pub extern "C" fn marks_build(word: &[u8], tables: &mut [u16], m: &mut u64) -> u32
@@ -10,15 +42,7 @@ pub extern "C" fn marks_build(word: &[u8], tables: &mut [u16], m: &mut u64) -> u
         ≡ buildCallSays (now (word .entry)) (now (tables .entry)) (now (m .entry)) ⌝ }
 {
     let built = marks::build(word, tables);
-    match built {
-        marks::Built::Done(size) => {
-            *m = size as u64;
-            0
-        }
-        marks::Built::EmptyWord => 1,
-        marks::Built::LongWord => 2,
-        marks::Built::ShortRoom => 3,
-    }
+    tell_size(built, m)
 }
 
 #[no_mangle]
@@ -31,17 +55,8 @@ pub extern "C" fn marks_save(
     ensures { λ r. ⌜ saveCall r (now (tables .exit)) (now (out .exit)) (now (length .exit))
         ≡ saveCallSays (now (word .entry)) (now (tables .entry)) (now (out .entry)) (now (length .entry)) ⌝ }
 {
-    let saved = marks::save(word, tables, out);
-    match saved {
-        marks::Saved::Done(size) => {
-            *length = size as u64;
-            0
-        }
-        marks::Saved::EmptyWord => 1,
-        marks::Saved::LongWord => 2,
-        marks::Saved::ShortRoom => 3,
-        marks::Saved::ShortOutput => 12,
-    }
+    let saved = mark_files::save(word, tables, out);
+    tell_size(saved, length)
 }
 
 #[no_mangle]
@@ -49,14 +64,8 @@ pub extern "C" fn marks_load(file: &[u8], room: &mut [u8], tables: &mut [u16], m
     ensures { λ r. ⌜ loadCall r (now (room .exit)) (now (tables .exit)) (now (m .exit))
         ≡ loadCallSays (now (file .entry)) (now (room .entry)) (now (tables .entry)) (now (m .entry)) ⌝ }
 {
-    let loaded = marks::load(file, room, tables);
-    match loaded {
-        marks::Loaded::Done(size) => {
-            *m = size as u64;
-            0
-        }
-        marks::Loaded::Refused(why) => why as u32,
-    }
+    let loaded = mark_files::load(file, room, tables);
+    tell_size(loaded, m)
 }
 
 #[no_mangle]
@@ -69,20 +78,11 @@ pub extern "C" fn marks_search(
     letters: &mut u64,
 ) -> u32
     ensures { λ r. ⌜ searchCall r (now (tables .exit)) (now (finds .exit)) (now (count .exit)) (now (letters .exit))
-        ≡ searchCallSays (now (word .entry)) (now (text .entry)) (now (tables .entry)) (now (finds .entry)) (now (count .entry)) (now (letters .entry)) ⌝ }
+        ≡ searchCallSays (now (word .entry)) (now (text .entry)) (now (tables .entry)) (now (finds .entry))
+        (now (count .entry)) (now (letters .entry)) ⌝ }
 {
     let searched = marks::search(word, text, tables, finds);
-    match searched {
-        marks::Searched::Done(tally) => {
-            *count = tally.count as u64;
-            *letters = tally.letters;
-            0
-        }
-        marks::Searched::EmptyWord => 1,
-        marks::Searched::LongWord => 2,
-        marks::Searched::LongText => 4,
-        marks::Searched::ShortRoom => 3,
-    }
+    tell_tally(searched, count, letters)
 }
 
 #[no_mangle]
@@ -96,15 +96,9 @@ pub extern "C" fn marks_search_file(
     letters: &mut u64,
 ) -> u32
     ensures { λ r. ⌜ searchFileCall r (now (room .exit)) (now (tables .exit)) (now (finds .exit)) (now (count .exit)) (now (letters .exit))
-        ≡ searchFileCallSays (now (file .entry)) (now (text .entry)) (now (room .entry)) (now (tables .entry)) (now (finds .entry)) (now (count .entry)) (now (letters .entry)) ⌝ }
+        ≡ searchFileCallSays (now (file .entry)) (now (text .entry)) (now (room .entry)) (now (tables .entry)) (now (finds .entry))
+        (now (count .entry)) (now (letters .entry)) ⌝ }
 {
-    let searched = marks::search_file(file, text, room, tables, finds);
-    match searched {
-        marks::FileSearched::Done(found) => {
-            *count = found.count as u64;
-            *letters = found.letters;
-            0
-        }
-        marks::FileSearched::Refused(why) => why as u32,
-    }
+    let searched = mark_files::search_file(file, text, room, tables, finds);
+    tell_tally(searched, count, letters)
 }

@@ -10,7 +10,7 @@ use native.Mathlib.Omega.{arith}
 use lib.ListN.{length, drop, drop-of-length-le}
 use lib.Seq.{drop-cons}
 use Rattle.words.specs.Lists.{at}
-use Rattle.number.specs.Number.{greatest, refuses, Seen, number, ends, refused, behind, see, seeNumber, placed, numberAt}
+use Rattle.number.specs.Number.{greatest, refuses, Seen, number, ends, refused, withGroup, see, seeNumber, placed, numberAt}
 use Rattle.number.specs.declared.Number.the-variants.{Value, Refused}
 use Rattle.number.proofs.Spelling.{top, top-least}
 use Rattle.number.proofs.Seeing.{Passes, refuses-told, see-refused, see-last, see-follows}
@@ -26,10 +26,10 @@ after-none (number v n) = let e : v ≡ 0 + 1 * v = omega arith in ap (λ w. num
 after-none ends = refl
 after-none (refused n) = refl
 
-after-behind : (value unit x : ℕ) (g : Seen) → after value unit (behind x g) ≡ after (value + unit * x) (unit * 128) g
-after-behind value unit x (number v n) = let e : value + unit * (x + 128 * v) ≡ value + unit * x + unit * 128 * v = omega arith in rw e
-after-behind value unit x ends = refl
-after-behind value unit x (refused n) = refl
+after-group : (value unit x : ℕ) (g : Seen) → after value unit (withGroup x g) ≡ after (value + unit * x) (unit * 128) g
+after-group value unit x (number v n) = let e : value + unit * (x + 128 * v) ≡ value + unit * x + unit * 128 * v = omega arith in rw e
+after-group value unit x ends = refl
+after-group value unit x (refused n) = refl
 
 -- from place a, at place i; `more` groups may follow the next
 pub record Reading (s : List ℕ) (a i value unit : ℕ) : Type 0 where
@@ -99,7 +99,7 @@ module _ {s : List ℕ} {a i value unit : ℕ} (R : Reading s a i value unit) wh
                 record {
                   begun = omega (arith, R .begun);
                   same = sym (shown (see-follows (drop (suc i) s) p l))
-                      ∙ rw (n, add-one i) (ap (placed s a) (after-behind value unit (at s i % 128) (see (suc (i - a)) (drop (suc i) s))));
+                      ∙ rw (n, add-one i) (ap (placed s a) (after-group value unit (at s i % 128) (see (suc (i - a)) (drop (suc i) s))));
                   more = k;
                   places = omega arith;
                   scale = omega arith;

@@ -7,10 +7,11 @@ use mathlib.Core.List.{List, [], _∷_, _++_}
 use Prim.Native.Nat.{ℕ, zero, suc, _+_, _*_, _/_, _%_, _≤_, _<_}
 use native.Mathlib.Decide.{decLt}
 use native.Mathlib.Omega.{arith}
-use lib.ListN.{length, take}
+use lib.ListN.{length}
 use lib.Dec.{eqb, ltb}
 use borrow.Author.Tests.{ltb-true, lt-ltb, le-ltb, eqb-true, eq-eqb, ne-eqb}
-use Rattle.number.specs.Number.{Bytes, refuses, Seen, number, ends, refused, behind, see}
+use Rattle.words.proofs.Lists.{and-true}
+use Rattle.number.specs.Number.{Bytes, refuses, Seen, number, ends, refused, withGroup, see}
 use Rattle.number.proofs.Spelling.{Spells, last, follows, spells-follow, top, top-least}
 
 -- ── One byte ───────────────────────────────────────────────────────────────
@@ -47,6 +48,26 @@ refuses-told {n} {b} e = record { counts = λ h. counted h (decLt 0 b); small = 
     smaller h (yes g) = absurd (true≢false (rw (h, lt-ltb 15 b g, or-true (eqb b 0)) at e))
     smaller h (no g) = omega arith
 
+-- it is a zero behind others, or the fifth and above 15
+abbrev pub Refusable : ℕ → ℕ → Type 0
+Refusable n b = ((0 < n) × (b ≡ 0)) ⊎ ((n ≡ 4) × (15 < b))
+
+-- such a byte is refused
+pub refuses-when : {n b : ℕ} → Refusable n b → refuses n b ≡ true
+unfolding refuses
+refuses-when {n} {b} (inl q) = rw (lt-ltb 0 n (q .0), eq-eqb b 0 (q .1))
+refuses-when {n} {b} (inr q) = rw (eq-eqb n 4 (q .0), lt-ltb 15 b (q .1), or-true (ltb 0 n && eqb b 0))
+
+-- and no other is
+pub refuses-why : {n b : ℕ} → refuses n b ≡ true → Refusable n b
+unfolding refuses
+refuses-why {n} {b} e = by (ltb 0 n && eqb b 0) (eqb n 4 && ltb 15 b) refl refl e
+  where
+    by : (x y : Bool) → (ltb 0 n && eqb b 0) ≡ x → (eqb n 4 && ltb 15 b) ≡ y → x || y ≡ true → Refusable n b
+    by true y f g h = let q = and-true {a = ltb 0 n} f in inl (ltb-true 0 n (q .0), eqb-true b 0 (q .1))
+    by false true f g h = let q = and-true {a = eqb n 4} g in inr (eqb-true n 4 (q .0), ltb-true 15 b (q .1))
+    by false false f g h = absurd (true≢false (sym h))
+
 -- a byte is refused, or ends the number, or is followed by another
 pub data Kind (n b : ℕ) : Type 0 where
   is-refused : refuses n b ≡ true → Kind n b
@@ -72,7 +93,7 @@ module _ {n b : ℕ} (l : List ℕ) (p : Passes n b) where
   unfolding see
   see-last h = rw (refuses-not p, lt-ltb b 128 h)
 
-  pub see-follows : 128 ≤ b → see n (b ∷ l) ≡ behind (b % 128) (see (suc n) l)
+  pub see-follows : 128 ≤ b → see n (b ∷ l) ≡ withGroup (b % 128) (see (suc n) l)
   unfolding see
   see-follows h = rw (refuses-not p, le-ltb b 128 h)
 
@@ -117,16 +138,7 @@ see-spells {n} r f (follows {v = v} {l = l} h s) =
     let g = fits-follow f h in
     let e : (128 + v % 128) % 128 + 128 * (v / 128) ≡ v = omega arith in
     let c : suc n + length l ≡ n + suc (length l) = omega arith in
-    see-follows (l ++ r) (g .2) (omega arith) ∙ ap (behind ((128 + v % 128) % 128)) (see-spells r (g .1) s) ∙ rw (e, c)
-
--- and a beginning of it shows that it ends too soon
-pub see-cut : {n k v : ℕ} {l : List ℕ} (i : ℕ) → i < length l → Fits n k v → Spells v l → see n (take i l) ≡ ends
-unfolding see
-see-cut zero h f s = refl
-see-cut (suc i) h f (last g) = absurd (omega arith)
-see-cut (suc i) h f (follows {v = v} {l = l} g s) =
-    let q = fits-follow f g in
-    see-follows (take i l) (q .2) (omega arith) ∙ ap (behind ((128 + v % 128) % 128)) (see-cut i (omega arith) (q .1) s)
+    see-follows (l ++ r) (g .2) (omega arith) ∙ ap (withGroup ((128 + v % 128) % 128)) (see-spells r (g .1) s) ∙ rw (e, c)
 
 -- ── What is seen was spelled ───────────────────────────────────────────────
 
@@ -151,22 +163,26 @@ stood-follows {u = u} {b = b} h g s =
       fits = follow-fits b h (s .fits);
     }
 
-behind-number : (x : ℕ) (s : Seen) {v m : ℕ} → behind x s ≡ number v m → (u : ℕ) × (s ≡ number u m) × (v ≡ x + 128 * u)
-behind-number x (number u m) e = (u, cc, cc)
-behind-number x ends e = let z : _≡_ {A = ℕ} 0 1 = cc in absurd (omega arith)
-behind-number x (refused m) e = let z : _≡_ {A = ℕ} 0 1 = cc in absurd (omega arith)
+group-number : (x : ℕ) (s : Seen) {v m : ℕ} → withGroup x s ≡ number v m → (u : ℕ) × (s ≡ number u m) × (v ≡ x + 128 * u)
+group-number x (number u m) e = (u, cc, cc)
+group-number x ends e = let z : _≡_ {A = ℕ} 0 1 = cc in absurd (omega arith)
+group-number x (refused m) e = let z : _≡_ {A = ℕ} 0 1 = cc in absurd (omega arith)
 
 -- where a number is seen a spelling of it stood
 pub see-stood : {n k v m : ℕ} (l : List ℕ) → Bytes l → n + k ≡ 4 → see n l ≡ number v m → Stood n k l v m
 unfolding see
 see-stood [] bytes q e = let z : _≡_ {A = ℕ} 0 1 = cc in absurd (omega arith)
-see-stood {n} {k} {v} {m} (b ∷ l) bytes q e = by (kind-of n b) k q (λ j u r f. see-stood {n = suc n} {k = j} {v = u} {m = m} l (λ i. bytes (suc i)) r f)
+see-stood {n} {k} {v} {m} (b ∷ l) bytes q e =
+    by (kind-of n b) k q (λ j u r f. see-stood {n = suc n} {k = j} {v = u} {m = m} l (λ i. bytes (suc i)) r f)
   where
     Later : Type 0
     Later = (j u : ℕ) → suc n + j ≡ 4 → see (suc n) l ≡ number u m → Stood (suc n) j l u m
 
     by : Kind n b → (k : ℕ) → n + k ≡ 4 → Later → Stood n k (b ∷ l) v m
-    by (is-refused r) k q later = let f : refused n ≡ number v m = sym (see-refused n b l r) ∙ e in let z : _≡_ {A = ℕ} 0 1 = cc in absurd (omega arith)
+    by (is-refused r) k q later =
+        let f : refused n ≡ number v m = sym (see-refused n b l r) ∙ e in
+        let z : _≡_ {A = ℕ} 0 1 = cc in
+        absurd (omega arith)
     by (is-last p h) k q later =
         let f : number b (suc n) ≡ number v m = sym (see-last l p h) ∙ e in
         let w : v ≡ b = cc in
@@ -181,49 +197,8 @@ see-stood {n} {k} {v} {m} (b ∷ l) bytes q e = by (kind-of n b) k q (λ j u r f
         }
     by (is-followed p h) zero q later = absurd (omega (arith, p .small (omega arith)))
     by (is-followed p h) (suc k) q later =
-        let f = behind-number (b % 128) (see (suc n) l) (sym (see-follows l p h) ∙ e) in
+        let f = group-number (b % 128) (see (suc n) l) (sym (see-follows l p h) ∙ e) in
         rw (f .2) (stood-follows h (bytes 0) (later k (f .0) (omega arith) (f .1)))
-
--- l is a beginning of a spelling of v, and not all of it
-pub record Begun (n k : ℕ) (l : List ℕ) (v : ℕ) : Type 0 where
-  pub spelling : List ℕ
-  pub spells : Spells v spelling
-  pub begins : l ≡ take (length l) spelling
-  pub short : length l < length spelling
-  pub fits : Fits n k v
-
-begun-follows : {n k u b : ℕ} {l : List ℕ} → 128 ≤ b → b < 256 → Begun (suc n) k l u → Begun n (suc k) (b ∷ l) (b % 128 + 128 * u)
-begun-follows {b = b} h g s = record {
-  spelling = b ∷ s .spelling;
-  spells = spells-follow h g (s .fits .counts (omega arith)) (s .spells);
-  begins = ap (λ y. b ∷ y) (s .begins);
-  short = omega (arith, s .short);
-  fits = follow-fits b h (s .fits);
-}
-
--- bytes that end too soon are a beginning of a spelling
-pub see-begun : {n k : ℕ} (l : List ℕ) → Bytes l → n + k ≡ 4 → see n l ≡ ends → (v : ℕ) × Begun n k l v
-unfolding see
-see-begun {n} {k} [] bytes q e =
-    let one : Passes n 1 = record { counts = λ _. omega arith; small = λ _. omega arith } in
-    (1, record { spelling = 1 ∷ []; spells = last {v = 1} (omega arith); begins = refl; short = omega arith; fits = passes-fits k q one (omega arith) })
-see-begun {n} {k} (b ∷ l) bytes q e = by (kind-of n b) k q (λ j r f. see-begun {n = suc n} {k = j} l (λ i. bytes (suc i)) r f)
-  where
-    behind-ends : (x : ℕ) (s : Seen) → behind x s ≡ ends → s ≡ ends
-    behind-ends x (number u m) f = let z : _≡_ {A = ℕ} 0 1 = cc in absurd (omega arith)
-    behind-ends x ends f = refl
-    behind-ends x (refused m) f = let z : _≡_ {A = ℕ} 0 1 = cc in absurd (omega arith)
-
-    Later : Type 0
-    Later = (j : ℕ) → suc n + j ≡ 4 → see (suc n) l ≡ ends → (u : ℕ) × Begun (suc n) j l u
-
-    by : Kind n b → (k : ℕ) → n + k ≡ 4 → Later → (v : ℕ) × Begun n k (b ∷ l) v
-    by (is-refused r) k q later = let f : refused n ≡ ends = sym (see-refused n b l r) ∙ e in let z : _≡_ {A = ℕ} 0 1 = cc in absurd (omega arith)
-    by (is-last p h) k q later = let f : number b (suc n) ≡ ends = sym (see-last l p h) ∙ e in let z : _≡_ {A = ℕ} 0 1 = cc in absurd (omega arith)
-    by (is-followed p h) zero q later = absurd (omega (arith, p .small (omega arith)))
-    by (is-followed p h) (suc k) q later =
-        let r = later k (omega arith) (behind-ends (b % 128) (see (suc n) l) (sym (see-follows l p h) ∙ e)) in
-        (b % 128 + 128 * r .0, begun-follows h (bytes 0) (r .1))
 
 -- ── More bytes ─────────────────────────────────────────────────────────────
 
@@ -237,27 +212,5 @@ see-append n (b ∷ l) r = by (kind-of n b) (see-append (suc n) l r)
         → (see n (b ∷ l) ≡ ends) ⊎ (see n (b ∷ l ++ r) ≡ see n (b ∷ l))
     by (is-refused e) o = inr (see-refused n b (l ++ r) e ∙ sym (see-refused n b l e))
     by (is-last p h) o = inr (see-last (l ++ r) p h ∙ sym (see-last l p h))
-    by (is-followed p h) (inl e) = inl (see-follows l p h ∙ ap (behind (b % 128)) e)
-    by (is-followed p h) (inr e) = inr (see-follows (l ++ r) p h ∙ ap (behind (b % 128)) e ∙ sym (see-follows l p h))
-
--- a number ends within the bytes, and a refused byte is one of them
-abbrev pub Within : ℕ → ℕ → Seen → Type 0
-Within n size (number v m) = (n < m) × (m ≤ n + size)
-Within n size ends = Unit
-Within n size (refused m) = (n ≤ m) × (m < n + size)
-
--- what is seen lies within the bytes
-pub see-within : (n : ℕ) (l : List ℕ) → Within n (length l) (see n l)
-unfolding see
-see-within n [] = tt
-see-within n (b ∷ l) = by (kind-of n b) (see-within (suc n) l)
-  where
-    later : (s : Seen) → Within (suc n) (length l) s → Within n (suc (length l)) (behind (b % 128) s)
-    later (number v m) w = (omega arith, omega arith)
-    later ends w = tt
-    later (refused m) w = (omega arith, omega arith)
-
-    by : Kind n b → Within (suc n) (length l) (see (suc n) l) → Within n (suc (length l)) (see n (b ∷ l))
-    by (is-refused e) w = rw (see-refused n b l e) (omega arith, omega arith)
-    by (is-last p h) w = rw (see-last l p h) (omega arith, omega arith)
-    by (is-followed p h) w = rw (see-follows l p h) (later (see (suc n) l) w)
+    by (is-followed p h) (inl e) = inl (see-follows l p h ∙ ap (withGroup (b % 128)) e)
+    by (is-followed p h) (inr e) = inr (see-follows (l ++ r) p h ∙ ap (withGroup (b % 128)) e ∙ sym (see-follows l p h))

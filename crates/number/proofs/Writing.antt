@@ -46,7 +46,8 @@ module _ {v left n : ℕ} (C : Counting v left n) where
 
 -- ── Writing ────────────────────────────────────────────────────────────────
 
--- s, written from place a on, has become t; the next byte goes to place i, and the rest of them make of t what the whole spelling makes of s
+-- s, written from place a on, has become t; the next byte goes to place i, and the rest of them make of t what the whole spelling makes
+-- of s
 pub record Writing (s : List ℕ) (a v : ℕ) (t : List ℕ) (i left : ℕ) : Type 0 where
   pub rest : List ℕ
   pub spells : Spells left rest

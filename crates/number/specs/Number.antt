@@ -9,7 +9,7 @@
 --   refuses n b       whether the byte b is refused behind n others of its number
 --   Seen              what bytes show: a number and how many bytes it takes; or that they end too soon; or a refused byte and how many
 --                     stand before it
---   behind x seen     the same where a group x stands before
+--   withGroup x seen  the same where a group x stands before
 --   see n l           what the bytes l show, behind n others of their number
 --   seeNumber l       what the bytes l show at their front
 --   placed s at seen  the answer at place `at` of the file s: the value and the next place; or 5 and the file's length; or 6 and the
@@ -55,14 +55,14 @@ pub data Seen : Type 0 where
   ends : Seen
   refused : ℕ → Seen
 
-abbrev pub behind : ℕ → Seen → Seen
-behind x (number v n) = number (x + 128 * v) n
-behind x ends = ends
-behind x (refused n) = refused n
+abbrev pub withGroup : ℕ → Seen → Seen
+withGroup x (number v n) = number (x + 128 * v) n
+withGroup x ends = ends
+withGroup x (refused n) = refused n
 
 unfoldable pub see : ℕ → List ℕ → Seen
 see n [] = ends
-see n (b ∷ l) = cond (refuses n b) (refused n) (cond (ltb b 128) (number b (suc n)) (behind (b % 128) (see (suc n) l)))
+see n (b ∷ l) = cond (refuses n b) (refused n) (cond (ltb b 128) (number b (suc n)) (withGroup (b % 128) (see (suc n) l)))
 
 unfoldable pub seeNumber : List ℕ → Seen
 seeNumber l = see 0 l

@@ -1,14 +1,15 @@
 -- WHAT HOLDS OF AN ORACLE, as one record over its arrows δ and its supplies S, and the chain of supplies that everything else runs along.
 -- The record says nothing of how arrows are stored or added: the letter-by-letter rule has it, and whatever has it has the suffix rule's
--- arrows. Here S is a function with S 0 = 0; that state 0 has no supply is said where supplies are answers.
+-- arrows. Here S is a function with S 0 = 0; that state 0 has no supply is said where supplies are answers. Laws of a chain go along it.
 use mathlib.Core.Path.{_≡_, refl, sym, ap, _∙_}
-use mathlib.Core.Logic.{_⊎_, inl, inr, _≢_}
+use mathlib.Core.Logic.{_⊎_, inl, inr, ⊎-elim, _≢_, by-cases}
 use mathlib.Core.Option.{Option, none, some}
 use Prim.Native.Nat.{ℕ, zero, suc, _-_, _≤_, _<_}
 use native.Mathlib.Decide.{decLt}
 use native.Mathlib.Omega.{arith}
 use Rattle.words.specs.Words.{Letter}
 use Rattle.oracle.specs.Arrows.{State, Delta}
+use Rattle.oracle.proofs.Targets.{none-where}
 
 -- y stands on the chain x, S x, S (S x), ..
 pub data On (S : State → State) (y : State) : State → Type 0 where
@@ -58,7 +59,10 @@ module _ {m : ℕ} {w : ℕ → Letter} {δ : Delta} {S : State → State} (O : 
 
   -- an arrow leaves its state upwards
   pub arrow-up : (x : State) (c : Letter) (y : State) → δ x c ≡ some y → (x < y) × (y ≤ m)
-  arrow-up x c y e = let v = O .into x c y e in let b = on-below (omega (arith, v .inside)) (v .on) in (omega (arith, v .to), omega (arith, v .to, v .inside))
+  arrow-up x c y e =
+      let v = O .into x c y e in
+      let b = on-below (omega (arith, v .inside)) (v .on) in
+      (omega (arith, v .to), omega (arith, v .to, v .inside))
 
   -- ── One step of a chain ──────────────────────────────────────────────────
 
@@ -72,42 +76,28 @@ module _ {m : ℕ} {w : ℕ → Letter} {δ : Delta} {S : State → State} (O : 
   -- what an arrow of x leads to, its neighbour on the chain leads to or to the supply of that
   pub near-arrow : (x y : State) (c : Letter) (x′ : State) → Near y x → δ x c ≡ some x′ → (y′ : State) × (δ y c ≡ some y′) × Near y′ x′
   near-arrow x y c x′ (inl e) d = (x′, rw e d, inl refl)
-  near-arrow x y c x′ (inr e) d = rw e (by (O .answers x c x′ d))
-    where
-      by : (δ (S x) c ≡ some x′) ⊎ (δ (S x) c ≡ some (S x′)) → (y′ : State) × (δ (S x) c ≡ some y′) × Near y′ x′
-      by (inl h) = (x′, h, inl refl)
-      by (inr h) = (S x′, h, inr refl)
+  near-arrow x y c x′ (inr e) d = rw e (⊎-elim (λ h. (x′, h, inl refl)) (λ h. (S x′, h, inr refl)) (O .answers x c x′ d))
 
   -- and so for every state further down the chain
   pub chain-arrow : {y x : State} (c : Letter) (x′ : State) → On S y x → δ x c ≡ some x′ → (y′ : State) × (δ y c ≡ some y′) × On S y′ x′
   chain-arrow {y} c x′ (here e) d = (x′, rw e d, here refl)
-  chain-arrow {y} c x′ (next {x = x} r) d = by (λ z e. chain-arrow c z r e) (near-arrow x (S x) c x′ (inr refl) d)
-    where
-      by : ((z : State) → δ (S x) c ≡ some z → (y′ : State) × (δ y c ≡ some y′) × On S y′ z)
-          → (z : State) × (δ (S x) c ≡ some z) × Near z x′
-          → (y′ : State) × (δ y c ≡ some y′) × On S y′ x′
-      by rec t = let r′ = rec (t .0) (t .1) in (r′ .0, r′ .1, on-near (t .2) (r′ .2))
+  chain-arrow {y} c x′ (next {x = x} r) d =
+      let t = near-arrow x (S x) c x′ (inr refl) d in
+      let r′ = chain-arrow c (t .0) r (t .1) in
+      (r′ .0, r′ .1, on-near (t .2) (r′ .2))
 
   -- ── The arrows of state 0 ────────────────────────────────────────────────
 
   -- on a letter they lead to the first state that has it
   pub zero-first : (z : State) → z < m → ((i : State) → i < z → w i ≢ w z) → δ 0 (w z) ≡ some (suc z)
-  zero-first z h new = by (chain-arrow (w z) (suc z) (zero-on z (omega arith)) (O .spine z h))
-    where
-      by : (y : State) × (δ 0 (w z) ≡ some y) × On S y (suc z) → δ 0 (w z) ≡ some (suc z)
-      by r = reached (O .into 0 (w z) (r .0) (r .1)) (on-below h (r .2))
-        where
-          reached : Into m w S 0 (w z) (r .0) → r .0 ≤ suc z → δ 0 (w z) ≡ some (suc z)
-          reached v b = at-first (decLt (v .z) z)
-            where
-              at-first : Dec (v .z < z) → δ 0 (w z) ≡ some (suc z)
-              at-first (yes l) = absurd (new (v .z) l (sym (v .letter)))
-              at-first (no l) = let e : r .0 ≡ suc z = omega (arith, v .to) in r .1 ∙ ap {B = Option State} some e
+  zero-first z h new =
+      let r = chain-arrow (w z) (suc z) (zero-on z (omega arith)) (O .spine z h) in
+      let v = O .into 0 (w z) (r .0) (r .1) in
+      let low = on-below h (r .2) in
+      by-cases (decLt (v .z) z)
+      (λ l. absurd (new (v .z) l (sym (v .letter))))
+      (λ l. let e : r .0 ≡ suc z = omega (arith, v .to) in r .1 ∙ ap {B = Option State} some e)
 
   -- and there is none on a letter that no state has
   pub zero-none : (c : Letter) → ((i : State) → i < m → w i ≢ c) → δ 0 c ≡ none
-  zero-none c new = by (δ 0 c) refl
-    where
-      by : (o : Option State) → δ 0 c ≡ o → δ 0 c ≡ none
-      by none e = e
-      by (some y) e = let v = O .into 0 c y e in absurd (new (v .z) (v .inside) (sym (v .letter)))
+  zero-none c new = none-where (δ 0 c) (λ y e. let v = O .into 0 c y e in new (v .z) (v .inside) (sym (v .letter)))

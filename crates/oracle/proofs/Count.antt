@@ -2,22 +2,21 @@
 -- length of its last state's suffix path within twice its letters: a step along the path pays for the arrow that it adds. This is what
 -- leaves a slot free while a table is built.
 use mathlib.Core.Path.{_≡_, refl, sym, ap, _∙_}
-use mathlib.Core.Bool.{Bool, true, false, cond}
-use mathlib.Core.Logic.{_⊎_, inl, inr}
+use mathlib.Core.Logic.{⊎-elim}
 use mathlib.Core.Option.{some}
 use mathlib.Core.List.{List, [], _∷_, _++_}
 use Prim.Native.Nat.{ℕ, zero, suc, _+_, _-_, _≤_, _<_}
-use native.Mathlib.Nat.{le-refl}
+use native.Mathlib.Nat.{le-refl, le-trans}
 use native.Mathlib.Omega.{arith}
 use lib.ListN.{length, length-append, length-map, drop}
 use lib.Dec.{eqb}
 use Rattle.words.specs.Lists.{from}
 use Rattle.words.specs.Words.{Letter, Word, letter}
-use Rattle.words.proofs.Lists.{from-length}
-use Rattle.oracle.specs.Arrows.{State, Arrow, Delta, target, spine}
+use Rattle.words.proofs.Lists.{test-cases, from-length}
+use Rattle.oracle.specs.Arrows.{State, Delta, target, spine}
 use Rattle.oracle.specs.SuffixRule.{Halt, far, mend, missing, extrasAfter, extraArrows}
 use Rattle.oracle.specs.SuffixPath.{SuffixPath, ended, falls}
-use Rattle.oracle.specs.LetterRule.{pathOf, climb, addLetter, builtUpTo}
+use Rattle.oracle.specs.LetterRule.{addLetter, builtUpTo, sourcesOf}
 use Rattle.oracle.proofs.Targets.{into}
 use Rattle.oracle.proofs.Chain.{Supplied, supply-below}
 use Rattle.oracle.proofs.Grow.{Climb, stop, out, go, climb-below}
@@ -31,22 +30,18 @@ spine-length p = length-map (from 0 (length p)) _ ∙ from-length 0 (length p)
 
 mend-length : (p : Word) (h : Halt) → length (mend p h) ≤ 1
 unfolding mend
-mend-length p h = by (eqb (h .upTo) (length p)) _
-  where
-    by : (b : Bool) (a : Arrow) → length (cond b [] (a ∷ [])) ≤ 1
-    by true a = omega arith
-    by false a = le-refl 1
+mend-length p h = test-cases (eqb (h .upTo) (length p)) (λ e. rw e (omega arith)) (λ e. rw e (le-refl 1))
 
 extras-length : (p : Word) (i : ℕ) → length (extrasAfter p i) ≤ i
 unfolding extrasAfter missing
 extras-length p zero = le-refl 0
 extras-length p (suc i) =
     let h = far (target (extrasAfter p i ++ spine p)) 0 (suc i) (drop (suc i) p) in
-    rw (length-append (mend p h) (extrasAfter p i)) (omega (arith, mend-length p h, extras-length p i))
+    simp length-append (omega (arith, mend-length p h, extras-length p i))
 
 pub extra-arrows-few : (p : Word) → length (extraArrows p) ≤ length p - 1
 unfolding extraArrows
-extra-arrows-few p = extras-length p (length p - 1)
+extra-arrows-few p = le-trans (extras-length p _) (omega arith)
 
 -- ── The length of suffix paths ─────────────────────────────────────────────
 
@@ -58,31 +53,26 @@ module _ {m : ℕ} {w : ℕ → Letter} {δ : Delta} {S : State → State} (O : 
   -- the first number only bounds the state
   path-within : (f x : State) → x ≤ f → x ≤ m → (l : List State) × SuffixPath S x l
   path-within zero x h b = let e : x ≡ 0 = omega arith in ([], ended e)
-  path-within (suc f) x h b = by x h b (λ y l g. path-within f y l g)
-    where
-      by : (x : State) → x ≤ suc f → x ≤ m → ((y : State) → y ≤ f → y ≤ m → (l : List State) × SuffixPath S y l)
-          → (l : List State) × SuffixPath S x l
-      by zero h b rec = ([], ended refl)
-      by (suc x) h b rec =
-          let d = O .down x b in
-          let r = rec (S (suc x)) (omega arith) (omega arith) in
-          let p : 0 < suc x = omega arith in
-          (S (suc x) ∷ r .0, falls p refl (r .1))
+  path-within (suc f) zero h b = ([], ended refl)
+  path-within (suc f) (suc x) h b =
+      let d = O .down x b in
+      let r = path-within f (S (suc x)) (omega arith) (omega arith) in
+      let p : 0 < suc x = omega arith in
+      (S (suc x) ∷ r .0, falls p refl (r .1))
 
   -- an arrow leads to a path longer by one at most
   arrow-path : {k : State} {l : List State} {c : Letter} {y : State} {l′ : List State} → SuffixPath S k l → δ k c ≡ some y
       → SuffixPath S y l′ → length l′ ≤ suc (length l)
   arrow-path (ended q) e (ended r) = omega arith
   arrow-path (falls p q d) e (ended r) = omega arith
-  arrow-path {c = c} {y = y} (ended q) e (falls p r d) = let z : S y ≡ 0 = O .bottom c y (rw q at e) in omega (arith, path-of-zero (r ∙ z) d)
+  arrow-path {c = c} {y = y} (ended q) e (falls p r d) =
+      let z : S y ≡ 0 = O .bottom c y (rw q at e) in
+      omega (arith, path-of-zero (r ∙ z) d)
   arrow-path {c = c} {y = y} (falls {x = k} {y = k′} {l = l} p q d) e (falls {y = y′} {l = l′} p′ q′ d′) =
-      by (O .answers k c y e) (λ f. arrow-path d (rw (← q) at f) (falls p′ q′ d′)) (λ f. arrow-path d (rw (← q) at f) (rw q′ at d′))
-    where
-      by : (δ (S k) c ≡ some y) ⊎ (δ (S k) c ≡ some (S y)) → (δ (S k) c ≡ some y → suc (length l′) ≤ suc (length l))
-          → (δ (S k) c ≡ some (S y) → length l′ ≤ suc (length l))
-          → suc (length l′) ≤ suc (suc (length l))
-      by (inl f) r r′ = omega (arith, r f)
-      by (inr f) r r′ = omega (arith, r′ f)
+      ⊎-elim
+      (λ f. omega (arith, arrow-path d (rw (← q) at f) (falls p′ q′ d′)))
+      (λ f. omega (arith, arrow-path d (rw (← q) at f) (rw q′ at d′)))
+      (O .answers k c y e)
 
   -- the sources of a climb and the path of where it lands
   climb-path : {c : Letter} {k : State} {l : List State} {y : State} {l′ xs : List State} → Climb δ S c k xs y → SuffixPath S k l
@@ -97,20 +87,13 @@ module _ {m : ℕ} {w : ℕ → Letter} {δ : Delta} {S : State → State} (O : 
       → arrows + length l ≤ m + m
       → ((x : State) → x ≤ m → S′ x ≡ S x) → S′ (suc m) ≡ y
       → (l′ : List State) × SuffixPath S′ (suc m) (y ∷ l′) × (length xs + arrows + suc (length l′) ≤ suc m + suc m)
-  path-grows arrows {y} {l} {xs} S′ C D b kept given = by (path-within y y (le-refl y) (climb-below O C))
-    where
-      by : (l′ : List State) × SuffixPath S y l′
-          → (l′ : List State) × SuffixPath S′ (suc m) (y ∷ l′) × (length xs + arrows + suc (length l′) ≤ suc m + suc m)
-      by r =
-          let p : 0 < suc m = omega arith in
-          let d : SuffixPath S′ y (r .0) = path-agree S S′ (λ x h. omega (arith, supply-below O x h)) kept (climb-below O C) (r .1) in
-          (r .0, falls p (sym given) d, omega (arith, climb-path C D (r .1)))
+  path-grows arrows {y} {l} {xs} S′ C D b kept given =
+      let r = path-within y y (le-refl y) (climb-below O C) in
+      let p : 0 < suc m = omega arith in
+      let d : SuffixPath S′ y (r .0) = path-agree S S′ (λ x h. omega (arith, supply-below O x h)) kept (climb-below O C) (r .1) in
+      (r .0, falls p (sym given) d, omega (arith, climb-path C D (r .1)))
 
 -- ── The letter-by-letter rule ──────────────────────────────────────────────
-
--- the states that get an arrow on letter t, besides t itself
-pub sourcesOf : Word → ℕ → List State
-sourcesOf p t = let b = builtUpTo p t in climb (target (b .arrows)) (letter p t) (pathOf b t) .sources
 
 module _ (p : Word) where
   abbrev arrowsAt : ℕ → ℕ
@@ -118,7 +101,9 @@ module _ (p : Word) where
 
   pub arrows-added : (t : ℕ) → arrowsAt (suc t) ≡ suc (length (sourcesOf p t)) + arrowsAt t
   unfolding builtUpTo addLetter sourcesOf
-  arrows-added t = length-append (into (letter p t) (suc t) (t ∷ sourcesOf p t)) (builtUpTo p t .arrows) ∙ ap (λ n. n + arrowsAt t) (length-map (t ∷ sourcesOf p t) _)
+  arrows-added t =
+      length-append (into (letter p t) (suc t) (t ∷ sourcesOf p t)) (builtUpTo p t .arrows)
+      ∙ ap (λ n. n + arrowsAt t) (length-map (t ∷ sourcesOf p t) _)
 
   pub arrows-many : (t : ℕ) → t ≤ arrowsAt t
   unfolding builtUpTo
@@ -131,7 +116,8 @@ module _ (p : Word) where
   counted (suc t) =
       let G = built-sound p t in
       let r = counted t in
-      let s = path-grows (G .supplied) (arrowsAt t) (supplies (builtUpTo p (suc t))) (letter-climb G) (r .1) (r .2) (supply-kept G) (supply-new G) in
+      let S′ = supplies (builtUpTo p (suc t)) in
+      let s = path-grows (G .supplied) (arrowsAt t) S′ (letter-climb G) (r .1) (r .2) (supply-kept G) (supply-new G) in
       (_, s .1, omega (arith, s .2, arrows-added t))
 
   -- t letters make at most 2 t - 1 arrows

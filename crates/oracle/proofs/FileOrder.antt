@@ -1,19 +1,20 @@
 -- Laws of the file's order: what is among a state's extra targets, where they stand in the list of all, and that the list is no longer than
--- any list that has every extra arrow. The last is what lets the targets of a word's oracle fit into a row of its table.
+-- any list that has every extra arrow: no arrow stands in it twice. The last is what lets the targets of a word's oracle fit into a row of
+-- its table. Laws of all states go by induction on the last of them, whose targets are appended.
 use mathlib.Core.Path.{_≡_, refl, sym, ap, _∙_}
 use mathlib.Core.Bool.{true}
-use mathlib.Core.Logic.{_⊎_, inl, inr, _≢_}
+use mathlib.Core.Logic.{⊎-elim, _≢_, by-cases}
 use mathlib.Core.Option.{Option, none, some}
-use mathlib.Core.List.{List, [], _∷_, _++_, map, append-nil, append-assoc, List·Memᴰ, List·Memᴰ·head, List·Memᴰ·tail, List·Memᴰ·append-cases, Memᴰ·map, Memᴰ·of-map}
+use mathlib.Core.List.{List, [], _++_, map, append-nil, append-assoc, List·Memᴰ, List·Memᴰ·append-cases, Memᴰ·map, Memᴰ·of-map}
 use Prim.Native.Nat.{ℕ, zero, suc, pred, _+_, _-_, _≤_, _<_}
 use native.Mathlib.Decide.{ℕ-discrete}
 use native.Mathlib.Omega.{arith}
-use lib.ListN.{length, getD, length-append, length-map, List·getD-append, List·getD-map}
-use lib.Seq.{getD-append-add}
+use lib.ListN.{length, getD, length-append, length-map, List·getD-append}
 use borrow.Author.Tests.{eqb-true, eq-eqb}
-use Rattle.words.specs.Lists.{from, only}
+use Rattle.words.specs.Lists.{from, only, Rising, end, up}
 use Rattle.words.specs.Words.{Word, letter}
-use Rattle.words.proofs.Lists.{only-in, in-only, from-in, in-from, Rising, end, up, rising-above, rising-from}
+use Rattle.words.proofs.Lists.{entry-in, entry-below, map-behind, from-in, in-from, only-in, in-only, rising-above, rising-from}
+use Rattle.words.proofs.Distinct.{Distinct, empty, more, distinct-append, distinct-length}
 use Rattle.oracle.specs.Arrows.{State, Arrow, arrow, Delta, spine}
 use Rattle.oracle.specs.SuffixRule.{extraArrows, suffixRule, oracle}
 use Rattle.oracle.specs.FileOrder.{leadsTo, extraTargets, targetsBefore, Extra, extra, extrasBefore}
@@ -28,26 +29,6 @@ leads-to (some z) y e = ap {B = Option State} some (eqb-true z y e)
 to-leads : (o : Option State) (y : State) → o ≡ some y → leadsTo o y ≡ true
 unfolding leadsTo
 to-leads o y e = rw e (eq-eqb y y refl)
-
-entry-below : {b : ℕ} (l : List ℕ) (i : ℕ) → ((y : ℕ) → List·Memᴰ y l → y ≤ b) → getD l i 0 ≤ b
-entry-below [] i f = omega arith
-entry-below (y ∷ l) zero f = f y (List·Memᴰ·head refl)
-entry-below (y ∷ l) (suc i) f = entry-below l i (λ z m. f z (List·Memᴰ·tail m))
-
-entry-in : {A : Type 0} (l : List A) (i : ℕ) (d : A) → i < length l → List·Memᴰ (getD l i d) l
-entry-in [] i d h = absurd (omega arith)
-entry-in (a ∷ l) zero d h = List·Memᴰ·head refl
-entry-in (a ∷ l) (suc i) d h = List·Memᴰ·tail (entry-in l i d (omega arith))
-
--- arrows and targets, each behind equally many
-behind-both : (E : List Extra) (T l : List State) (x s : ℕ) → length E ≡ length T → length T ≤ s
-    → getD (E ++ map (extra x) l) s (extra x 0) ≡ extra x (getD (T ++ l) s 0)
-behind-both E T l x s e h =
-    let p : length E + (s - length T) ≡ s = omega arith in
-    let q : length T + (s - length T) ≡ s = omega arith in
-    let left = getD-append-add E (map (extra x) l) (s - length T) (extra x 0) in
-    let right = getD-append-add T l (s - length T) 0 in
-    (rw p at left) ∙ List·getD-map (extra x) l (s - length T) 0 ∙ ap (extra x) (sym (rw q at right))
 
 module _ (δ : Delta) (p : Word) where
   -- ── The extra targets of a state ─────────────────────────────────────────
@@ -64,7 +45,9 @@ module _ (δ : Delta) (p : Word) where
   -- the target of each extra arrow is among them
   pub target-extra : (x y : State) → x + 2 ≤ y → y ≤ length p → δ x (letter p (pred y)) ≡ some y → List·Memᴰ y (extraTargets δ p x)
   unfolding extraTargets
-  target-extra x y h b e = in-only _ _ (in-from (suc (suc x)) (length p - suc x) y (omega arith) (omega arith)) (to-leads (δ x (letter p (pred y))) y e)
+  target-extra x y h b e =
+      let m = in-from (suc (suc x)) (length p - suc x) y (omega arith) (omega arith) in
+      in-only _ _ m (to-leads (δ x (letter p (pred y))) y e)
 
   -- they rise
   pub extra-targets-rise : (x : State) → Rising (suc (suc x)) (extraTargets δ p x)
@@ -83,14 +66,9 @@ module _ (δ : Delta) (p : Word) where
       → (rest : List State) × (targetsBefore δ p k ≡ targetsBefore δ p x ++ (extraTargets δ p x ++ rest))
   unfolding targetsBefore
   before-grows x zero h = absurd (omega arith)
-  before-grows x (suc k) h = by (ℕ-discrete x k) (before-grows x k)
-    where
-      Grown : State → Type 0
-      Grown k = (rest : List State) × (targetsBefore δ p k ≡ targetsBefore δ p x ++ (extraTargets δ p x ++ rest))
-
-      by : Dec (x ≡ k) → (x < k → Grown k) → Grown (suc k)
-      by (yes e) rec = ([], rw (e, append-nil (extraTargets δ p k)))
-      by (no e) rec = let r = rec (omega arith) in (r .0 ++ extraTargets δ p k, rw (r .1) (simp append-assoc))
+  before-grows x (suc k) h = by-cases (ℕ-discrete x k)
+      (λ e. ([], rw (e, append-nil (extraTargets δ p k))))
+      (λ e. let r = before-grows x k (omega arith) in (r .0 ++ extraTargets δ p k, rw (r .1) (simp append-assoc)))
 
   -- so there is room for both
   pub before-room : (x k : State) → x < k → length (targetsBefore δ p x) + length (extraTargets δ p x) ≤ length (targetsBefore δ p k)
@@ -100,12 +78,7 @@ module _ (δ : Delta) (p : Word) where
   pub before-bound : (k : State) {y : State} → List·Memᴰ y (targetsBefore δ p k) → y ≤ length p
   unfolding targetsBefore
   before-bound zero m = absurd (elim m [ ])
-  before-bound (suc x) {y} m = by (List·Memᴰ·append-cases (targetsBefore δ p x) m) (before-bound x)
-    where
-      by : List·Memᴰ y (targetsBefore δ p x) ⊎ List·Memᴰ y (extraTargets δ p x) → (List·Memᴰ y (targetsBefore δ p x) → y ≤ length p)
-          → y ≤ length p
-      by (inl n) rec = rec n
-      by (inr n) rec = extra-target x n .1
+  before-bound (suc x) m = ⊎-elim (before-bound x) (λ n. extra-target x n .1) (List·Memᴰ·append-cases (targetsBefore δ p x) m)
 
   -- and so for what is looked up in the list, within its length or not
   pub before-at : (k : State) (s : ℕ) → getD (targetsBefore δ p k) s 0 ≤ length p
@@ -129,15 +102,10 @@ module _ (δ : Delta) (p : Word) where
       → (a .source < k) × List·Memᴰ (a .to) (extraTargets δ p (a .source))
   unfolding extrasBefore
   extra-before zero m = absurd (elim m [ ])
-  extra-before (suc k) {a} m = by (List·Memᴰ·append-cases (extrasBefore δ p k) m) (extra-before k)
-    where
-      Found : State → Type 0
-      Found k = (a .source < k) × List·Memᴰ (a .to) (extraTargets δ p (a .source))
-
-      by : List·Memᴰ a (extrasBefore δ p k) ⊎ List·Memᴰ a (map (extra k) (extraTargets δ p k))
-          → (List·Memᴰ a (extrasBefore δ p k) → Found k) → Found (suc k)
-      by (inl n) rec = let r = rec n in (omega (arith, r .0), r .1)
-      by (inr n) rec = let r = Memᴰ·of-map (extra k) (extraTargets δ p k) n in rw (← r .2) (omega arith, r .1)
+  extra-before (suc k) m = ⊎-elim
+      (λ n. let r = extra-before k n in (omega (arith, r .0), r .1))
+      (λ n. let r = Memᴰ·of-map (extra k) (extraTargets δ p k) n in rw (← r .2) (omega arith, r .1))
+      (List·Memᴰ·append-cases (extrasBefore δ p k) m)
 
   -- ── By slots ─────────────────────────────────────────────────────────────
 
@@ -153,70 +121,24 @@ module _ (δ : Delta) (p : Word) where
     pub slot-arrow : (k : State) → x < k → getD (extrasBefore δ p k) s (extra x 0) ≡ extra x (getD (targetsBefore δ p k) s 0)
     unfolding extrasBefore targetsBefore
     slot-arrow zero h = absurd (omega arith)
-    slot-arrow (suc k) h = by (ℕ-discrete x k) (slot-arrow k)
-      where
-        E : List Extra
-        E = extrasBefore δ p k
-
-        T : List State
-        T = targetsBefore δ p k
-
-        Says : List Extra → List State → Type 0
-        Says e t = getD e s (extra x 0) ≡ extra x (getD t s 0)
-
-        by : Dec (x ≡ k) → (x < k → Says E T) → Says (E ++ map (extra k) (extraTargets δ p k)) (T ++ extraTargets δ p k)
-        by (yes e) rec = rw e (behind-both E T (extraTargets δ p k) k s (extras-length k) (rw e at (own .0)))
-        by (no e) rec =
-            let i = slot-inside k (omega arith) in
-            List·getD-append E _ (extra x 0) s i ∙ rec (omega arith) ∙ ap (extra x) (sym (List·getD-append T _ 0 s (omega (arith, extras-length k))))
+    slot-arrow (suc k) h =
+        let E = extrasBefore δ p k in
+        let T = targetsBefore δ p k in
+        by-cases (ℕ-discrete x k)
+        (λ e. rw e (map-behind (extra k) 0 E T (extraTargets δ p k) s (extras-length k) (rw e at (own .0))))
+        (λ e.
+        let i = slot-inside k (omega arith) in
+        List·getD-append E _ (extra x 0) s i
+        ∙ slot-arrow k (omega arith)
+        ∙ ap (extra x) (sym (List·getD-append T _ 0 s (omega (arith, extras-length k)))))
 
     -- and its target is one of x
     pub slot-target : (k : State) → x < k → (x + 2 ≤ getD (targetsBefore δ p k) s 0) × (getD (targetsBefore δ p k) s 0 ≤ length p)
     slot-target k h =
         let y = getD (targetsBefore δ p k) s 0 in
-        let m : List·Memᴰ (extra x y) (extrasBefore δ p k) = rw (slot-arrow k h) at (entry-in (extrasBefore δ p k) s (extra x 0) (slot-inside k h)) in
-        let t = extra-target x (extra-before k m .1) in
+        let m = entry-in (extrasBefore δ p k) s (extra x 0) (slot-inside k h) in
+        let t = extra-target x {y = y} (extra-before k (rw (slot-arrow k h) at m) .1) in
         (t .0, t .1)
-
--- ── Without repetition, each in another list ───────────────────────────────
-
--- nothing stands twice
-data Distinct {A : Type 0} : List A → Type 0 where
-  empty : Distinct []
-  more : {a : A} {l : List A} → ((b : A) → List·Memᴰ b l → b ≢ a) → Distinct l → Distinct (a ∷ l)
-
-module _ {A : Type 0} where
-  distinct-append : {l r : List A} → Distinct l → Distinct r → ((a b : A) → List·Memᴰ a l → List·Memᴰ b r → b ≢ a) → Distinct (l ++ r)
-  distinct-append empty R f = R
-  distinct-append {r = r} (more {a = a} {l = l} n L) R f = more (λ b m. by b (List·Memᴰ·append-cases l m)) (distinct-append L R (λ c b m. f c b (List·Memᴰ·tail m)))
-    where
-      by : (b : A) → List·Memᴰ b l ⊎ List·Memᴰ b r → b ≢ a
-      by b (inl m) = n b m
-      by b (inr m) = f a b (List·Memᴰ·head refl) m
-
-  -- E without the place at which a stands
-  without : {a : A} (E : List A) → List·Memᴰ a E → List A
-  without (b ∷ E) (List·Memᴰ·head e) = E
-  without (b ∷ E) (List·Memᴰ·tail m) = b ∷ without E m
-
-  without-length : {a : A} (E : List A) (m : List·Memᴰ a E) → length E ≡ suc (length (without E m))
-  unfolding without
-  without-length (b ∷ E) (List·Memᴰ·head e) = refl
-  without-length (b ∷ E) (List·Memᴰ·tail m) = ap suc (without-length E m)
-
-  others-stay : {a b : A} (E : List A) (m : List·Memᴰ a E) → List·Memᴰ b E → b ≢ a → List·Memᴰ b (without E m)
-  unfolding without
-  others-stay (d ∷ E) (List·Memᴰ·head e) (List·Memᴰ·head q) f = absurd (f (q ∙ sym e))
-  others-stay (d ∷ E) (List·Memᴰ·head e) (List·Memᴰ·tail n) f = n
-  others-stay (d ∷ E) (List·Memᴰ·tail m) (List·Memᴰ·head q) f = List·Memᴰ·head q
-  others-stay (d ∷ E) (List·Memᴰ·tail m) (List·Memᴰ·tail n) f = List·Memᴰ·tail (others-stay E m n f)
-
-  -- where nothing stands twice and everything is in E, no more stands than in E
-  pigeonhole : {l : List A} → Distinct l → (E : List A) → ((b : A) → List·Memᴰ b l → List·Memᴰ b E) → length l ≤ length E
-  pigeonhole empty E f = omega arith
-  pigeonhole (more {a = a} n L) E f =
-      let m = f a (List·Memᴰ·head refl) in
-      omega (arith, without-length E m, pigeonhole L (without E m) (λ b i. others-stay E m (f b (List·Memᴰ·tail i)) (n b i)))
 
 -- ── As few as the extra arrows ─────────────────────────────────────────────
 
@@ -246,7 +168,7 @@ module _ (δ : Delta) (p : Word) where
   pub extras-fit : (E : List Arrow)
       → ((x y : State) → x + 2 ≤ y → y ≤ length p → δ x (letter p (pred y)) ≡ some y → List·Memᴰ (arrow x (letter p (pred y)) y) E)
       → (k : State) → length (targetsBefore δ p k) ≤ length E
-  extras-fit E f k = omega (arith, extras-length δ p k, length-map E ends, pigeonhole (extras-distinct k) (map ends E) inside)
+  extras-fit E f k = omega (arith, extras-length δ p k, length-map E ends, distinct-length (extras-distinct k) (map ends E) inside)
     where
       ends : Arrow → Extra
       ends a = extra (a .source) (a .to)
@@ -264,15 +186,14 @@ module _ (p : Word) where
   pub spine-member : {a : Arrow} → List·Memᴰ a (spine p)
       → (a .source < length p) × (a .on ≡ letter p (a .source)) × (a .to ≡ suc (a .source))
   unfolding spine
-  spine-member {a} m = let r = Memᴰ·of-map _ _ m in let b = from-in 0 (length p) (r .1) in rw (← r .2) (omega (arith, b .1), refl, refl)
+  spine-member {a} m =
+      let r = Memᴰ·of-map _ _ m in
+      let b = from-in 0 (length p) (r .1) in
+      rw (← r .2) (omega (arith, b .1), refl, refl)
 
   -- an arrow that climbs by 2 or more stands in front of the spine
   pub climbing-extra : (E : List Arrow) {a : Arrow} → List·Memᴰ a (E ++ spine p) → a .source + 2 ≤ a .to → List·Memᴰ a E
-  climbing-extra E {a} m h = by (List·Memᴰ·append-cases E m)
-    where
-      by : List·Memᴰ a E ⊎ List·Memᴰ a (spine p) → List·Memᴰ a E
-      by (inl n) = n
-      by (inr n) = absurd (omega (arith, spine-member n .2))
+  climbing-extra E m h = ⊎-elim (λ n. n) (λ n. absurd (omega (arith, spine-member n .2))) (List·Memᴰ·append-cases E m)
 
   -- a word of m letters has at most m - 1 extra targets
   pub oracle-extras-fit : (k : State) → length (targetsBefore (oracle p) p k) ≤ length p - 1

@@ -1,8 +1,9 @@
 -- ONE LETTER MORE. What 001's figure 4 does along the suffix path, as a relation, and that arrows and supplies changed so have the record
--- again. Nothing is said here of how arrows are stored, so that the rule's lists and a table's entries are both served.
+-- again: field by field, an arrow being an old one or one from a source of the climb. Nothing is said here of how arrows are stored, so
+-- that the rule's lists and a table's entries are both served.
 use mathlib.Core.Path.{_≡_, refl, sym, ap, _∙_}
-use mathlib.Core.Logic.{_⊎_, inl, inr, ⊎-elim}
-use mathlib.Core.Option.{Option, none, some}
+use mathlib.Core.Logic.{_⊎_, inl, inr, ⊎-elim, by-cases}
+use mathlib.Core.Option.{none, some}
 use mathlib.Core.List.{List, [], _∷_, List·Memᴰ, List·Memᴰ·head, List·Memᴰ·tail}
 use Prim.Native.Nat.{ℕ, suc, _≤_, _<_}
 use native.Mathlib.Nat.{le-refl}
@@ -10,7 +11,7 @@ use native.Mathlib.Decide.{decLt}
 use native.Mathlib.Omega.{arith}
 use Rattle.words.specs.Words.{Letter}
 use Rattle.oracle.specs.Arrows.{State, Delta}
-use Rattle.oracle.proofs.Targets.{never}
+use Rattle.oracle.proofs.Targets.{never, none-where}
 use Rattle.oracle.proofs.Chain.{On, here, next, Into, Supplied, supply-below, on-below, arrow-up}
 
 -- ── The climb ──────────────────────────────────────────────────────────────
@@ -74,97 +75,82 @@ on-agree S S′ d a h (next {x = x} r) = next {x = x} (rw (a x h) (on-agree S S�
 module _ {t : State} {w : ℕ → Letter} {δ : Delta} {S : State → State} (O : Supplied t w δ S) where
   -- no arrow leaves the last state
   pub last-free : (c : Letter) → δ t c ≡ none
-  last-free c = by (δ t c) refl
-    where
-      by : (o : Option State) → δ t c ≡ o → δ t c ≡ none
-      by none e = e
-      by (some z) e = let u = arrow-up O t c z e in absurd (omega (arith, u .0, u .1))
+  last-free c = none-where (δ t c) (λ z e. let u = arrow-up O t c z e in omega (arith, u .0, u .1))
 
   pub climb-below : {c : Letter} {k y : State} {xs : List State} → Climb δ S c k xs y → y ≤ t
-  climb-below {c} {y = y} C = by (lands C)
-    where
-      by : (y ≡ 0) ⊎ ((x : State) × (δ x c ≡ some y)) → y ≤ t
-      by (inl e) = omega arith
-      by (inr r) = arrow-up O (r .0) c y (r .1) .1
+  climb-below {c} {y = y} C = ⊎-elim (λ e. omega arith) (λ r. arrow-up O (r .0) c y (r .1) .1) (lands C)
 
 -- ── The record again ───────────────────────────────────────────────────────
 
 -- the arrows on w t from the sources to t + 1 are added, nothing else changes, and t + 1 gets the supply y
-module _ {t : State} {w : ℕ → Letter} {δ δ′ : Delta} {S S′ : State → State} (O : Supplied t w δ S) {xs : List State} {y : State} (C : Climb δ S (w t) t xs y)
+module _ {t : State} {w : ℕ → Letter} {δ δ′ : Delta} {S S′ : State → State}
+    (O : Supplied t w δ S) {xs : List State} {y : State} (C : Climb δ S (w t) t xs y)
     (old : (x : State) (c : Letter) → (δ′ x c ≡ δ x c) ⊎ ((c ≡ w t) × List·Memᴰ x xs))
     (new : (x : State) → List·Memᴰ x xs → δ′ x (w t) ≡ some (suc t))
     (kept : (x : State) → x ≤ t → S′ x ≡ S x) (given : S′ (suc t) ≡ y) where
   pub arrow-stays : (x : State) (c : Letter) (z : State) → δ x c ≡ some z → δ′ x c ≡ some z
-  arrow-stays x c z e = by (old x c)
-    where
-      by : (δ′ x c ≡ δ x c) ⊎ ((c ≡ w t) × List·Memᴰ x xs) → δ′ x c ≡ some z
-      by (inl d) = d ∙ e
-      by (inr r) = never (source-free C (r .1)) (rw (r .0) at e)
+  arrow-stays x c z e = ⊎-elim (λ d. d ∙ e) (λ r. never (source-free C (r .1)) (rw (r .0) at e)) (old x c)
 
   pub arrow-was : (x : State) (c : Letter) (z : State) → δ′ x c ≡ some z → (δ x c ≡ some z) ⊎ ((c ≡ w t) × (z ≡ suc t) × List·Memᴰ x xs)
-  arrow-was x c z e = by (old x c)
-    where
-      by : (δ′ x c ≡ δ x c) ⊎ ((c ≡ w t) × List·Memᴰ x xs) → (δ x c ≡ some z) ⊎ ((c ≡ w t) × (z ≡ suc t) × List·Memᴰ x xs)
-      by (inl d) = inl (sym d ∙ e)
-      by (inr r) = let n = new x (r .1) in inr (r .0, cc (r .0), r .1)
+  arrow-was x c z e = ⊎-elim (λ d. inl (sym d ∙ e)) (λ r. let n = new x (r .1) in inr (r .0, cc (r .0), r .1)) (old x c)
 
   last-source : List·Memᴰ t xs
-  last-source = by (starts C)
-    where
-      by : List·Memᴰ t xs ⊎ (δ t (w t) ≡ some y) → List·Memᴰ t xs
-      by (inl m) = m
-      by (inr e) = never (last-free O (w t)) e
+  last-source = ⊎-elim (λ m. m) (never (last-free O (w t))) (starts C)
 
   falls : (x : State) → x ≤ t → S x ≤ x
   falls x h = omega (arith, supply-below O x h)
 
   grown-spine : (i : State) → i < suc t → δ′ i (w i) ≡ some (suc i)
-  grown-spine i h = by (decLt i t)
-    where
-      by : Dec (i < t) → δ′ i (w i) ≡ some (suc i)
-      by (yes l) = arrow-stays i (w i) (suc i) (O .spine i l)
-      by (no l) = let e : i ≡ t = omega arith in rw e (new t last-source)
+  grown-spine i h = by-cases (decLt i t)
+      (λ l. arrow-stays i (w i) (suc i) (O .spine i l))
+      (λ l. let e : i ≡ t = omega arith in rw e (new t last-source))
 
   grown-into : (x : State) (c : Letter) (z : State) → δ′ x c ≡ some z → Into (suc t) w S′ x c z
-  grown-into x c z e = by (arrow-was x c z e)
-    where
-      by : (δ x c ≡ some z) ⊎ ((c ≡ w t) × (z ≡ suc t) × List·Memᴰ x xs) → Into (suc t) w S′ x c z
-      by (inl d) =
-          let v = O .into x c z d in
-          record { z = v .z; to = v .to; letter = v .letter; inside = omega (arith, v .inside); on = on-agree S S′ falls kept (omega (arith, v .inside)) (v .on) }
-      by (inr r) = record { z = t; to = r .1; letter = r .0; inside = le-refl _; on = on-agree S S′ falls kept (le-refl t) (source-on C (r .2)) }
+  grown-into x c z e = ⊎-elim
+      (λ d.
+      let v = O .into x c z d in
+      let on = on-agree S S′ falls kept (omega (arith, v .inside)) (v .on) in
+      record { z = v .z; to = v .to; letter = v .letter; inside = omega (arith, v .inside); on = on })
+      (λ r.
+      let on = on-agree S S′ falls kept (le-refl t) (source-on C (r .2)) in
+      record { z = t; to = r .1; letter = r .0; inside = le-refl _; on = on })
+      (arrow-was x c z e)
 
   grown-down : (x : State) → x < suc t → S′ (suc x) ≤ x
-  grown-down x h = by (decLt x t)
-    where
-      by : Dec (x < t) → S′ (suc x) ≤ x
-      by (yes l) = omega (arith, kept (suc x) l, O .down x l)
-      by (no l) = let e : x ≡ t = omega arith in rw e (omega (arith, given, climb-below O C))
+  grown-down x h = by-cases (decLt x t)
+      (λ l. omega (arith, kept (suc x) l, O .down x l))
+      (λ l. let e : x ≡ t = omega arith in rw e (omega (arith, given, climb-below O C)))
 
   grown-answers : (x : State) (c : Letter) (z : State) → δ′ x c ≡ some z → (δ′ (S′ x) c ≡ some z) ⊎ (δ′ (S′ x) c ≡ some (S′ z))
-  grown-answers x c z e = by (arrow-was x c z e)
-    where
-      Goal : Type 0
-      Goal = (δ′ (S′ x) c ≡ some z) ⊎ (δ′ (S′ x) c ≡ some (S′ z))
-
-      old-one : S′ x ≡ S x → S′ z ≡ S z → (δ (S x) c ≡ some z) ⊎ (δ (S x) c ≡ some (S z)) → Goal
-      old-one a b (inl d) = inl (rw a (arrow-stays (S x) c z d))
-      old-one a b (inr d) = inr (rw (a, b) (arrow-stays (S x) c (S z) d))
-
-      new-one : S′ x ≡ S x → c ≡ w t → z ≡ suc t → List·Memᴰ (S x) xs ⊎ (δ (S x) (w t) ≡ some y) → Goal
-      new-one a b q (inl m) = inl (rw (a, b, q) (new (S x) m))
-      new-one a b q (inr d) = inr (rw (a, b, q, given) (arrow-stays (S x) (w t) y d))
-
-      by : (δ x c ≡ some z) ⊎ ((c ≡ w t) × (z ≡ suc t) × List·Memᴰ x xs) → Goal
-      by (inl d) = let u = arrow-up O x c z d in old-one (kept x (omega (arith, u .0, u .1))) (kept z (u .1)) (O .answers x c z d)
-      by (inr r) = new-one (kept x (on-below O (le-refl t) (source-on C (r .2)))) (r .0) (r .1) (goes-on (O .base) C (r .2))
+  grown-answers x c z e = ⊎-elim
+      (λ d.
+      let u = arrow-up O x c z d in
+      let a = kept x (omega (arith, u .0, u .1)) in
+      let b = kept z (u .1) in
+      ⊎-elim
+      (λ q. inl (rw a (arrow-stays (S x) c z q)))
+      (λ q. inr (rw (a, b) (arrow-stays (S x) c (S z) q)))
+      (O .answers x c z d))
+      (λ r.
+      let a = kept x (on-below O (le-refl t) (source-on C (r .2))) in
+      ⊎-elim
+      (λ m. inl (rw (a, r .0, r .1) (new (S x) m)))
+      (λ q. inr (rw (a, r .0, r .1, given) (arrow-stays (S x) (w t) y q)))
+      (goes-on (O .base) C (r .2)))
+      (arrow-was x c z e)
 
   grown-bottom : (c : Letter) (z : State) → δ′ 0 c ≡ some z → S′ z ≡ 0
-  grown-bottom c z e = by (arrow-was 0 c z e)
-    where
-      by : (δ 0 c ≡ some z) ⊎ ((c ≡ w t) × (z ≡ suc t) × List·Memᴰ 0 xs) → S′ z ≡ 0
-      by (inl d) = kept z (arrow-up O 0 c z d .1) ∙ O .bottom c z d
-      by (inr r) = rw (r .1) (given ∙ runs-out C (r .2))
+  grown-bottom c z e = ⊎-elim
+      (λ d. kept z (arrow-up O 0 c z d .1) ∙ O .bottom c z d)
+      (λ r. rw (r .1) (given ∙ runs-out C (r .2)))
+      (arrow-was 0 c z e)
 
   pub grown : Supplied (suc t) w δ′ S′
-  grown = record { spine = grown-spine; into = grown-into; base = kept 0 (omega arith) ∙ O .base; down = grown-down; answers = grown-answers; bottom = grown-bottom }
+  grown = record {
+    spine = grown-spine;
+    into = grown-into;
+    base = kept 0 (omega arith) ∙ O .base;
+    down = grown-down;
+    answers = grown-answers;
+    bottom = grown-bottom;
+  }

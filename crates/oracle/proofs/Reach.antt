@@ -1,7 +1,8 @@
 -- WHERE FACTORS LEAD. `reach i n` is the state that the n letters behind the first i are walked to. Every factor is walked, to a state on
--- the chain of its last letter's state; and those states, over all factors that end there, are that chain, none left out.
+-- the chain of its last letter's state; and those states, over all factors that end there, are that chain, none left out. By induction on
+-- the letters: `chain-arrow` has an arrow for each, and a factor without its first letter leads to the same state or to its supply.
 use mathlib.Core.Path.{_≡_, refl, sym, ap, _∙_}
-use mathlib.Core.Logic.{inl, inr}
+use mathlib.Core.Logic.{inr, ⊎-elim, by-cases}
 use mathlib.Core.Option.{Option, none, some, Option·getD}
 use Prim.Native.Nat.{ℕ, zero, suc, _+_, _-_, _≤_, _<_}
 use native.Mathlib.Nat.{zero-add, add-zero, add-suc}
@@ -10,7 +11,7 @@ use native.Mathlib.Omega.{arith}
 use Rattle.words.specs.Words.{Letter}
 use Rattle.oracle.specs.Arrows.{State, Delta}
 use Rattle.oracle.proofs.Targets.{never}
-use Rattle.oracle.proofs.Chain.{On, here, next, Into, Supplied, on-below, on-zero, zero-on, Near, on-near, near-arrow, chain-arrow}
+use Rattle.oracle.proofs.Chain.{On, here, next, Supplied, on-below, on-zero, zero-on, Near, on-near, near-arrow, chain-arrow}
 
 -- 0 where an arrow is missing, which no factor's walk meets
 pub reach : (ℕ → Letter) → Delta → ℕ → ℕ → State
@@ -60,14 +61,17 @@ module _ {m : ℕ} {w : ℕ → Letter} {δ : Delta} {S : State → State} (O : 
 
   pub reach-spine : (n : ℕ) → n ≤ m → to 0 n ≡ n
   unfolding reach
-  reach-spine n h = let e : 0 + (0 + n) ≡ n = omega arith in rw (zero-add n, zero-add n) at (stays-on-spine 0 0 n (omega arith) (omega arith))
+  reach-spine n h = rw (zero-add n, zero-add n) at (stays-on-spine 0 0 n (omega arith) (omega arith))
 
   -- ── A factor without its first letters ───────────────────────────────────
 
   pub reach-near : (i n : ℕ) → i + suc n ≤ m → Near O (to (suc i) n) (to i (suc n))
   unfolding reach
   reach-near i zero h = inr (sym (O .bottom (w (i + 0)) (to i 1) (reach-arrow i 0 (omega arith))))
-  reach-near i (suc n) h = by (near-arrow O (to i (suc n)) (to (suc i) n) (w (i + suc n)) (to i (suc (suc n))) (reach-near i n (omega arith)) (reach-arrow i (suc n) (omega arith)))
+  reach-near i (suc n) h =
+      let near = reach-near i n (omega arith) in
+      let step = reach-arrow i (suc n) (omega arith) in
+      by (near-arrow O (to i (suc n)) (to (suc i) n) (w (i + suc n)) (to i (suc (suc n))) near step)
     where
       by : (y : State) × (δ (to (suc i) n) (w (i + suc n)) ≡ some y) × Near O y (to i (suc (suc n)))
           → Near O (to (suc i) (suc n)) (to i (suc (suc n)))
@@ -89,17 +93,11 @@ module _ {m : ℕ} {w : ℕ → Letter} {δ : Delta} {S : State → State} (O : 
   unfolding reach
   chain-from zero i h {y} r = (0, 0, omega arith, sym (on-zero O refl r))
   chain-from (suc n) i h {y} (here e) = (0, suc n, omega arith, rw (add-zero i) (sym e))
-  chain-from (suc n) i h {y} (next r) = on (by (reach-near i n h) (λ r′. chain-from n (suc i) (omega arith) r′))
-    where
-      Goal : ℕ → ℕ → Type 0
-      Goal i n = (d : ℕ) × (k : ℕ) × (d + k ≡ n) × (to (i + d) k ≡ y)
-
-      on : Goal (suc i) n → Goal i (suc n)
-      on t = let e : i + suc (t .0) ≡ suc i + t .0 = omega arith in (suc (t .0), t .1, omega (arith, t .2), rw e (t .3))
-
-      by : Near O (to (suc i) n) (to i (suc n)) → (On S y (to (suc i) n) → Goal (suc i) n) → Goal (suc i) n
-      by (inl e) rec = rec (rw e (next r))
-      by (inr e) rec = rec (rw e r)
+  chain-from (suc n) i h {y} (next r) =
+      let below : On S y (to (suc i) n) = ⊎-elim (λ e. rw e (next r)) (λ e. rw e r) (reach-near i n h) in
+      let t = chain-from n (suc i) (omega arith) below in
+      let e : i + suc (t .0) ≡ suc i + t .0 = omega arith in
+      (suc (t .0), t .1, omega (arith, t .2), rw e (t .3))
 
   pub chain-reached : (k : State) → k ≤ m → {y : State} → On S y k → (i : ℕ) × (n : ℕ) × (i + n ≡ k) × (to i n ≡ y)
   chain-reached k h {y} r =
@@ -111,15 +109,17 @@ module _ {m : ℕ} {w : ℕ → Letter} {δ : Delta} {S : State → State} (O : 
   -- B has the arrows that the suffixes before i use. Where suffix i lacks its arrow in B, that arrow leads onto the spine
   pub lacking-leads-to-spine : (B : Delta) (i : ℕ) → ((j n : ℕ) → j < i → j + n < m → B (to j n) (w (j + n)) ≡ some (to j (suc n)))
       → (n : ℕ) → i + n < m → B (to i n) (w (i + n)) ≡ none → to i (suc n) ≡ i + suc n
-  lacking-leads-to-spine B i has n h lacks = by (O .into (to i n) (w (i + n)) (to i (suc n)) (reach-arrow i n h))
+  lacking-leads-to-spine B i has n h lacks =
+      let v = O .into (to i n) (w (i + n)) (to i (suc n)) (reach-arrow i n h) in
+      let t = chain-reached (v .z) (omega (arith, v .inside)) (v .on) in
+      used (v .z) (v .to) (v .letter) (v .inside) (t .0) (t .1) (t .2) (t .3)
     where
-      Goal : Type 0
-      Goal = to i (suc n) ≡ i + suc n
-
       -- the same arrow is used by suffix j behind l letters
-      used : (z : State) → to i (suc n) ≡ suc z → w (i + n) ≡ w z → z < m → (j l : ℕ) → j + l ≡ z → to j l ≡ to i n → Dec (j < i) → Goal
-      used z to-z same inside j l e at (yes b) = never lacks (rw (at, e, ← same) at (has j l b (omega arith)))
-      used z to-z same inside j l e at (no b) =
+      used : (z : State) → to i (suc n) ≡ suc z → w (i + n) ≡ w z → z < m → (j l : ℕ) → j + l ≡ z → to j l ≡ to i n
+          → to i (suc n) ≡ i + suc n
+      used z to-z same inside j l e at = by-cases (decLt j i)
+          (λ b. never lacks (rw (at, e, ← same) at (has j l b (omega arith))))
+          (λ b.
           let arrow : to j (suc l) ≡ to i (suc n) = reach-next w δ j l (rw (at, e, ← same) (reach-arrow i n h)) in
           let d = j - i in
           let ij : i + d ≡ j = omega arith in
@@ -129,7 +129,4 @@ module _ {m : ℕ} {w : ℕ → Letter} {δ : Delta} {S : State → State} (O : 
           let rest = suc n - (d + suc l) in
           let short = reach-below i (suc n) (omega arith) in
           let all : d + suc l + rest ≡ suc n = omega arith in
-          rw all at (stays-on-spine i (d + suc l) rest top (omega arith))
-
-      by : Into m w S (to i n) (w (i + n)) (to i (suc n)) → Goal
-      by v = let t = chain-reached (v .z) (omega (arith, v .inside)) (v .on) in used (v .z) (v .to) (v .letter) (v .inside) (t .0) (t .1) (t .2) (t .3) (decLt (t .0) i)
+          rw all at (stays-on-spine i (d + suc l) rest top (omega arith)))

@@ -1,61 +1,23 @@
 -- THE SHORTEST WORD OF A STATE. For each state there is one factor that is walked to it and that every word walked to it ends in; it ends,
--- in the word, at that state's place for the first time. The meaning of supplies rests on it.
-use mathlib.Core.Path.{_≡_, refl, sym, ap, _∙_}
+-- in the word, at that state's place for the first time. The meaning of supplies rests on it. By induction on the state z + 1: the factor
+-- is the letters up to z + 1 from the latest start that leads there; a word's last arrow leaves a state on z's chain, whose own shortest
+-- word stands before it.
+use mathlib.Core.Path.{_≡_, sym, ap, _∙_}
 use mathlib.Core.Option.{Option, some}
 use mathlib.Core.List.{[], _∷_, _++_, append-nil, append-assoc}
 use Prim.Native.Nat.{ℕ, zero, suc, _+_, _-_, _≤_, _<_}
 use native.Mathlib.Nat.{le-refl, sub-zero}
 use native.Mathlib.Decide.{ℕ-discrete}
 use native.Mathlib.Omega.{arith}
-use lib.ListN.{length, drop, length-append}
-use lib.Seq.{drop-at}
+use lib.ListN.{length}
 use Rattle.words.specs.Words.{Letter, Word, letter, part}
-use Rattle.words.proofs.Words.{part-length, part-snoc, part-split}
+use Rattle.words.proofs.Lists.{last-of}
+use Rattle.words.proofs.Greatest.{Greatest, greatest-passing}
+use Rattle.words.proofs.Words.{part-length, part-snoc, part-split, part-ends-in}
 use Rattle.oracle.specs.Arrows.{State, Delta, walk}
-use Rattle.oracle.proofs.Chain.{On, Into, Supplied, on-below}
+use Rattle.oracle.proofs.Chain.{Supplied, on-below}
 use Rattle.oracle.proofs.Reach.{reach, reach-0, reach-next, reach-spine, reach-below, chain-reached}
 use Rattle.oracle.proofs.Walks.{walk-append, walk-first, factor-walk}
-
--- ── The last number that passes, the last letter of a word, the end of a part ─────────────────────────────────────────
-
-pub record Greatest (P : ℕ → Type 0) (n : ℕ) : Type 0 where
-  pub at : ℕ
-  pub within : at ≤ n
-  pub passes : P at
-  pub last : (e : ℕ) → e ≤ n → P e → e ≤ at
-
-pub greatest : (P : ℕ → Type 0) → ((e : ℕ) → Dec (P e)) → P 0 → (n : ℕ) → Greatest P n
-greatest P dec p0 zero = record { at = 0; within = le-refl 0; passes = p0; last = λ e h q. h }
-greatest P dec p0 (suc n) = by (dec (suc n)) (greatest P dec p0 n)
-  where
-    by : Dec (P (suc n)) → Greatest P n → Greatest P (suc n)
-    by (yes q) g = record { at = suc n; within = le-refl _; passes = q; last = λ e h r. h }
-    by (no q) g = record { at = g .at; within = omega (arith, g .within); passes = g .passes; last = λ e h r. up e h r (ℕ-discrete e (suc n)) }
-      where
-        up : (e : ℕ) → e ≤ suc n → P e → Dec (e ≡ suc n) → e ≤ g .at
-        up e h r (yes s) = absurd (q (rw s at r))
-        up e h r (no s) = g .last e (omega arith) r
-
-last-letter : (c : Letter) (v : Word) → (u : Word) × (d : Letter) × (c ∷ v ≡ u ++ (d ∷ []))
-last-letter c [] = ([], c, refl)
-last-letter c (a ∷ v) = let r = last-letter a v in (c ∷ r .0, r .1, ap {B = Word} (λ l. c ∷ l) (r .2))
-
--- where a part is u and then v, v stands in the word behind u
-pub end-of-part : (p : Word) (a n : ℕ) (u v : Word) → a + n ≤ length p → part p a n ≡ u ++ v
-    → (length u + length v ≡ n) × (part p (a + length u) (length v) ≡ v)
-end-of-part p a n u v h e = (size, sym (drop-at front back (length u) (part-length p a (length u) (omega (arith, size)))) ∙ ap (drop (length u)) split ∙ drop-at u v (length u) refl)
-  where
-    size : length u + length v ≡ n
-    size = sym (length-append u v) ∙ ap length (sym e) ∙ part-length p a n h
-
-    front : Word
-    front = part p a (length u)
-
-    back : Word
-    back = part p (a + length u) (length v)
-
-    split : front ++ back ≡ u ++ v
-    split = sym (part-split p a (length u) (length v)) ∙ ap (part p a) size ∙ e
 
 module _ (p : Word) {δ : Delta} {S : State → State} (O : Supplied (length p) (letter p) δ S) where
   abbrev w : ℕ → Letter
@@ -73,30 +35,35 @@ module _ (p : Word) {δ : Delta} {S : State → State} (O : Supplied (length p) 
 
   -- equal parts lead to one state
   pub reach-same : (a b n : ℕ) → a + n ≤ length p → b + n ≤ length p → part p a n ≡ part p b n → to a n ≡ to b n
-  reach-same a b n h l e = let f : some (to a n) ≡ some (to b n) = sym (factor-walk p O a n h) ∙ ap (walk δ 0) e ∙ factor-walk p O b n l in cc
+  reach-same a b n h l e =
+      let f : some (to a n) ≡ some (to b n) = sym (factor-walk p O a n h) ∙ ap (walk δ 0) e ∙ factor-walk p O b n l in
+      cc
 
   -- a factor that is walked to x holds x's shortest word at its end
-  pub record Held (x : State) (U : Shortest x) (i n : ℕ) : Type 0 where
+  pub record ShortestAtEnd (x : State) (U : Shortest x) (i n : ℕ) : Type 0 where
     pub skipped : ℕ
     pub size : skipped + U .len ≡ n
     pub same : part p (i + skipped) (U .len) ≡ part p (U .start) (U .len)
 
-  pub held : (x : State) (U : Shortest x) (i n : ℕ) → x ≤ length p → i + n ≤ length p → to i n ≡ x → Held x U i n
-  held x U i n b h e = by (U .ends (part p i n) (factor-walk p O i n h ∙ ap {B = Option State} some e))
-    where
-      len : length (part p (U .start) (U .len)) ≡ U .len
-      len = part-length p (U .start) (U .len) (omega (arith, U .place))
-
-      by : (u : Word) × (part p i n ≡ u ++ part p (U .start) (U .len)) → Held x U i n
-      by r = let t = end-of-part p i n (r .0) (part p (U .start) (U .len)) h (r .1) in record { skipped = length (r .0); size = rw len at (t .0); same = rw len at (t .1) }
+  pub shortest-at-end : (x : State) (U : Shortest x) (i n : ℕ) → x ≤ length p → i + n ≤ length p → to i n ≡ x → ShortestAtEnd x U i n
+  shortest-at-end x U i n b h e =
+      let len = part-length p (U .start) (U .len) (omega (arith, U .place)) in
+      let r = U .ends (part p i n) (factor-walk p O i n h ∙ ap {B = Option State} some e) in
+      let t = part-ends-in p i n (r .0) (part p (U .start) (U .len)) h (r .1) in
+      record { skipped = length (r .0); size = rw len at (t .0); same = rw len at (t .1) }
 
   shortest-0 : Shortest 0
   shortest-0 = record { start = 0; len = 0; place = omega arith; walked = reach-0 w δ 0; ends = λ v e. (v, sym (append-nil v)) }
 
   module _ (z : State) (h : z < length p) (below : (y : State) → y ≤ z → Shortest y) where
     -- the latest start from which the letters up to z + 1 are walked to z + 1
-    latest : Greatest (λ e. to e (suc z - e) ≡ suc z) (suc z)
-    latest = greatest (λ e. to e (suc z - e) ≡ suc z) (λ e. ℕ-discrete (to e (suc z - e)) (suc z)) (rw (sub-zero (suc z)) (reach-spine O (suc z) h)) (suc z)
+    abbrev LeadsThere : ℕ → Type 0
+    LeadsThere e = to e (suc z - e) ≡ suc z
+
+    latest : Greatest LeadsThere (suc z)
+    latest =
+        let all : LeadsThere 0 = rw (sub-zero (suc z)) (reach-spine O (suc z) h) in
+        greatest-passing LeadsThere (λ e. ℕ-discrete (to e (suc z - e)) (suc z)) all (suc z)
 
     abbrev E : ℕ
     E = latest .at
@@ -105,8 +72,9 @@ module _ (p : Word) {δ : Delta} {S : State → State} (O : Supplied (length p) 
     N = suc z - E
 
     -- y is where v is walked to before its last letter: y's shortest word stands at a, up to z, and a is no later than E
-    last-step : (v : Word) (y : State) (Y : Shortest y) (a : ℕ) → y ≤ z → walk δ 0 v ≡ some y → δ y (w z) ≡ some (suc z) → a + Y .len ≡ z
-        → part p a (Y .len) ≡ part p (Y .start) (Y .len) → (u : Word) × (v ++ (w z ∷ []) ≡ u ++ part p E N)
+    last-step : (v : Word) (y : State) (Y : Shortest y) (a : ℕ) → y ≤ z → walk δ 0 v ≡ some y → δ y (w z) ≡ some (suc z)
+        → a + Y .len ≡ z → part p a (Y .len) ≡ part p (Y .start) (Y .len)
+        → (u : Word) × (v ++ (w z ∷ []) ≡ u ++ part p E N)
     last-step v y Y a l e d place same = let r = Y .ends v e in (r .0 ++ part p a (E - a), whole (r .0) (r .1))
       where
         n : ℕ
@@ -121,34 +89,37 @@ module _ (p : Word) {δ : Delta} {S : State → State} (O : Supplied (length p) 
         le : a ≤ E
         le = let q : suc z - a ≡ suc n = omega arith in latest .last a (omega arith) (rw q up)
 
-        whole : (u : Word) → v ≡ u ++ part p (Y .start) n → v ++ (w z ∷ []) ≡ u ++ part p a (E - a) ++ part p E N
-        whole u q =
+        joined : part p a n ++ (w z ∷ []) ≡ part p a (suc n)
+        joined = sym (part-snoc p a n (omega arith) ∙ ap (λ j. part p a n ++ (w j ∷ [])) place)
+
+        parted : part p a (suc n) ≡ part p a (E - a) ++ part p E N
+        parted =
             let s : (E - a) + N ≡ suc n = omega (arith, latest .within, le) in
             let f : a + (E - a) ≡ E = omega (arith, le) in
-            let g : part p a (suc n) ≡ part p a (E - a) ++ part p E N = ap (part p a) (sym s) ∙ part-split p a (E - a) N ∙ ap (λ k. part p a (E - a) ++ part p k N) f in
-            let k : part p a n ++ (w z ∷ []) ≡ part p a (suc n) = sym (part-snoc p a n (omega arith) ∙ ap (λ j. part p a n ++ (w j ∷ [])) place) in
-            rw (q, ← same, append-assoc u (part p a n) (w z ∷ []), k, g, append-assoc u (part p a (E - a)) (part p E N))
+            ap (part p a) (sym s) ∙ part-split p a (E - a) N ∙ ap (λ k. part p a (E - a) ++ part p k N) f
+
+        whole : (u : Word) → v ≡ u ++ part p (Y .start) n → v ++ (w z ∷ []) ≡ u ++ part p a (E - a) ++ part p E N
+        whole u q =
+            rw (q, ← same, append-assoc u (part p a n) (w z ∷ []), joined, parted, append-assoc u (part p a (E - a)) (part p E N))
 
     -- the source y of the last arrow is on z's chain, so some factor up to z is walked to y, and holds y's shortest word at its end
     last-arrow : (v : Word) (y : State) (d : Letter) → walk δ 0 v ≡ some y → δ y d ≡ some (suc z)
         → (u : Word) × (v ++ (d ∷ []) ≡ u ++ part p E N)
-    last-arrow v y d e a = by (O .into y d (suc z) a)
-      where
-        from-chain : On S y z → d ≡ w z → (u : Word) × (v ++ (d ∷ []) ≡ u ++ part p E N)
-        from-chain on q =
-            let r = chain-reached O z (omega arith) on in
-            let le = on-below O (omega arith) on in
-            let H = held y (below y le) (r .0) (r .1) (omega arith) (omega (arith, r .2)) (r .3) in
-            rw q (last-step v y (below y le) (r .0 + H .skipped) le e (rw q at a) (omega (arith, H .size, r .2)) (H .same))
-
-        by : Into (length p) w S y d (suc z) → (u : Word) × (v ++ (d ∷ []) ≡ u ++ part p E N)
-        by I = let q : I .z ≡ z = omega (arith, I .to) in from-chain (rw q at (I .on)) (rw q at (I .letter))
+    last-arrow v y d e a =
+        let I = O .into y d (suc z) a in
+        let f : I .z ≡ z = omega (arith, I .to) in
+        let on = rw f at (I .on) in
+        let q : d ≡ w z = rw f at (I .letter) in
+        let r = chain-reached O z (omega arith) on in
+        let le = on-below O (omega arith) on in
+        let H = shortest-at-end y (below y le) (r .0) (r .1) (omega arith) (omega (arith, r .2)) (r .3) in
+        rw q (last-step v y (below y le) (r .0 + H .skipped) le e (rw q at a) (omega (arith, H .size, r .2)) (H .same))
 
     ends-in : (v : Word) → walk δ 0 v ≡ some (suc z) → (u : Word) × (v ≡ u ++ part p E N)
     unfolding walk
     ends-in [] e = let q : 0 ≡ suc z = cc in absurd (omega arith)
     ends-in (c ∷ v) e =
-        let s = last-letter c v in
+        let s = last-of c v in
         let r = walk-append δ (s .0) (s .1 ∷ []) 0 (suc z) (rw (s .2) at e) in
         let f = walk-first δ (s .1) [] (r .0) (suc z) (r .2) in
         rw (s .2) (last-arrow (s .0) (r .0) (s .1) (r .1) (f .1 ∙ f .2))
@@ -159,11 +130,8 @@ module _ (p : Word) {δ : Delta} {S : State → State} (O : Supplied (length p) 
   -- the first number only bounds the state
   shortest-within : (n x : State) → x ≤ n → x ≤ length p → Shortest x
   shortest-within zero x h b = let e : x ≡ 0 = omega arith in rw e shortest-0
-  shortest-within (suc n) x h b = by x h b (λ y l g. shortest-within n y l g)
-    where
-      by : (x : State) → x ≤ suc n → x ≤ length p → ((y : State) → y ≤ n → y ≤ length p → Shortest y) → Shortest x
-      by zero h b rec = shortest-0
-      by (suc z) h b rec = shortest-suc z b (λ y l. rec y (omega arith) (omega arith))
+  shortest-within (suc n) zero h b = shortest-0
+  shortest-within (suc n) (suc z) h b = shortest-suc z b (λ y l. shortest-within n y (omega arith) (omega arith))
 
   pub shortest : (x : State) → x ≤ length p → Shortest x
   shortest x b = shortest-within x x (le-refl x) b
@@ -171,4 +139,6 @@ module _ (p : Word) {δ : Delta} {S : State → State} (O : Supplied (length p) 
   -- wherever it stands, it ends at x or later
   pub shortest-first : (x : State) (U : Shortest x) (f : ℕ) → x ≤ length p → f + U .len ≤ length p
       → part p f (U .len) ≡ part p (U .start) (U .len) → x ≤ f + U .len
-  shortest-first x U f b h e = omega (arith, reach-same f (U .start) (U .len) h (omega (arith, U .place)) e ∙ U .walked, reach-below O f (U .len) h)
+  shortest-first x U f b h e =
+      let same = reach-same f (U .start) (U .len) h (omega (arith, U .place)) e in
+      omega (arith, same ∙ U .walked, reach-below O f (U .len) h)

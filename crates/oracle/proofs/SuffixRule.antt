@@ -2,15 +2,16 @@
 --
 --   Write A(i) for the rule's arrows after suffix i (A(0): the spine). Claim: A(i) has only arrows of δ, and has all that δ's walks of
 --   the suffixes 0 to i use. The spine has them for suffix 0. Now take suffix i + 1.
---   In A(i) its walk goes as in δ for as long as A(i) has the arrows, since all of A(i) is δ's. If they last to the word's end, nothing is added, and
---   nothing was missing. Else some first arrow of δ's walk is lacking, behind k letters, in the state j where the rule's own walk halts.
---   `lacking-leads-to-spine`: in δ that arrow leads to k + 1. (By the record its source is on the chain of the state before its target. All of a chain is reached
---   by factors, so some suffix uses the arrow there. If an earlier one did, A(i) had it. If a later one, suffix i + 1 itself had come to the spine by then.)
+--   In A(i) its walk goes as in δ for as long as A(i) has the arrows, since all of A(i) is δ's. If they last to the word's end, nothing is
+--   added, and nothing was missing. Else some first arrow of δ's walk is lacking, behind k letters, in the state j where the rule's own
+--   walk halts. `lacking-leads-to-spine`: in δ that arrow leads to k + 1. (By the record its source is on the chain of the state before its
+--   target. All of a chain is reached by factors, so some suffix uses the arrow there. If an earlier one did, A(i) had it. If a later one,
+--   suffix i + 1 itself had come to the spine by then.)
 --   So the arrow that the rule adds is δ's own, and behind it the suffix runs on the spine, which A(i) has. The claim holds for i + 1.
 --   At the end: every arrow of δ has its source on a chain, so some suffix uses it, so it was added.
 use mathlib.Core.Path.{_≡_, refl, sym, ap, _∙_}
-use mathlib.Core.Logic.{_⊎_, inl, inr}
-use mathlib.Core.Option.{Option, none, some}
+use mathlib.Core.Logic.{⊎-elim, by-cases}
+use mathlib.Core.Option.{none, some}
 use mathlib.Core.List.{List, [], _∷_, _++_, map, append-assoc}
 use Prim.Native.Nat.{ℕ, zero, suc, _+_, _-_, _≤_, _<_}
 use native.Mathlib.Nat.{zero-add, add-zero, add-suc}
@@ -23,9 +24,10 @@ use Rattle.words.specs.Lists.{from}
 use Rattle.words.specs.Words.{Letter, Word, letter}
 use Rattle.oracle.specs.Arrows.{State, Arrow, arrow, Delta, target, spine, OneEach}
 use Rattle.oracle.specs.SuffixRule.{Halt, far, mend, missing, extrasAfter, extraArrows, suffixRule, oracle}
-use Rattle.oracle.proofs.Targets.{never, target-hit, target-pass}
+use Rattle.oracle.proofs.Targets.{never, none-where, option-cases, target-hit, target-skip, target-pass}
 use Rattle.oracle.proofs.Chain.{Supplied}
-use Rattle.oracle.proofs.Reach.{reach, reach-0, reach-next, reach-arrow, reach-spine, stays-on-spine, chain-reached, lacking-leads-to-spine}
+use Rattle.oracle.proofs.Reach.{reach, reach-0, reach-next, reach-arrow, reach-spine, stays-on-spine, chain-reached}
+use Rattle.oracle.proofs.Reach.{lacking-leads-to-spine}
 
 -- ── The spine ──────────────────────────────────────────────────────────────
 
@@ -37,41 +39,28 @@ module _ (p : Word) where
   spine-arrow : (n i x : ℕ) → i ≤ x → x < i + n → target (spineFrom i n) x (letter p x) ≡ some (suc x)
   unfolding from
   spine-arrow zero i x h l = absurd (omega arith)
-  spine-arrow (suc n) i x h l = by (ℕ-discrete x i) (target-pass (spineFrom (suc i) n) (arrow i (letter p i) (suc i)) x (letter p x)) (spine-arrow n (suc i) x)
-    where
-      by : Dec (x ≡ i)
-          → (target (spineFrom i (suc n)) x (letter p x) ≡ target (spineFrom (suc i) n) x (letter p x)) ⊎ ((x ≡ i) × (letter p x ≡ letter p i))
-          → (suc i ≤ x → x < suc i + n → target (spineFrom (suc i) n) x (letter p x) ≡ some (suc x))
-          → target (spineFrom i (suc n)) x (letter p x) ≡ some (suc x)
-      by (yes e) d rec = rw e (target-hit (spineFrom (suc i) n) i (letter p i) (suc i))
-      by (no e) (inl d) rec = d ∙ rec (omega arith) (omega arith)
-      by (no e) (inr d) rec = absurd (e (d .0))
+  spine-arrow (suc n) i x h l =
+      let A = spineFrom (suc i) n in
+      by-cases (ℕ-discrete x i)
+      (λ e. rw e (target-hit A i (letter p i) (suc i)))
+      (λ e. target-skip A _ x (letter p x) (λ q. e (sym q)) ∙ spine-arrow n (suc i) x (omega arith) (omega arith))
 
   spine-only : (n i : ℕ) (x : State) (c : Letter) (y : State) → target (spineFrom i n) x c ≡ some y
       → (i ≤ x) × (x < i + n) × (c ≡ letter p x) × (y ≡ suc x)
   unfolding from target
   spine-only zero i x c y e = never refl e
-  spine-only (suc n) i x c y e = by (target-pass (spineFrom (suc i) n) (arrow i (letter p i) (suc i)) x c) (spine-only n (suc i) x c y)
-    where
-      Goal : ℕ → ℕ → Type 0
-      Goal i n = (i ≤ x) × (x < i + n) × (c ≡ letter p x) × (y ≡ suc x)
-
-      by : (target (spineFrom i (suc n)) x c ≡ target (spineFrom (suc i) n) x c) ⊎ ((x ≡ i) × (c ≡ letter p i))
-          → (target (spineFrom (suc i) n) x c ≡ some y → Goal (suc i) n) → Goal i (suc n)
-      by (inl d) rec = let r = rec (sym d ∙ e) in (omega (arith, r .0), omega (arith, r .1), r .2, r .3)
-      by (inr d) rec =
-          let f : some y ≡ some (suc i) = sym e ∙ rw (d .0, d .1) (target-hit (spineFrom (suc i) n) i (letter p i) (suc i)) in
-          let q : y ≡ suc i = cc in
-          (omega (arith, d .0), omega (arith, d .0), rw (d .0) (d .1), rw (d .0) q)
+  spine-only (suc n) i x c y e = ⊎-elim
+      (λ d. let r = spine-only n (suc i) x c y (sym d ∙ e) in (omega (arith, r .0), omega (arith, r .1), r .2, r .3))
+      (λ d.
+      let f : some y ≡ some (suc i) = sym e ∙ rw (d .0, d .1) (target-hit (spineFrom (suc i) n) i (letter p i) (suc i)) in
+      let q : y ≡ suc i = cc in
+      (omega (arith, d .0), omega (arith, d .0), rw (d .0) (d .1), rw (d .0) q))
+      (target-pass (spineFrom (suc i) n) (arrow i (letter p i) (suc i)) x c)
 
   spine-one : (n i : ℕ) → OneEach (spineFrom i n)
   unfolding from OneEach
   spine-one zero i = tt
-  spine-one (suc n) i = (by (target (spineFrom (suc i) n) i (letter p i)) refl, spine-one n (suc i))
-    where
-      by : (o : Option State) → target (spineFrom (suc i) n) i (letter p i) ≡ o → o ≡ none
-      by none e = refl
-      by (some y) e = let r = spine-only n (suc i) i (letter p i) y e in absurd (omega (arith, r .0))
+  spine-one (suc n) i = (none-where _ (λ y e. omega (arith, spine-only n (suc i) i (letter p i) y e .0)), spine-one n (suc i))
 
 pub spine-target : (p : Word) (x : State) → x < length p → target (spine p) x (letter p x) ≡ some (suc x)
 unfolding spine
@@ -112,8 +101,15 @@ module _ (p : Word) {δ : Delta} {S : State → State} (O : Supplied (length p) 
       → (v : Word) (len k : ℕ) → k ≡ i + len → v ≡ drop k p → k ≤ m → ((n : ℕ) → n < len → Uses B i n) → Halted B i (far B (to i len) k v)
   unfolding far
   far-halts B i within [] len k e q b f =
-      record { len = len; state = refl; upTo = e; inside = omega arith; followed = f; lacks = λ h. absurd (omega (arith, ap length q ∙ length-drop k p)) }
-  far-halts B i within (c ∷ v) len k e q b f = by (B (to i len) c) refl (far-halts B i within v (suc len) (suc k))
+      let ended : 0 ≡ m - k = ap length q ∙ length-drop k p in
+      record { len = len; state = refl; upTo = e; inside = omega arith; followed = f; lacks = λ h. absurd (omega arith) }
+  far-halts B i within (c ∷ v) len k e q b f = option-cases (B (to i len) c)
+      (λ d.
+      let within-word : i + len ≤ m = omega (arith, inside) in
+      rw (d, far) (record { len = len; state = refl; upTo = e; inside = within-word; followed = f; lacks = λ h. rw on at d }))
+      (λ y d.
+      let next : y ≡ to i (suc len) = sym (reach-next w δ i len (rw on at (within (to i len) c y d))) in
+      rw (d, far, next) (far-halts B i within v (suc len) (suc k) (omega arith) (cc (split)) inside (more (rw (on, next) at d))))
     where
       inside : k < m
       inside = omega (arith, ap length q ∙ length-drop k p)
@@ -125,27 +121,14 @@ module _ (p : Word) {δ : Delta} {S : State → State} (O : Supplied (length p) 
       on = cc (split, ap w e)
 
       more : Uses B i len → (n : ℕ) → n < suc len → Uses B i n
-      more u n h = last (ℕ-discrete n len)
-        where
-          last : Dec (n ≡ len) → Uses B i n
-          last (yes g) = rw g u
-          last (no g) = f n (omega arith)
-
-      by : (o : Option State) → B (to i len) c ≡ o
-          → (suc k ≡ i + suc len → v ≡ drop (suc k) p → suc k ≤ m → ((n : ℕ) → n < suc len → Uses B i n) → Halted B i (far B (to i (suc len)) (suc k) v))
-          → Halted B i (far B (to i len) k (c ∷ v))
-      by none d rec = rw (d, far) (record { len = len; state = refl; upTo = e; inside = omega (arith, inside); followed = f; lacks = λ h. rw on at d })
-      by (some y) d rec =
-          let q : y ≡ to i (suc len) = sym (reach-next w δ i len (rw on at (within (to i len) c y d))) in
-          rw (d, far, q) (rec (omega arith) (cc (split)) inside (more (rw (on, q) at d)))
+      more u n h = by-cases (ℕ-discrete n len) (λ g. rw g u) (λ g. f n (omega arith))
 
   -- nothing is lacking
   whole : (B : Delta) (i : ℕ) → Part B i → ((n : ℕ) → i + n < m → Uses B i n) → Part B (suc i)
-  whole B i P f = record { within = P .within; has = λ j n h l. by j n h l (decLt j i) }
+  whole B i P f = record { within = P .within; has = has }
     where
-      by : (j n : ℕ) → j < suc i → j + n < m → Dec (j < i) → Uses B j n
-      by j n h l (yes b) = P .has j n b l
-      by j n h l (no b) = let e : j ≡ i = omega arith in rw e (f n (omega arith))
+      has : (j n : ℕ) → j < suc i → j + n < m → Uses B j n
+      has j n h l = by-cases (decLt j i) (λ b. P .has j n b l) (λ b. let e : j ≡ i = omega arith in rw e (f n (omega arith)))
 
   -- the lacking arrow is added
   mended : (A : List Arrow) (i len : ℕ) → 0 < i → Part (target A) i → i + len < m → ((n : ℕ) → n < len → Uses (target A) i n)
@@ -163,18 +146,13 @@ module _ (p : Word) {δ : Delta} {S : State → State} (O : Supplied (length p) 
       hit = rw (onto-spine, add-suc i len) (target-hit A (to i len) (w (i + len)) (suc (i + len)))
 
       stays : (x : State) (c : Letter) (y : State) → target A x c ≡ some y → B x c ≡ some y
-      stays x c y e = by (target-pass A _ x c)
-        where
-          by : (B x c ≡ target A x c) ⊎ ((x ≡ to i len) × (c ≡ w (i + len))) → B x c ≡ some y
-          by (inl d) = d ∙ e
-          by (inr d) = never lacks (rw (d .0, d .1) at e)
+      stays x c y e = ⊎-elim (λ d. d ∙ e) (λ d. never lacks (rw (d .0, d .1) at e)) (target-pass A _ x c)
 
       within : (x : State) (c : Letter) (y : State) → B x c ≡ some y → δ x c ≡ some y
-      within x c y e = by (target-pass A _ x c)
-        where
-          by : (B x c ≡ target A x c) ⊎ ((x ≡ to i len) × (c ≡ w (i + len))) → δ x c ≡ some y
-          by (inl d) = P .within x c y (sym d ∙ e)
-          by (inr d) = cc (d .0, d .1, hit, reach-arrow O i len inside)
+      within x c y e = ⊎-elim
+          (λ d. P .within x c y (sym d ∙ e))
+          (λ d. cc (d .0, d .1, hit, reach-arrow O i len inside))
+          (target-pass A _ x c)
 
       -- behind the new arrow the suffix runs on the spine
       beyond : (d : ℕ) → i + (suc len + d) < m → Uses B i (suc len + d)
@@ -188,12 +166,11 @@ module _ (p : Word) {δ : Delta} {S : State → State} (O : Supplied (length p) 
           rw (e, u) (stays _ _ _ (rw (zero-add k, reach-spine O k (omega arith), reach-spine O (suc k) (omega arith)) at s))
 
       uses : (n : ℕ) → i + n < m → Uses B i n
-      uses n h = by (decLt n len) (ℕ-discrete n len)
-        where
-          by : Dec (n < len) → Dec (n ≡ len) → Uses B i n
-          by (yes l) d = stays _ _ _ (followed n l)
-          by (no l) (yes e) = rw e hit
-          by (no l) (no e) = let q : suc len + (n - suc len) ≡ n = omega arith in rw q at (beyond (n - suc len) (omega arith))
+      uses n h = by-cases (decLt n len)
+          (λ l. stays _ _ _ (followed n l))
+          (λ l. by-cases (ℕ-discrete n len)
+          (λ e. rw e hit)
+          (λ e. let q : suc len + (n - suc len) ≡ n = omega arith in rw q at (beyond (n - suc len) (omega arith))))
 
   -- one suffix
   suffix-part : (A : List Arrow) (i : ℕ) → 0 < i → i ≤ m → Part (target A) i → OneEach A
@@ -204,13 +181,12 @@ module _ (p : Word) {δ : Delta} {S : State → State} (O : Supplied (length p) 
       by (far (target A) 0 i (drop i p)) (rw (reach-0 w δ i) at H)
     where
       by : (h : Halt) → Halted (target A) i h → Part (target (mend p h ++ A)) (suc i) × OneEach (mend p h ++ A)
-      by h H = on (ℕ-discrete (h .upTo) (length p))
-        where
-          on : Dec (h .upTo ≡ length p) → Part (target (mend p h ++ A)) (suc i) × OneEach (mend p h ++ A)
-          on (yes e) = rw (eq-eqb (h .upTo) (length p) e) (whole (target A) i P (λ n l. H .followed n (omega (arith, H .upTo))), one)
-          on (no e) =
-              let l : i + H .len < m = omega (arith, H .upTo, H .inside) in
-              rw (ne-eqb (h .upTo) (length p) e, H .state, H .upTo) (mended A i (H .len) pos P l (H .followed) (H .lacks l), (H .lacks l, one))
+      by h H = by-cases (ℕ-discrete (h .upTo) (length p))
+          (λ e. rw (eq-eqb (h .upTo) (length p) e) (whole (target A) i P (λ n l. H .followed n (omega (arith, H .upTo))), one))
+          (λ e.
+          let l : i + H .len < m = omega (arith, H .upTo, H .inside) in
+          rw (ne-eqb (h .upTo) (length p) e, H .state, H .upTo)
+          (mended A i (H .len) pos P l (H .followed) (H .lacks l), (H .lacks l, one)))
 
   -- all suffixes
   suffixes-part : (i : ℕ) → i ≤ m → Part (target (extrasAfter p i ++ spine p)) (suc i) × OneEach (extrasAfter p i ++ spine p)
@@ -223,7 +199,9 @@ module _ (p : Word) {δ : Delta} {S : State → State} (O : Supplied (length p) 
       has : (j n : ℕ) → j < 1 → j + n < m → Uses (target (spineFrom p 0 (length p))) j n
       has j n h l =
           let e : j ≡ 0 = omega arith in
-          rw (e, zero-add n, reach-spine O n (omega arith), reach-spine O (suc n) (omega arith)) (spine-arrow p (length p) 0 n (omega arith) (omega arith))
+          let here = reach-spine O n (omega arith) in
+          let next = reach-spine O (suc n) (omega arith) in
+          rw (e, zero-add n, here, next) (spine-arrow p (length p) 0 n (omega arith) (omega arith))
   suffixes-part (suc i) h =
       let r = suffixes-part i (omega arith) in
       let A = extrasAfter p i ++ spine p in
@@ -233,19 +211,16 @@ module _ (p : Word) {δ : Delta} {S : State → State} (O : Supplied (length p) 
 
   pub suffix-rule-arrows : (x : State) (c : Letter) → oracle p x c ≡ δ x c
   unfolding suffixRule extraArrows
-  suffix-rule-arrows x c = by (δ x c) refl (oracle p x c) refl
+  suffix-rule-arrows x c = option-cases (δ x c)
+      (λ e. option-cases (oracle p x c) (λ e′. e′ ∙ sym e) (λ y e′. never e (P .within x c y e′)))
+      (λ y e.
+      let v = O .into x c y e in
+      let r = chain-reached O (v .z) (omega (arith, v .inside)) (v .on) in
+      let u = P .has (r .0) (r .1) (omega (arith, r .2, v .inside)) (omega (arith, r .2, v .inside)) in
+      cc (r .2, r .3, v .letter, reach-arrow O (r .0) (r .1) (omega (arith, r .2, v .inside))))
     where
       P : Part (oracle p) (suc (m - 1))
       P = suffixes-part (m - 1) (omega arith) .0
-
-      by : (o : Option State) → δ x c ≡ o → (o′ : Option State) → oracle p x c ≡ o′ → oracle p x c ≡ δ x c
-      by (some y) e o′ e′ =
-          let v = O .into x c y e in
-          let r = chain-reached O (v .z) (omega (arith, v .inside)) (v .on) in
-          let u = P .has (r .0) (r .1) (omega (arith, r .2, v .inside)) (omega (arith, r .2, v .inside)) in
-          cc (r .2, r .3, v .letter, reach-arrow O (r .0) (r .1) (omega (arith, r .2, v .inside)))
-      by none e none e′ = e′ ∙ sym e
-      by none e (some y) e′ = never e (P .within x c y e′)
 
   pub suffix-rule-one : OneEach (suffixRule p)
   unfolding suffixRule extraArrows

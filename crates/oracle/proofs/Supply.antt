@@ -1,8 +1,9 @@
 -- THE SUPPLY IS WHERE THE LONGEST REPEATED END LEADS, for every state of any automaton that has the record: first as numbers, then for the
--- definition that looks for that end.
+-- definition that looks for that end. The longest end that is not walked to k is walked to the supply of k. The longest repeated end is no
+-- longer, for repeated ends are walked below k, and leads no lower, for the supply's shortest word is a repeated end itself.
 use mathlib.Core.Path.{_≡_, refl, sym, ap, _∙_, fun-ext}
-use mathlib.Core.Bool.{Bool, true, false}
-use mathlib.Core.Logic.{inl, inr}
+use mathlib.Core.Bool.{Bool, true, false, false≢true}
+use mathlib.Core.Logic.{⊎-elim, by-cases}
 use mathlib.Core.Option.{Option, none, some}
 use mathlib.Core.List.{[], _∷_, _++_}
 use Prim.Native.Nat.{ℕ, zero, suc, _+_, _-_, _≤_, _<_}
@@ -14,7 +15,9 @@ use lib.Seq.{take-length, length-take-le}
 use borrow.Author.Tests.{le-leb, leb-true}
 use Rattle.words.specs.Lists.{from, only, first}
 use Rattle.words.specs.Words.{Word, letter, part, same, stands, occurrences}
-use Rattle.words.proofs.Lists.{from-snoc, only-yes, only-append, only-in, in-only, from-in, in-from, member, filled, first-yes, first-not}
+use Rattle.words.proofs.Lists.{test-cases, member, not-empty, from-snoc, from-in, in-from}
+use Rattle.words.proofs.Lists.{only-yes, only-append, only-in, in-only, first-yes, first-not}
+use Rattle.words.proofs.Greatest.{Greatest, Least, greatest-passing}
 use Rattle.words.proofs.Words.{part-of-part}
 use Rattle.words.proofs.Occurrences.{stands-part, part-stands}
 use Rattle.oracle.specs.Arrows.{State, Delta}
@@ -24,7 +27,7 @@ use Rattle.oracle.proofs.Chain.{Supplied, supply-below, Near}
 use Rattle.oracle.proofs.Reach.{reach, reach-0, reach-spine, reach-below, reach-near, reach-falls}
 use Rattle.oracle.proofs.SuffixRule.{suffix-rule-arrows}
 use Rattle.oracle.proofs.Walks.{factor-walk}
-use Rattle.oracle.proofs.Shortest.{Greatest, greatest, Shortest, shortest, Held, held, reach-same}
+use Rattle.oracle.proofs.Shortest.{shortest, shortest-at-end, reach-same}
 
 -- ── As numbers ─────────────────────────────────────────────────────────────
 
@@ -32,13 +35,8 @@ use Rattle.oracle.proofs.Shortest.{Greatest, greatest, Shortest, shorte
 abbrev pub Repeats : Word → ℕ → ℕ → Type 0
 Repeats p k a = (f : ℕ) × (f < a) × (part p f (k - a) ≡ part p a (k - a))
 
--- a is the first number up to k that passes
-pub record Least (P : ℕ → Type 0) (k a : ℕ) : Type 0 where
-  pub within : a ≤ k
-  pub passes : P a
-  pub least : (b : ℕ) → b ≤ k → P b → a ≤ b
-
-module _ (p : Word) {δ : Delta} {S : State → State} (O : Supplied (length p) (letter p) δ S) (k : State) (pos : 0 < k) (b : k ≤ length p) where
+module _ (p : Word) {δ : Delta} {S : State → State} (O : Supplied (length p) (letter p) δ S)
+    (k : State) (pos : 0 < k) (b : k ≤ length p) where
   -- where the letters behind the first a, up to k, lead
   abbrev up : ℕ → State
   up a = reach (letter p) δ a (k - a)
@@ -52,54 +50,52 @@ module _ (p : Word) {δ : Delta} {S : State → State} (O : Supplied (length p) 
   -- a repeated end is walked to a state before k
   repeated-below : (a : ℕ) → a ≤ k → Repeats p k a → up a < k
   repeated-below a h r =
-      omega (arith, r .1, reach-same p O (r .0) a (k - a) (omega (arith, r .1)) (omega arith) (r .2), reach-below O (r .0) (k - a) (omega (arith, r .1)))
+      let inside : r .0 + (k - a) ≤ length p = omega (arith, r .1) in
+      omega (arith, r .1, reach-same p O (r .0) a (k - a) inside (omega arith) (r .2), reach-below O (r .0) (k - a) inside)
 
   -- the last start from which k itself is reached; from the next one the supply is
   last-to-k : Greatest (λ e. up e ≡ k) k
-  last-to-k = greatest (λ e. up e ≡ k) (λ e. ℕ-discrete (up e) k) (rw (sub-zero k) (reach-spine O k b)) k
+  last-to-k = greatest-passing (λ e. up e ≡ k) (λ e. ℕ-discrete (up e) k) (rw (sub-zero k) (reach-spine O k b)) k
 
   abbrev E : ℕ
   E = last-to-k .at
 
   before-end : E < k
-  before-end = by (ℕ-discrete E k)
-    where
-      by : Dec (E ≡ k) → E < k
-      by (yes e) = let z : k - k ≡ 0 = omega arith in absurd (omega (arith, rw (e, z, reach-0 (letter p) δ k) at (last-to-k .passes)))
-      by (no e) = omega (arith, last-to-k .within)
+  before-end =
+      let z : k - k ≡ 0 = omega arith in
+      by-cases (ℕ-discrete E k)
+      (λ e. absurd (omega (arith, rw (e, z, reach-0 (letter p) δ k) at (last-to-k .passes))))
+      (λ e. omega (arith, last-to-k .within))
 
   next-is-supply : up (suc E) ≡ S k
-  next-is-supply = by (rw e at (reach-near O E (k - suc E) (omega (arith, before-end))))
-    where
-      e : suc (k - suc E) ≡ k - E
-      e = omega (arith, before-end)
-
-      by : Near O (up (suc E)) (up E) → up (suc E) ≡ S k
-      by (inl q) = absurd (omega (arith, last-to-k .last (suc E) before-end (q ∙ last-to-k .passes)))
-      by (inr q) = q ∙ ap S (last-to-k .passes)
+  next-is-supply =
+      let e : suc (k - suc E) ≡ k - E = omega (arith, before-end) in
+      let near : Near O (up (suc E)) (up E) = rw e at (reach-near O E (k - suc E) (omega (arith, before-end))) in
+      ⊎-elim
+      (λ q. absurd (omega (arith, last-to-k .last (suc E) before-end (q ∙ last-to-k .passes))))
+      (λ q. q ∙ ap S (last-to-k .passes))
+      near
 
   pub least-repeated-leads : (a : ℕ) → Least (Repeats p k) k a → up a ≡ S k
-  least-repeated-leads a L = by (held p O (S k) U (suc E) (k - suc E) (omega (arith, low)) (omega (arith, before-end)) next-is-supply)
-    where
-      low : S k ≤ k - 1
-      low = supply-below O k b
-
-      U : Shortest p O (S k)
-      U = shortest p O (S k) (omega (arith, low))
-
-      late : Dec (suc E ≤ a) → suc E ≤ a
-      late (yes h) = h
-      late (no h) = absurd (omega (arith, up-falls a E (omega arith) (last-to-k .within), last-to-k .passes, repeated-below a (L .within) (L .passes)))
-
+  least-repeated-leads a L =
+      let low = supply-below O k b in
+      let U = shortest p O (S k) (omega arith) in
+      let H = shortest-at-end p O (S k) U (suc E) (k - suc E) (omega arith) (omega (arith, before-end)) next-is-supply in
       -- the supply's shortest word ends the letters up to k from c on, and stands earlier too
-      by : Held p O (S k) U (suc E) (k - suc E) → up a ≡ S k
-      by H =
-          let c = suc E + H .skipped in
-          let n : k - c ≡ U .len = omega (arith, H .size, before-end) in
-          let le : c ≤ k = omega (arith, H .size, before-end) in
-          let again : Repeats p k c = (U .start, omega (arith, U .place, H .size, low, before-end), rw n (sym (H .same))) in
-          let same : up c ≡ S k = rw n (reach-same p O c (U .start) (U .len) (omega arith) (omega (arith, U .place, low)) (H .same) ∙ U .walked) in
-          omega (arith, same, next-is-supply, up-falls (suc E) a (late (decLe (suc E) a)) (L .within), up-falls a c (L .least c le again) le)
+      let c = suc E + H .skipped in
+      let n : k - c ≡ U .len = omega (arith, H .size, before-end) in
+      let le : c ≤ k = omega (arith, H .size, before-end) in
+      let again : Repeats p k c = (U .start, omega (arith, U .place, H .size, before-end), rw n (sym (H .same))) in
+      let led = reach-same p O c (U .start) (U .len) (omega arith) (omega (arith, U .place)) (H .same) in
+      let same : up c ≡ S k = rw n (led ∙ U .walked) in
+      let high = up-falls (suc E) a late (L .within) in
+      let deep = up-falls a c (L .least c le again) le in
+      omega (arith, next-is-supply)
+    where
+      late : suc E ≤ a
+      late = by-cases (decLe (suc E) a) (λ h. h) (λ h.
+          let falls = up-falls a E (omega arith) (last-to-k .within) in
+          absurd (omega (arith, last-to-k .passes, repeated-below a (L .within) (L .passes))))
 
 -- ── The longest end that stands twice ──────────────────────────────────────
 
@@ -114,15 +110,27 @@ pub record FirstEnd (P : Word → Bool) (u : Word) : Type 0 where
 first-end : (P : Word → Bool) (u : Word) → P [] ≡ true → FirstEnd P u
 unfolding ends
 first-end P [] e = record { at = 0; within = le-refl 0; is = first-yes P [] [] e; passes = e; before = λ a h. absurd (omega arith) }
-first-end P (c ∷ u) e = by (P (c ∷ u)) refl (first-end P u e)
+first-end P (c ∷ u) e =
+    let r = first-end P u e in
+    test-cases (P (c ∷ u))
+    (λ f. record {
+      at = 0;
+      within = omega arith;
+      is = first-yes P (c ∷ u) (ends u) f;
+      passes = f;
+      before = λ a h. absurd (omega arith);
+    })
+    (λ f. record {
+      at = suc (r .at);
+      within = omega (arith, r .within);
+      is = first-not P (c ∷ u) (ends u) f ∙ r .is;
+      passes = r .passes;
+      before = earlier f r;
+    })
   where
-    by : (b : Bool) → P (c ∷ u) ≡ b → FirstEnd P u → FirstEnd P (c ∷ u)
-    by true f r = record { at = 0; within = omega arith; is = first-yes P (c ∷ u) (ends u) f; passes = f; before = λ a h. absurd (omega arith) }
-    by false f r = record { at = suc (r .at); within = omega (arith, r .within); is = first-not P (c ∷ u) (ends u) f ∙ r .is; passes = r .passes; before = λ a h. earlier a h }
-      where
-        earlier : (a : ℕ) → a < suc (r .at) → P (drop a (c ∷ u)) ≡ false
-        earlier zero h = f
-        earlier (suc a) h = r .before a (omega arith)
+    earlier : P (c ∷ u) ≡ false → (r : FirstEnd P u) → (a : ℕ) → a < suc (r .at) → P (drop a (c ∷ u)) ≡ false
+    earlier f r zero h = f
+    earlier f r (suc a) h = r .before a (omega arith)
 
 -- an end of u stands in u at its own place; it stands twice if it stands earlier too
 module _ (u : Word) (a : ℕ) (h : a ≤ length u) where
@@ -133,7 +141,8 @@ module _ (u : Word) (a : ℕ) (h : a ≤ length u) where
   unfolding occurrences only
   places =
       let n : suc (length u) - length here ≡ suc a = rw (length-drop a u) (omega arith) in
-      rw (n, from-snoc 0 a, zero-add a, only-append (stands here u) (from 0 a) (a ∷ []), only-yes (stands here u) a [] (part-stands here u a (take-length here)))
+      let own = part-stands here u a (take-length here) in
+      rw (n, from-snoc 0 a, zero-add a, only-append (stands here u) (from 0 a) (a ∷ []), only-yes (stands here u) a [] own)
 
   count : length (occurrences here u) ≡ length (only (stands here u) (from 0 a)) + 1
   count = ap length places ∙ length-append (only (stands here u) (from 0 a)) (a ∷ [])
@@ -148,7 +157,7 @@ module _ (u : Word) (a : ℕ) (h : a ≤ length u) where
   earlier-twice : (f : ℕ) → f < a → stands here u f ≡ true → twice u here ≡ true
   unfolding twice
   earlier-twice f l e =
-      let m = filled (in-only (stands here u) (from 0 a) (in-from 0 a f (omega arith) (omega arith)) e) in
+      let m = not-empty (in-only (stands here u) (from 0 a) (in-from 0 a f (omega arith) (omega arith)) e) in
       le-leb _ (length (occurrences here u)) (omega (arith, count))
 
 -- ── As defined ─────────────────────────────────────────────────────────────
@@ -158,32 +167,36 @@ pub supply-0 : (p : Word) → supply p 0 ≡ none
 unfolding supply repeated twice ends first occurrences only from stands same
 supply-0 p = refl
 
-module _ (p : Word) {δ : Delta} {S : State → State} (O : Supplied (length p) (letter p) δ S) (k : State) (pos : 0 < k) (b : k ≤ length p) where
+module _ (p : Word) {δ : Delta} {S : State → State} (O : Supplied (length p) (letter p) δ S)
+    (k : State) (pos : 0 < k) (b : k ≤ length p) where
   abbrev u : Word
   u = take k p
 
   size : length u ≡ k
   size = length-take-le k p b
 
-  -- the ends of u, and what is as long as one, are parts of p
-  end-part : (a : ℕ) → a ≤ k → drop a u ≡ part p a (k - a)
-  end-part a h =
-      let n : length (drop a u) ≡ k - a = length-drop a u ∙ ap (λ l. l - a) size in
-      sym (take-length (drop a u)) ∙ ap (part u a) n ∙ part-of-part p 0 k a (k - a) (omega arith) (omega arith) ∙ ap (λ j. part p j (k - a)) (zero-add a)
-
+  -- what is as long as an end of u, and the ends of u themselves, are parts of p
   earlier-part : (a f : ℕ) → f ≤ a → a ≤ k → part u f (length (drop a u)) ≡ part p f (k - a)
   earlier-part a f l h =
       let n : length (drop a u) ≡ k - a = length-drop a u ∙ ap (λ l. l - a) size in
-      ap (part u f) n ∙ part-of-part p 0 k f (k - a) (omega arith) (omega arith) ∙ ap (λ j. part p j (k - a)) (zero-add f)
+      ap (part u f) n
+      ∙ part-of-part p 0 k f (k - a) (omega arith) (omega arith)
+      ∙ ap (λ j. part p j (k - a)) (zero-add f)
+
+  end-part : (a : ℕ) → a ≤ k → drop a u ≡ part p a (k - a)
+  end-part a h = sym (take-length (drop a u)) ∙ earlier-part a a (le-refl a) h
 
   twice-repeats : (a : ℕ) → a ≤ k → twice u (drop a u) ≡ true → Repeats p k a
   twice-repeats a h e =
       let r = twice-earlier u a (omega (arith, size)) e in
-      (r .0, r .1, sym (earlier-part a (r .0) (omega (arith, r .1)) h) ∙ stands-part (drop a u) u (r .0) (r .2) ∙ end-part a h)
+      let there = earlier-part a (r .0) (omega (arith, r .1)) h in
+      (r .0, r .1, sym there ∙ stands-part (drop a u) u (r .0) (r .2) ∙ end-part a h)
 
   repeats-twice : (a : ℕ) → a ≤ k → Repeats p k a → twice u (drop a u) ≡ true
   repeats-twice a h r =
-      earlier-twice u a (omega (arith, size)) (r .0) (r .1) (part-stands (drop a u) u (r .0) (earlier-part a (r .0) (omega (arith, r .1)) h ∙ r .2 ∙ sym (end-part a h)))
+      let there = earlier-part a (r .0) (omega (arith, r .1)) h in
+      let again = part-stands (drop a u) u (r .0) (there ∙ r .2 ∙ sym (end-part a h)) in
+      earlier-twice u a (omega (arith, size)) (r .0) (r .1) again
 
   empty-twice : twice u [] ≡ true
   empty-twice =
@@ -191,26 +204,23 @@ module _ (p : Word) {δ : Delta} {S : State → State} (O : Supplied (length p) 
       let z : k - k ≡ 0 = omega arith in
       rw e at (repeats-twice k (le-refl k) (0, pos, rw z refl))
 
+  longest : FirstEnd (twice u) u
+  longest = first-end (twice u) u empty-twice
+
+  longest-least : Least (Repeats p k) k (longest .at)
+  longest-least =
+      let le : longest .at ≤ k = omega (arith, longest .within, size) in
+      let first : (c : ℕ) → c ≤ k → Repeats p k c → longest .at ≤ c = λ c l r. by-cases (decLe (longest .at) c)
+      (λ h. h)
+      (λ h. absurd (false≢true (sym (longest .before c (omega arith)) ∙ repeats-twice c l r))) in
+      record { within = le; passes = twice-repeats (longest .at) le (longest .passes); least = first }
+
   -- the supply of each state above 0 is the one of 001's definition
   pub supply-is-defined : supply p k ≡ some (S k)
   unfolding supply repeated
-  supply-is-defined = by (first-end (twice u) u empty-twice)
-    where
-      arrows : oracle p ≡ δ
-      arrows = fun-ext (λ x. fun-ext (λ c. suffix-rule-arrows p O x c))
-
-      by : FirstEnd (twice u) u → supply p k ≡ some (S k)
-      by F = rw (F .is, supply, arrows, end-part a le) (factor-walk p O a (k - a) (omega (arith, le)) ∙ ap {B = Option State} some (least-repeated-leads p O k pos b a L))
-        where
-          a : ℕ
-          a = F .at
-
-          le : a ≤ k
-          le = omega (arith, F .within, size)
-
-          no-earlier : (c : ℕ) → c ≤ k → Repeats p k c → Dec (a ≤ c) → a ≤ c
-          no-earlier c l r (yes h) = h
-          no-earlier c l r (no h) = let z : _≡_ {A = ℕ} 0 1 = cc (F .before c (omega arith), repeats-twice c l r) in absurd (omega arith)
-
-          L : Least (Repeats p k) k a
-          L = record { within = le; passes = twice-repeats a le (F .passes); least = λ c l r. no-earlier c l r (decLe a c) }
+  supply-is-defined =
+      let a = longest .at in
+      let le : a ≤ k = longest-least .within in
+      let arrows : oracle p ≡ δ = fun-ext (λ x. fun-ext (λ c. suffix-rule-arrows p O x c)) in
+      rw (longest .is, supply, arrows, end-part a le)
+      (factor-walk p O a (k - a) (omega arith) ∙ ap {B = Option State} some (least-repeated-leads p O k pos b a longest-least))

@@ -1,7 +1,7 @@
 -- THE THEOREMS on oracles, for every word of whatever length, each a sentence about the definitions alone. The proofs are in the other
 -- files; what ties them together is that both rules' arrows, with the rule's supplies, have the record of `Chain`.
 use mathlib.Core.Path.{_≡_, refl, sym, _∙_, fun-ext}
-use mathlib.Core.Logic.{_↔_}
+use mathlib.Core.Logic.{_↔_, by-cases}
 use mathlib.Core.Option.{none, some}
 use mathlib.Core.List.{[], _∷_, List·Memᴰ, Memᴰ·append-left}
 use Prim.Native.Nat.{ℕ, zero, suc, _+_, _-_, _≤_, _<_}
@@ -15,7 +15,7 @@ use Rattle.words.proofs.Words.{part-whole}
 use Rattle.words.proofs.Occurrences.{stands-part, stands-inside}
 use Rattle.oracle.specs.Arrows.{State, Arrow, Delta, target, walk, spine, OneEach}
 use Rattle.oracle.specs.SuffixRule.{extraArrows, suffixRule, oracle}
-use Rattle.oracle.specs.LetterRule.{supplyIn, builtUpTo, letterRule}
+use Rattle.oracle.specs.LetterRule.{supplyMade, builtUpTo, letterRule}
 use Rattle.oracle.specs.Supply.{supply}
 use Rattle.oracle.proofs.Targets.{never, target-member, member-target, apart}
 use Rattle.oracle.proofs.Chain.{Into, Supplied, supply-below, arrow-up}
@@ -89,24 +89,31 @@ module _ (p : Word) where
 
   -- ── 2. 01's facts to hold ────────────────────────────────────────────────
 
+  listed-arrow : (a : Arrow) → List·Memᴰ a (suffixRule p) → oracle p (a .source) (a .on) ≡ some (a .to)
+  listed-arrow a i = member-target (suffixRule p) suffix-rule-one-each i
+
   -- an arrow into a state carries that state's letter
   pub arrow-letter : (a : Arrow) → List·Memᴰ a (suffixRule p) → (z : State) × (a .to ≡ suc z) × (z < length p) × (a .on ≡ letter p z)
-  arrow-letter a i = let v = oracle-supplied .into (a .source) (a .on) (a .to) (member-target (suffixRule p) suffix-rule-one-each i) in (v .z, v .to, v .inside, v .letter)
+  arrow-letter a i =
+      let v = oracle-supplied .into (a .source) (a .on) (a .to) (listed-arrow a i) in
+      (v .z, v .to, v .inside, v .letter)
 
   -- every extra arrow climbs by at least 2
   pub extra-climbs : (a : Arrow) → List·Memᴰ a (extraArrows p) → a .source + 2 ≤ a .to
   unfolding suffixRule
-  extra-climbs a i = by (ℕ-discrete (a .to) (suc (a .source))) (arrow-letter a (Memᴰ·append-left (spine p) i))
+  extra-climbs a i = by-cases (ℕ-discrete (a .to) (suc (a .source)))
+      (λ e.
+      let r = arrow-letter a among in
+      let q : r .0 ≡ a .source = omega (arith, r .1) in
+      let s = spine-target p (a .source) (omega (arith, up .0, up .1)) in
+      never (rw (r .3, q) at (apart (extraArrows p) (spine p) suffix-rule-one-each i)) s)
+      (λ e. omega (arith, up .0))
     where
-      up : (a .source < a .to) × (a .to ≤ length p)
-      up = arrow-up oracle-supplied (a .source) (a .on) (a .to) (member-target (suffixRule p) suffix-rule-one-each (Memᴰ·append-left (spine p) i))
+      among : List·Memᴰ a (suffixRule p)
+      among = Memᴰ·append-left (spine p) i
 
-      by : Dec (a .to ≡ suc (a .source)) → (z : State) × (a .to ≡ suc z) × (z < length p) × (a .on ≡ letter p z) → a .source + 2 ≤ a .to
-      by (no e) r = omega (arith, up .0)
-      by (yes e) r =
-          let q : r .0 ≡ a .source = omega (arith, r .1) in
-          let s = spine-target p (a .source) (omega (arith, up .0, up .1)) in
-          never (rw (r .3, q) at (apart (extraArrows p) (spine p) suffix-rule-one-each i)) s
+      up : (a .source < a .to) × (a .to ≤ length p)
+      up = arrow-up oracle-supplied (a .source) (a .on) (a .to) (listed-arrow a among)
 
   -- ── 3. Walks and counts ──────────────────────────────────────────────────
 
@@ -119,7 +126,9 @@ module _ (p : Word) where
       (_, rw e at w)
 
   pub word-walked : walk (oracle p) 0 p ≡ some (length p)
-  word-walked = rw (part-whole p, reach-spine oracle-supplied (length p) (le-refl _)) at (walks.factor-walk p oracle-supplied 0 (length p) (omega arith))
+  word-walked =
+      let walked = walks.factor-walk p oracle-supplied 0 (length p) (omega arith) in
+      rw (part-whole p, reach-spine oracle-supplied (length p) (le-refl _)) at walked
 
   pub only-walk : (v : Word) (y : State) → walk (oracle p) 0 v ≡ some y → length v ≡ length p → v ≡ p
   only-walk v y e n = walks.only-walk p oracle-supplied v y e n
@@ -137,13 +146,17 @@ module _ (p : Word) where
   -- ── 4. Supplies ──────────────────────────────────────────────────────────
 
   -- for every state, the rule's supply is the one of 001's definition; state 0 has none by either
-  pub same-supplies : (i : State) → i ≤ length p → supplyIn (letterRule p) i ≡ supply p i
+  pub same-supplies : (i : State) → i ≤ length p → supplyMade (letterRule p) i ≡ supply p i
   same-supplies zero h = path-of-0 (made .path 0 h) refl ∙ sym (supply-0 p)
-  same-supplies (suc i) h = path-of-higher (made .path (suc i) h) (omega arith) ∙ sym (supply-is-defined p (made .supplied) (suc i) (omega arith) h)
+  same-supplies (suc i) h =
+      path-of-higher (made .path (suc i) h) (omega arith)
+      ∙ sym (supply-is-defined p (made .supplied) (suc i) (omega arith) h)
 
   -- every state above 0 has one, and it is lower
   pub supply-lower : (i : State) → 0 < i → i ≤ length p → (y : State) × (supply p i ≡ some y) × (y < i)
-  supply-lower i pos h = (supplies (letterRule p) i, supply-is-defined p (made .supplied) i pos h, omega (arith, supply-below (made .supplied) i h))
+  supply-lower i pos h =
+      let low = supply-below (made .supplied) i h in
+      (supplies (letterRule p) i, supply-is-defined p (made .supplied) i pos h, omega arith)
 
   pub no-supply : supply p 0 ≡ none
   no-supply = supply-0 p

@@ -1,7 +1,7 @@
--- WALKS OF WORDS, as lists: every factor is walked, each letter climbs, and a walk as long as the word is the word's own. All that the
--- search needs of an oracle is here.
+-- WALKS OF WORDS, as lists: every factor is walked, each letter climbs, and a walk as long as the word is the word's own, since no letter
+-- of it may climb by more than 1. All that the search needs of an oracle is here.
 use mathlib.Core.Path.{_≡_, refl, sym, ap, _∙_}
-use mathlib.Core.Option.{Option, none, some}
+use mathlib.Core.Option.{Option, some}
 use mathlib.Core.List.{[], _∷_, _++_}
 use Prim.Native.Nat.{ℕ, zero, suc, _+_, _≤_}
 use native.Mathlib.Omega.{arith}
@@ -10,7 +10,7 @@ use lib.Seq.{drop-cons, drop-length}
 use Rattle.words.specs.Words.{Letter, Word, letter, part}
 use Rattle.words.proofs.Words.{part-snoc}
 use Rattle.oracle.specs.Arrows.{State, Delta, walk}
-use Rattle.oracle.proofs.Targets.{never}
+use Rattle.oracle.proofs.Targets.{never, option-cases}
 use Rattle.oracle.proofs.Chain.{Supplied, arrow-up}
 use Rattle.oracle.proofs.Reach.{reach, reach-0, reach-arrow}
 
@@ -25,11 +25,7 @@ module _ (δ : Delta) where
   pub walk-first : (c : Letter) (v : Word) (x z : State) → walk δ x (c ∷ v) ≡ some z
       → (y : State) × (δ x c ≡ some y) × (walk δ y v ≡ some z)
   unfolding walk
-  walk-first c v x z e = by (δ x c) refl
-    where
-      by : (o : Option State) → δ x c ≡ o → (y : State) × (δ x c ≡ some y) × (walk δ y v ≡ some z)
-      by none d = never refl (rw (d, walk) at e)
-      by (some y) d = (y, d, rw (d, walk) at e)
+  walk-first c v x z e = option-cases (δ x c) (λ d. never refl (rw (d, walk) at e)) (λ y d. (y, d, rw (d, walk) at e))
 
   pub walk-append : (u v : Word) (x z : State) → walk δ x (u ++ v) ≡ some z → (y : State) × (walk δ x u ≡ some y) × (walk δ y v ≡ some z)
   unfolding walk
@@ -41,14 +37,7 @@ module _ (δ : Delta) where
 
   pub walk-snoc : (v : Word) (c : Letter) (x y : State) → walk δ x v ≡ some y → walk δ x (v ++ (c ∷ [])) ≡ δ y c
   unfolding walk
-  walk-snoc [] c x y e = by (δ y c) refl
-    where
-      q : x ≡ y
-      q = cc
-
-      by : (o : Option State) → δ y c ≡ o → walk δ x (c ∷ []) ≡ δ y c
-      by none d = rw (q, d, walk)
-      by (some z) d = rw (q, d, walk)
+  walk-snoc [] c x y e = let q : x ≡ y = cc in option-cases (δ y c) (λ d. rw (q, d, walk)) (λ z d. rw (q, d, walk))
   walk-snoc (a ∷ v) c x y e = let f = walk-first a v x y e in walk-step a (v ++ (c ∷ [])) x (f .0) (f .1) ∙ walk-snoc v c (f .0) y (f .2)
 
 module _ (p : Word) {δ : Delta} {S : State → State} (O : Supplied (length p) (letter p) δ S) where
@@ -58,7 +47,9 @@ module _ (p : Word) {δ : Delta} {S : State → State} (O : Supplied (length p) 
   unfolding walk
   factor-walk i zero h = ap {B = Option State} some (sym (reach-0 (letter p) δ i))
   factor-walk i (suc n) h =
-      rw (part-snoc p i n (omega arith)) (walk-snoc δ (part p i n) (letter p (i + n)) 0 (reach (letter p) δ i n) (factor-walk i n (omega arith)) ∙ reach-arrow O i n (omega arith))
+      let before = factor-walk i n (omega arith) in
+      rw (part-snoc p i n (omega arith))
+      (walk-snoc δ (part p i n) (letter p (i + n)) 0 (reach (letter p) δ i n) before ∙ reach-arrow O i n (omega arith))
 
   -- ── Each letter climbs ───────────────────────────────────────────────────
 
@@ -76,18 +67,15 @@ module _ (p : Word) {δ : Delta} {S : State → State} (O : Supplied (length p) 
   -- from state x: a walk of as many letters as are left
   full-walk : (v : Word) (x y : State) → walk δ x v ≡ some y → length v + x ≡ length p → v ≡ drop x p
   full-walk [] x y e q = let f : x ≡ length p = omega arith in rw (f, drop-length p)
-  full-walk (c ∷ v) x y e q = by (walk-first δ c v x y e) (λ x′ f g. full-walk v x′ y f g)
-    where
-      by : (z : State) × (δ x c ≡ some z) × (walk δ z v ≡ some y)
-          → ((x′ : State) → walk δ x′ v ≡ some y → length v + x′ ≡ length p → v ≡ drop x′ p) → c ∷ v ≡ drop x p
-      by f rec =
-          let u = O .into x c (f .0) (f .1) in
-          let a = arrow-up O x c (f .0) (f .1) in
-          let b = walk-climbs v (f .0) y (a .1) (f .2) in
-          let next : f .0 ≡ suc x = omega (arith, a .0, b .0, b .1) in
-          let at : u .z ≡ x = omega (arith, u .to) in
-          let r : v ≡ drop (suc x) p = rec (suc x) (rw next at (f .2)) (omega arith) in
-          rw (drop-cons p x 0 (omega arith), ← r) (ap {B = Word} (λ d. d ∷ v) (rw at at (u .letter)))
+  full-walk (c ∷ v) x y e q =
+      let f = walk-first δ c v x y e in
+      let u = O .into x c (f .0) (f .1) in
+      let a = arrow-up O x c (f .0) (f .1) in
+      let b = walk-climbs v (f .0) y (a .1) (f .2) in
+      let next : f .0 ≡ suc x = omega (arith, a .0, b .0, b .1) in
+      let at : u .z ≡ x = omega (arith, u .to) in
+      let r : v ≡ drop (suc x) p = full-walk v (suc x) y (rw next at (f .2)) (omega arith) in
+      rw (drop-cons p x 0 (omega arith), ← r) (ap {B = Word} (λ d. d ∷ v) (rw at at (u .letter)))
 
   pub only-walk : (v : Word) (y : State) → walk δ 0 v ≡ some y → length v ≡ length p → v ≡ p
   only-walk v y e q = full-walk v 0 y e (omega arith)

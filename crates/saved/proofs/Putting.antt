@@ -10,11 +10,11 @@ use lib.Seq.{sets, length-sets, sets-eq, drop-drop}
 use Rattle.words.specs.Words.{Word}
 use Rattle.oracle.specs.Arrows.{State}
 use Rattle.number.specs.Number.{spellNumber, written}
-use Rattle.saved.specs.File.{edition, spellSteps, ownSteps, spell}
+use Rattle.saved.specs.File.{spellSteps, ownSteps, body, spell}
 use Rattle.saved.specs.Stepping.{stepsAhead, Standing, Leapt}
 use Rattle.saved.specs.declared.Leap.{Leap}
 use Rattle.saved.proofs.Slots.{stand-start}
-use Rattle.saved.proofs.Spelled.{ahead-next, ahead-end}
+use Rattle.saved.proofs.Spelled.{ahead-next, ahead-end, edition-number}
 
 -- ── Any pieces ─────────────────────────────────────────────────────────────
 
@@ -100,8 +100,8 @@ module _ (p : Word) where
   fromSize = spellNumber (length p) ++ fromLetters
 
   from-edition : spell p ≡ spellNumber 1 ++ fromSize
-  unfolding spell edition
-  from-edition = refl
+  unfolding spell body
+  from-edition = rw edition-number
 
   module _ (out : List ℕ) (h : length (spell p) ≤ length out) where
     abbrev final : List ℕ

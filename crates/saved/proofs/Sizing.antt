@@ -20,11 +20,12 @@ pub record Sizing (p : Word) (size : ℕ) (x : State) (s : ℕ) : Type 0 where
 
 -- all but the steps
 pub size-start : {p : Word} {e a b count : ℕ} → 1 ≤ length p → e ≡ length (spellNumber 1) → a ≡ length (spellNumber (length p))
-    → count ≡ length (ownSteps p)
-    → b ≡ length (spellNumber count) → Sizing p (e + a + length p + b) 0 0
+    → count ≡ length (ownSteps p) → b ≡ length (spellNumber count) → Sizing p (e + a + length p + b) 0 0
 unfolding ownSteps
 size-start {p} h e a count b =
-    record { sum = omega (arith, file-length p, ap length (spelling-single 1 (omega arith)), ap (λ n. length (spellNumber n)) count); stands = stand-start p h }
+    let edition-width = ap length (spelling-single 1 (omega arith)) in
+    let count-width = ap (λ n. length (spellNumber n)) count in
+    record { sum = omega (arith, file-length p, edition-width, count-width); stands = stand-start p h }
 
 module _ {p : Word} {size : ℕ} {x : State} {s : ℕ} (C : Sizing p size x s) where
   -- far from any overflow

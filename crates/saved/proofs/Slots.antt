@@ -6,7 +6,7 @@ use Prim.Native.Nat.{ℕ, suc, _+_, _*_, _-_, _≤_, _<_}
 use native.Mathlib.Decide.{ℕ-discrete}
 use native.Mathlib.Numerals.{add-one}
 use native.Mathlib.Omega.{arith}
-use lib.ListN.{length, drop}
+use lib.ListN.{length, drop, drop-of-length-le}
 use lib.Seq.{drop-cons}
 use mir.Syntax.{w16, w64}
 use mir.Val.{Fits}
@@ -20,7 +20,7 @@ use Rattle.table.specs.Table.{tableOf}
 use Rattle.table.proofs.Rows.{row-2, row-3}
 use Rattle.table.proofs.Theorems.{table-size}
 use Rattle.saved.specs.File.{stepsFrom, ownSteps}
-use Rattle.saved.specs.Stepping.{Tabled, Standing, Leapt}
+use Rattle.saved.specs.Stepping.{Tabled, stepsAhead, Standing, Leapt}
 
 -- ── How many ───────────────────────────────────────────────────────────────
 
@@ -39,6 +39,11 @@ module _ (p : Word) where
   -- at most m - 1
   pub own-few : length (ownSteps p) ≤ length p - 1
   own-few = omega (arith, own-count, oracle-extras-fit p (length p))
+
+  -- none is ahead behind the last
+  pub none-ahead : (x : State) (s : ℕ) → length (ownSteps p) ≤ s → stepsAhead p x s ≡ []
+  unfolding stepsFrom ownSteps
+  none-ahead x s h = rw (drop-of-length-le (fileArrows p) {i = s} (omega (arith, steps-length 0 (fileArrows p))))
 
   -- the way starts before slot 0, at state 0
   pub stand-start : 1 ≤ length p → Standing p 0 0

@@ -5,7 +5,7 @@ use mathlib.Core.List.{List, [], _∷_, _++_, List·Memᴰ, List·Memᴰ·head, 
 use Prim.Native.Nat.{ℕ, _+_, _*_, _-_, _≤_, _<_}
 use native.Mathlib.Nat.{mul-le-mul-left}
 use native.Mathlib.Omega.{arith}
-use lib.ListN.{length, length-append, drop-of-length-le}
+use lib.ListN.{length, length-append}
 use Rattle.words.specs.Words.{Word}
 use Rattle.oracle.specs.Arrows.{State}
 use Rattle.oracle.specs.SuffixRule.{oracle}
@@ -13,10 +13,10 @@ use Rattle.oracle.specs.FileOrder.{Extra, fileArrows}
 use Rattle.oracle.proofs.FileOrder.{extra-target, extra-before}
 use Rattle.number.specs.Number.{spellNumber}
 use Rattle.number.proofs.Theorems.{spelling-length, spelling-single}
-use Rattle.saved.specs.File.{edition, stepsFrom, spellSteps, ownSteps, spell}
+use Rattle.saved.specs.File.{edition, stepsFrom, spellSteps, ownSteps, body, spell}
 use Rattle.saved.specs.Stepping.{stepsAhead, Leapt}
 use Rattle.saved.specs.declared.Leap.{Leap}
-use Rattle.saved.proofs.Slots.{steps-length, own-few}
+use Rattle.saved.proofs.Slots.{own-few, none-ahead}
 
 -- ── Ahead of a slot ────────────────────────────────────────────────────────
 
@@ -28,16 +28,21 @@ ahead-next J = ap spellSteps (J .next)
 
 -- nothing behind the last
 pub ahead-end : (p : Word) (x : State) (s : ℕ) → length (ownSteps p) ≤ s → spellSteps (stepsAhead p x s) ≡ []
-unfolding spellSteps stepsFrom ownSteps
-ahead-end p x s h = rw (drop-of-length-le (fileArrows p) {i = s} (omega (arith, steps-length 0 (fileArrows p))))
+unfolding spellSteps
+ahead-end p x s h = rw (none-ahead p x s h)
 
 -- ── How long a file is ─────────────────────────────────────────────────────
+
+-- the code's constant
+pub edition-number : edition ≡ 1
+unfolding edition
+edition-number = refl
 
 -- the edition takes one byte
 pub file-length : (p : Word) → length (spell p)
     ≡ 1 + (length (spellNumber (length p)) + (length p + (length (spellNumber (length (ownSteps p))) + length (spellSteps (ownSteps p)))))
-unfolding spell edition
-file-length p = rw (spelling-single 1 (omega arith)) (simp length-append (omega arith))
+unfolding spell body
+file-length p = rw (edition-number, spelling-single 1 (omega arith)) (simp length-append (omega arith))
 
 module _ {m w : ℕ} (narrow : (v : ℕ) → v ≤ m → length (spellNumber v) ≤ w) where
   steps-most : (s : State) (l : List Extra) → ((a : Extra) → List·Memᴰ a l → (a .source ≤ m) × (a .to ≤ m))
@@ -61,7 +66,9 @@ module _ {m w : ℕ} (narrow : (v : ℕ) → v ≤ m → length (spellNumber v) 
       omega (arith, file-length p, narrow (length p) (omega arith), narrow (length (ownSteps p)) (omega arith))
     where
       ends : (a : Extra) → List·Memᴰ a (fileArrows p) → (a .source ≤ m) × (a .to ≤ m)
-      ends a i = let r = extra-before (oracle p) p (length p) i in (omega (arith, r .0), omega (arith, extra-target (oracle p) p (a .source) (r .1) .1))
+      ends a i =
+          let r = extra-before (oracle p) p (length p) i in
+          (omega (arith, r .0), omega (arith, extra-target (oracle p) p (a .source) (r .1) .1))
 
 -- far below what 64 bits hold
 pub file-fits : (p : Word) → 1 ≤ length p → length p < 65535 → length (spell p) < 1000000

@@ -1,13 +1,15 @@
 -- THE FILE OF A WORD: edition, m, the m letters, the number of extra arrows, then each arrow as two numbers. Nothing follows. The set of
--- files is what `spell` makes of the words within the limit; no loader is asked.
+-- files is what `spell` makes of the words within the limits; no loader is asked.
 --
 --   edition           the edition's number
 --   Step              an arrow as the file has it: its source less the previous one's, its target less its source less 2
 --   stepsFrom s l     the arrows l as steps, s being the source before the first
 --   spellSteps l      their spelling
 --   ownSteps p        the steps of a word's own extra arrows, in the file's order
+--   body p            everything behind the edition
 --   spell p           the file of p
---   Saved f           f is the file of some word within the limit
+--   Savable p         p is a word of bytes within the limits: one that has a file
+--   Saved f           f is the file of such a word
 --
 -- 01, 'The file on disk'; demand 3.
 use mathlib.Core.Path.{_≡_}
@@ -15,7 +17,7 @@ use mathlib.Core.List.{List, [], _∷_, _++_}
 use Prim.Native.Nat.{ℕ, _-_, _≤_}
 use lib.ListN.{length}
 use Rattle.words.specs.Words.{Word}
-use Rattle.words.specs.Limits.{longestWord}
+use Rattle.words.specs.Limits.{leastSaved, longestWord}
 use Rattle.oracle.specs.Arrows.{State}
 use Rattle.oracle.specs.FileOrder.{Extra, fileArrows}
 use Rattle.number.specs.Number.{Bytes, spellNumber}
@@ -38,13 +40,18 @@ spellSteps (s ∷ l) = spellNumber (s .up) ++ (spellNumber (s .over) ++ spellSte
 unfoldable pub ownSteps : Word → List Step
 ownSteps p = stepsFrom 0 (fileArrows p)
 
-unfoldable pub spell : Word → List ℕ
-spell p = spellNumber edition ++ (spellNumber (length p) ++ (p ++ (spellNumber (length (ownSteps p)) ++ spellSteps (ownSteps p))))
+unfoldable pub body : Word → List ℕ
+body p = spellNumber (length p) ++ (p ++ (spellNumber (length (ownSteps p)) ++ spellSteps (ownSteps p)))
 
--- a word of bytes, of 1 to the limit's letters
+unfoldable pub spell : Word → List ℕ
+spell p = spellNumber edition ++ body p
+
+pub record Savable (p : Word) : Type 0 where
+  pub bytes : Bytes p
+  pub least : leastSaved ≤ length p
+  pub most : length p ≤ longestWord
+
 pub record Saved (f : List ℕ) : Type 0 where
   pub word : Word
-  pub bytes : Bytes word
-  pub least : 1 ≤ length word
-  pub most : length word ≤ longestWord
+  pub savable : Savable word
   pub file : f ≡ spell word

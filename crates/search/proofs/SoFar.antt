@@ -10,8 +10,8 @@ use lib.ListN.{length, length-append}
 use Rattle.words.specs.Words.{Word, Place}
 use Rattle.words.specs.declared.Place.{Place as Placed}
 use Rattle.oracle.specs.Arrows.{Delta}
-use Rattle.backward.specs.Steps.{Searched, readDown, afterFind, windows, steps}
-use Rattle.backward.proofs.Reading.{Failed as FailedAt, failed-place, whole-letters}
+use Rattle.backward.specs.Steps.{Sweep as Searched, readDown, afterFind, windows, steps}
+use Rattle.backward.proofs.Reading.{FailedAt, failed-place, whole-letters}
 use Rattle.backward.proofs.AfterFind.{after-moves, after-most}
 use Rattle.backward.proofs.Windows.{next, with-window, next-moves, windows-past, windows-one, windows-enough, steps-letters}
 use Rattle.search.specs.declared.WindowRead.{WindowRead}

@@ -10,7 +10,7 @@ use Rattle.words.specs.Words.{Place}
 use Rattle.search.specs.declared.WindowRead.{WindowRead}
 use Rattle.search.specs.declared.WindowRead.the-variants.{Failed, Whole}
 use Rattle.finds.specs.declared.Tally.{Tally}
-use Rattle.backward.specs.Steps.{Reading, Searched}
+use Rattle.backward.specs.Steps.{Reading, Sweep as Searched}
 
 abbrev pub failedAt : Option Place → WindowRead
 failedAt none = Whole

@@ -10,7 +10,7 @@ use borrow.Rule.Slice.PartMut.{putMid}
 use Rattle.words.specs.Lists.{at}
 use Rattle.words.specs.Words.{Word, letter}
 use Rattle.chains.specs.Letters.{Blank, wordIn}
-use Rattle.table.proofs.Rows.{padded}
+use Rattle.words.proofs.Loops.{padded}
 
 -- Z is the table of k entries, cleared, and the part that is lent comes back as r
 module _ {Z r : List ℕ} {p : Word} {m k : ℕ} (size : k ≡ 6 * (m + 1)) (cleared : Z ≡ replicate k 0) (put : r ≡ p) (many : length p ≡ m) where

@@ -19,7 +19,8 @@ use Rattle.oracle.specs.FileOrder.{targetsBefore}
 use Rattle.chains.specs.Letters.{Blank, wordIn, ChainsOf}
 use Rattle.table.specs.Table.{tableOf}
 use Rattle.table.specs.Layout.{Laid}
-use Rattle.table.proofs.Rows.{zeros-at, from-ext}
+use Rattle.words.proofs.Loops.{zeros-at}
+use Rattle.table.proofs.Rows.{from-ext}
 
 -- ── Row by row ─────────────────────────────────────────────────────────────
 

@@ -12,6 +12,8 @@ use lib.Seq.{getD-append-add, getD-take, ext-getD}
 use Rattle.words.specs.Lists.{at, from}
 use Rattle.words.specs.Words.{Word, letter}
 use Rattle.words.proofs.Lists.{from-length, map-from-at}
+use Rattle.words.proofs.Loops.{padded}
+pub use Rattle.words.proofs.Loops.{zeros-at}
 use Rattle.oracle.specs.Arrows.{State, Delta}
 use Rattle.oracle.specs.FileOrder.{targetsBefore}
 use Rattle.oracle.proofs.FileOrder.{before-room, before-at}
@@ -21,18 +23,6 @@ use Rattle.table.specs.Table.{room, tableFrom}
 
 behind : (a b : List ℕ) (n i : ℕ) → length a ≡ n → getD (a ++ b) (n + i) 0 ≡ getD b i 0
 behind a b n i e = rw (← e) (getD-append-add a b i 0)
-
--- a list of zeros has no other entry
-pub zeros-at : (n i : ℕ) → at (replicate n 0) i ≡ 0
-zeros-at zero i = refl
-zeros-at (suc n) zero = refl
-zeros-at (suc n) (suc i) = zeros-at n i
-
--- zeros behind a list change no entry: what is not there is looked up as 0
-pub padded : (l : List ℕ) (n i : ℕ) → getD (l ++ replicate n 0) i 0 ≡ getD l i 0
-padded [] n i = zeros-at n i
-padded (a ∷ l) n zero = refl
-padded (a ∷ l) n (suc i) = padded l n i
 
 -- ── The entries of a table ─────────────────────────────────────────────────
 

@@ -1,30 +1,75 @@
--- Laws of `from`, `only` and `first`: what is in such a list, and in which order.
-use mathlib.Core.Path.{_≡_, refl, ap, _∙_}
-use mathlib.Core.Bool.{Bool, true, false, cond, _&&_}
+-- Laws of lists in general, of `from`, `only` and `first`, and of lists that rise: what is in such a list, where, and in which order. Each
+-- goes by induction on the list or on how many numbers `from` has; where a test decides, by its two cases.
+use mathlib.Core.Path.{_≡_, refl, sym, ap, _∙_}
+use mathlib.Core.Bool.{Bool, true, false, _&&_}
+use mathlib.Core.Logic.{⊎-elim, by-cases}
 use mathlib.Core.Option.{Option, none, some}
-use mathlib.Core.List.{List, [], _∷_, _++_, map, List·Memᴰ, List·Memᴰ·head, List·Memᴰ·tail}
-use Prim.Native.Nat.{ℕ, zero, suc, _+_, _≤_, _<_}
-use native.Mathlib.Nat.{le-refl, add-zero}
+use mathlib.Core.List.{List, [], _∷_, _++_, map, List·Memᴰ, List·Memᴰ·head, List·Memᴰ·tail, List·Memᴰ·cases-cons}
+use Prim.Native.Nat.{ℕ, zero, suc, _+_, _-_, _≤_, _<_}
+use native.Mathlib.Nat.{le-refl, add-zero, add-suc, suc-add, sub-zero, zero-sub, suc-sub-suc}
 use native.Mathlib.Decide.{ℕ-discrete}
 use native.Mathlib.Omega.{arith}
-use lib.ListN.{length, getD}
-use Rattle.words.specs.Lists.{from, only, first}
+use lib.ListN.{length, getD, List·getD-map}
+use lib.Seq.{getD-append-add}
+use Rattle.words.specs.Lists.{at, from, only, first, Rising, end, up}
 
 -- ── Tests ──────────────────────────────────────────────────────────────────
 
 pub and-true : {a b : Bool} → a && b ≡ true → (a ≡ true) × (b ≡ true)
 and-true {a = true} e = (refl, e)
-and-true {a = false} e = absurd (never e)
-  where
-    never : {X : Type 0} → _≡_ {A = Bool} false true → X
-    never h = let z : _≡_ {A = ℕ} 0 1 = cc in absurd (omega arith)
+and-true {a = false} e = (e, cc)
+
+pub test-cases : {C : Type 0} (b : Bool) → (b ≡ true → C) → (b ≡ false → C) → C
+test-cases true f g = f refl
+test-cases false f g = g refl
+
+-- ── Members and entries ────────────────────────────────────────────────────
+
+module _ {A : Type 0} where
+  -- a list that has something has a member
+  pub member : (l : List A) → 1 ≤ length l → (a : A) × List·Memᴰ a l
+  member [] h = absurd (omega arith)
+  member (a ∷ l) h = (a, List·Memᴰ·head refl)
+
+  pub not-empty : {a : A} {l : List A} → List·Memᴰ a l → 1 ≤ length l
+  not-empty (List·Memᴰ·head e) = omega arith
+  not-empty (List·Memᴰ·tail m) = omega arith
+
+  pub entry-in : (l : List A) (i : ℕ) (d : A) → i < length l → List·Memᴰ (getD l i d) l
+  entry-in [] i d h = absurd (omega arith)
+  entry-in (a ∷ l) zero d h = List·Memᴰ·head refl
+  entry-in (a ∷ l) (suc i) d h = List·Memᴰ·tail (entry-in l i d (omega arith))
+
+  -- what has a first has a last
+  pub last-of : (a : A) (l : List A) → (k : List A) × (z : A) × (a ∷ l ≡ k ++ (z ∷ []))
+  last-of a [] = ([], a, refl)
+  last-of a (b ∷ l) = let r = last-of b l in (a ∷ r .0, r .1, ap {B = List A} (λ k. a ∷ k) (r .2))
+
+-- what bounds every member bounds what is looked up, within the list or not
+pub entry-below : {b : ℕ} (l : List ℕ) (i : ℕ) → ((y : ℕ) → List·Memᴰ y l → y ≤ b) → at l i ≤ b
+entry-below [] i f = omega arith
+entry-below (y ∷ l) zero f = f y (List·Memᴰ·head refl)
+entry-below (y ∷ l) (suc i) f = entry-below l i (λ z m. f z (List·Memᴰ·tail m))
+
+-- a list and its images, behind equally many: entry s of the one is the image of entry s of the other
+pub map-behind : {A B : Type 0} (f : A → B) (d : A) (E : List B) (T l : List A) (s : ℕ) → length E ≡ length T → length T ≤ s
+    → getD (E ++ map f l) s (f d) ≡ f (getD (T ++ l) s d)
+map-behind f d E T l s e h =
+    let i = s - length T in
+    let p : length E + i ≡ s = omega arith in
+    let q : length T + i ≡ s = omega arith in
+    (rw p at (getD-append-add E (map f l) i (f d)))
+    ∙ List·getD-map f l i d
+    ∙ ap f (sym (rw q at (getD-append-add T l i d)))
 
 -- ── from ───────────────────────────────────────────────────────────────────
 
 pub from-snoc : (a k : ℕ) → from a (suc k) ≡ from a k ++ ((a + k) ∷ [])
 unfolding from
 from-snoc a zero = rw (add-zero a)
-from-snoc a (suc k) = let e : suc a + k ≡ a + suc k = omega arith in ap {B = List ℕ} (λ l. a ∷ l) (from-snoc (suc a) k ∙ rw e)
+from-snoc a (suc k) =
+    let e : suc a + k ≡ a + suc k = omega arith in
+    ap {B = List ℕ} (λ l. a ∷ l) (from-snoc (suc a) k ∙ rw e)
 
 pub from-length : (a k : ℕ) → length (from a k) ≡ k
 unfolding from
@@ -36,7 +81,9 @@ pub map-from-at : (f : ℕ → ℕ) (a k i d : ℕ) → i < k → getD (map f (f
 unfolding from
 map-from-at f a zero i d h = absurd (omega arith)
 map-from-at f a (suc k) zero d h = rw (add-zero a)
-map-from-at f a (suc k) (suc i) d h = let e : suc a + i ≡ a + suc i = omega arith in map-from-at f (suc a) k i d (omega arith) ∙ ap f e
+map-from-at f a (suc k) (suc i) d h =
+    let e : suc a + i ≡ a + suc i = omega arith in
+    map-from-at f (suc a) k i d (omega arith) ∙ ap f e
 
 pub from-in : (a k : ℕ) {j : ℕ} → List·Memᴰ j (from a k) → (a ≤ j) × (j < a + k)
 unfolding from
@@ -47,11 +94,8 @@ from-in a (suc k) (List·Memᴰ·tail m) = let r = from-in (suc a) k m in (omega
 pub in-from : (a k j : ℕ) → a ≤ j → j < a + k → List·Memᴰ j (from a k)
 unfolding from
 in-from a zero j h l = absurd (omega arith)
-in-from a (suc k) j h l = by (ℕ-discrete j a) (in-from (suc a) k j)
-  where
-    by : Dec (j ≡ a) → (suc a ≤ j → j < suc a + k → List·Memᴰ j (from (suc a) k)) → List·Memᴰ j (from a (suc k))
-    by (yes e) rec = List·Memᴰ·head e
-    by (no e) rec = List·Memᴰ·tail (rec (omega arith) (omega arith))
+in-from a (suc k) j h l =
+    by-cases (ℕ-discrete j a) (λ e. List·Memᴰ·head e) (λ e. List·Memᴰ·tail (in-from (suc a) k j (omega arith) (omega arith)))
 
 -- ── only ───────────────────────────────────────────────────────────────────
 
@@ -67,46 +111,38 @@ module _ {A : Type 0} (P : A → Bool) where
   pub only-append : (l r : List A) → only P (l ++ r) ≡ only P l ++ only P r
   unfolding only
   only-append [] r = refl
-  only-append (a ∷ l) r = by (P a) refl (only-append l r)
-    where
-      by : (b : Bool) → P a ≡ b → only P (l ++ r) ≡ only P l ++ only P r → only P (a ∷ l ++ r) ≡ only P (a ∷ l) ++ only P r
-      by true e rec = rw (only-yes a (l ++ r) e, only-yes a l e, rec)
-      by false e rec = rw (only-not a (l ++ r) e, only-not a l e, rec)
+  only-append (a ∷ l) r = test-cases (P a) (λ e. rw (e, only-append l r)) (λ e. rw (e, only-append l r))
 
   pub only-in : (l : List A) {a : A} → List·Memᴰ a (only P l) → List·Memᴰ a l × (P a ≡ true)
   unfolding only
   only-in [] m = absurd (elim m [ ])
-  only-in (x ∷ l) {a} m = by (P x) refl m (only-in l)
-    where
-      by : (b : Bool) → P x ≡ b → List·Memᴰ a (cond b (x ∷ only P l) (only P l)) → (List·Memᴰ a (only P l) → List·Memᴰ a l × (P a ≡ true))
-          → List·Memᴰ a (x ∷ l) × (P a ≡ true)
-      by true e (List·Memᴰ·head q) rec = (List·Memᴰ·head q, rw q e)
-      by true e (List·Memᴰ·tail n) rec = let r = rec n in (List·Memᴰ·tail (r .0), r .1)
-      by false e n rec = let r = rec n in (List·Memᴰ·tail (r .0), r .1)
+  only-in (x ∷ l) {a} m =
+      let later : List·Memᴰ a (only P l) → List·Memᴰ a (x ∷ l) × (P a ≡ true) = λ n. let r = only-in l n in (List·Memᴰ·tail (r .0), r .1) in
+      test-cases (P x)
+      (λ e. ⊎-elim (λ q. (List·Memᴰ·head q, rw q e)) later (List·Memᴰ·cases-cons (rw e at m)))
+      (λ e. later (rw e at m))
 
   pub in-only : (l : List A) {a : A} → List·Memᴰ a l → P a ≡ true → List·Memᴰ a (only P l)
   unfolding only
   in-only (x ∷ l) (List·Memᴰ·head q) e = rw (only-yes x l (rw q at e)) (List·Memᴰ·head q)
-  in-only (x ∷ l) {a} (List·Memᴰ·tail m) e = by (P x) (in-only l m e)
-    where
-      by : (b : Bool) → List·Memᴰ a (only P l) → List·Memᴰ a (cond b (x ∷ only P l) (only P l))
-      by true n = List·Memᴰ·tail n
-      by false n = n
+  in-only (x ∷ l) (List·Memᴰ·tail m) e = test-cases (P x) (λ f. rw f (List·Memᴰ·tail (in-only l m e))) (λ f. rw f (in-only l m e))
 
--- where no number passes, nothing is listed
-pub only-none : (P : ℕ → Bool) (a k : ℕ) → ((j : ℕ) → a ≤ j → j < a + k → P j ≡ false) → only P (from a k) ≡ []
-unfolding from only
-only-none P a zero f = refl
-only-none P a (suc k) f = rw (f a (le-refl a) (omega arith)) (only-none P (suc a) k (λ j h l. f j (omega arith) (omega arith)))
+-- ── only of from ───────────────────────────────────────────────────────────
 
--- a list that has something has a member
-pub member : {A : Type 0} (l : List A) → 1 ≤ length l → (a : A) × List·Memᴰ a l
-member [] h = absurd (omega arith)
-member (a ∷ l) h = (a, List·Memᴰ·head refl)
+module _ (P : ℕ → Bool) where
+  -- the first d numbers may be left out where they fail the test
+  pub only-later : (d s k : ℕ) → ((j : ℕ) → s ≤ j → j < s + d → P j ≡ false) → only P (from s k) ≡ only P (from (s + d) (k - d))
+  unfolding from
+  only-later zero s k f = rw (add-zero, sub-zero)
+  only-later (suc d) s zero f = rw (zero-sub (suc d))
+  only-later (suc d) s (suc k) f =
+      only-not P s (from (suc s) k) (f s (le-refl s) (omega arith))
+      ∙ rw (add-suc, ← suc-add, suc-sub-suc) (only-later d (suc s) k (λ j l u. f j (omega arith) (omega arith)))
 
-pub filled : {A : Type 0} {a : A} {l : List A} → List·Memᴰ a l → 1 ≤ length l
-filled (List·Memᴰ·head e) = omega arith
-filled (List·Memᴰ·tail m) = omega arith
+  -- where no number passes, nothing is listed
+  pub only-none : (a k : ℕ) → ((j : ℕ) → a ≤ j → j < a + k → P j ≡ false) → only P (from a k) ≡ []
+  unfolding from only
+  only-none a k f = let e : k - k ≡ 0 = omega arith in only-later k a k f ∙ rw e
 
 -- ── first ──────────────────────────────────────────────────────────────────
 
@@ -126,25 +162,19 @@ module _ {A : Type 0} (P : A → Bool) where
   first-none (a ∷ l) f = first-not a l (f a (List·Memᴰ·head refl)) ∙ first-none l (λ b m. f b (List·Memᴰ·tail m))
 
   -- the only one that passes is the first
-  pub first-only : (l : List A) {a : A} → List·Memᴰ a l → P a ≡ true → ((b : A) → List·Memᴰ b l → P b ≡ true → b ≡ a) → first P l ≡ some a
+  pub first-only : (l : List A) {a : A} → List·Memᴰ a l → P a ≡ true → ((b : A) → List·Memᴰ b l → P b ≡ true → b ≡ a)
+      → first P l ≡ some a
   unfolding first
   first-only (b ∷ l) (List·Memᴰ·head q) e f = rw q (first-yes b l (rw q at e))
-  first-only (b ∷ l) {a} (List·Memᴰ·tail m) e f = by (P b) refl (first-only l m e (λ d n. f d (List·Memᴰ·tail n)))
-    where
-      by : (t : Bool) → P b ≡ t → first P l ≡ some a → first P (b ∷ l) ≡ some a
-      by true g rec = first-yes b l g ∙ ap {B = Option A} some (f b (List·Memᴰ·head refl) g)
-      by false g rec = first-not b l g ∙ rec
+  first-only (b ∷ l) (List·Memᴰ·tail m) e f = test-cases (P b)
+      (λ g. first-yes b l g ∙ ap {B = Option A} some (f b (List·Memᴰ·head refl) g))
+      (λ g. first-not b l g ∙ first-only l m e (λ d n. f d (List·Memᴰ·tail n)))
 
--- ── Rising lists ───────────────────────────────────────────────────────────
+-- ── Lists that rise ────────────────────────────────────────────────────────
 
--- each number is at least a and above the one before it
-pub data Rising : ℕ → List ℕ → Type 0 where
-  end : {a : ℕ} → Rising a []
-  up : {a x : ℕ} {l : List ℕ} → a ≤ x → Rising (suc x) l → Rising a (x ∷ l)
-
-lower : {a b : ℕ} {l : List ℕ} → a ≤ b → Rising b l → Rising a l
-lower h end = end
-lower {a} h (up {x = x} g r) = let k : a ≤ x = omega arith in up k r
+rising-lower : {a b : ℕ} {l : List ℕ} → a ≤ b → Rising b l → Rising a l
+rising-lower h end = end
+rising-lower {a} h (up {x = x} g r) = let k : a ≤ x = omega arith in up k r
 
 -- nothing is below the bound
 pub rising-above : {a y : ℕ} {l : List ℕ} → Rising a l → List·Memᴰ y l → a ≤ y
@@ -154,8 +184,6 @@ rising-above (up g r) (List·Memᴰ·tail m) = omega (arith, rising-above r m)
 pub rising-from : (P : ℕ → Bool) (a k : ℕ) → Rising a (only P (from a k))
 unfolding from only
 rising-from P a zero = end
-rising-from P a (suc k) = by (P a) (rising-from P (suc a) k)
-  where
-    by : (b : Bool) → Rising (suc a) (only P (from (suc a) k)) → Rising a (cond b (a ∷ only P (from (suc a) k)) (only P (from (suc a) k)))
-    by true r = up (le-refl a) r
-    by false r = lower (omega arith) r
+rising-from P a (suc k) = test-cases (P a)
+    (λ e. rw e (up (le-refl a) (rising-from P (suc a) k)))
+    (λ e. rw e (rising-lower (omega arith) (rising-from P (suc a) k)))

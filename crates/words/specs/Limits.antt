@@ -1,9 +1,11 @@
 -- The numbers that a later edition may change. Proofs rest on laws about these names, and not on their values.
 --
---   longestWord    the greatest number of letters of a word
---   longestText    the greatest number of letters of a text
+--   longestWord     the greatest number of letters of a word
+--   longestText     the greatest number of letters of a text
+--   leastSaved      the least number of letters of a word that is saved
+--   greatestFile    so many bytes are always room enough for a file
 --
--- 01, 'What the base holds'.
+-- 01, 'What the base holds' and 'The file on disk'.
 use Prim.Native.Nat.{ℕ}
 
 unfoldable pub longestWord : ℕ
@@ -11,3 +13,9 @@ longestWord = 1024
 
 unfoldable pub longestText : ℕ
 longestText = 16777216
+
+unfoldable pub leastSaved : ℕ
+leastSaved = 1
+
+unfoldable pub greatestFile : ℕ
+greatestFile = 5121

@@ -1,142 +1,125 @@
--- `chains::climb` meets its contract. Its measure is the state where it stands.
-use mathlib.Core.Path.{refl, _∙_}
-use Rattle.chains.specs.Letters.{finds, no-step}
-use Rattle.chains.proofs.Climbing.{supply-told, supply-untold, ready-slot, ready-state, ready-again, zero-again, says-again, climb-out}
+-- `chains::climb` meets its contract. Behind the push the walk is at a smaller state, k's supply, and what holds there holds from k on:
+-- `climb-found`, `climb-rests`, and `says-on` for what the call below answers. The measure is the state itself.
 use native.Mathlib.Omega.{arith}
 use borrow.Author.Needs.{needs}
 use Prim.Native.Nat.{ℕ, _<_}
 use borrow.Fn.Kinds.{In}
 use borrow.Fn.PlainCycle.{Measures, is, falls, and}
+use Rattle.chains.proofs.Climbing.{ready-again, zero-again, climb-out, climb-found, climb-rests, says-on}
 use Rattle.chains.proofs.climb.Reads as climb
 use Rattle.chains.proofs.climb.Kinds as climb-kinds
-use Rattle.chains.proofs.+climb.Lts-climb as climb-lts
-use Rattle.chains.proofs.look.Reads as look-reads
-use Rattle.chains.proofs.push.Reads as push-reads
-use Rattle.chains.proofs.supply_at.Reads as supply-at-reads
+use Rattle.chains.proofs.+climb.Lts-climb as lts
+use Rattle.chains.proofs.look.Reads as look
+use Rattle.chains.proofs.push.Reads as push
+use Rattle.chains.proofs.supply_at.Reads as supply-at
 use Rattle.chains.proofs.+climb.{statement}
 use Rattle.chains.proofs.+climb.Tie.{close}
 
 abbrev μ-climb : Measures 1 climb-kinds.ps ℕ
 μ-climb κs a = a .1 .1 .1 .1 .1 .1 .0 .0
 
-abbrev climb-at : ℕ → In 1 climb-kinds.ps
-climb-at t = and 1 climb-kinds.ps (is 1 climb-kinds.ps μ-climb t) climb.Pre
+-- asked of a climb at state x, and of the call below it
+abbrev At : ℕ → In 1 climb-kinds.ps
+At x = and 1 climb-kinds.ps (is 1 climb-kinds.ps μ-climb x) climb.Pre
 
-abbrev climb-below : ℕ → In 1 climb-kinds.ps
-climb-below t = and 1 climb-kinds.ps (falls 1 climb-kinds.ps _<_ μ-climb t) climb.Pre
+abbrev Below : ℕ → In 1 climb-kinds.ps
+Below x = and 1 climb-kinds.ps (falls 1 climb-kinds.ps _<_ μ-climb x) climb.Pre
 
--- what is claimed of the functions that it calls, of itself for smaller states only
-abbrev climb-claims : ℕ → climb-lts.Claims
-climb-claims t = (look-reads.Asked, look-reads.Learnt, supply-at-reads.Asked, supply-at-reads.Learnt, push-reads.Asked, push-reads.Learnt, climb-below t, climb.Post)
+abbrev Claims : ℕ → lts.Claims
+Claims x = (supply-at.Asked, supply-at.Learnt, push.Asked, push.Learnt, look.Asked, look.Learnt, Below x, climb.Post)
 
-climb-returns : (t : ℕ) → climb-lts.Need-returns (climb-claims t) (climb-at t) climb.Post
-climb-returns t c = no-step (c .if1 .taken) refl refl refl
+module _ (x : ℕ) where
+  -- the suffix path ends at k
+  returns : lts.Need-returns (Claims x) (At x) climb.Post
+  returns c =
+      let at-push = c .before .before .before .before in
+      let at-supply-at = at-push .before .before .before in
+      let K = at-supply-at .before .before .before .pre .1 .1 in
+      climb-out K (at-push .push .ensures) (at-supply-at .supply-at .ensures) (c .enum-told .given .1)
 
-climb-look-requires : (t : ℕ) → climb-lts.Need-look-requires (climb-claims t) (climb-at t) climb.Post
-climb-look-requires t c κs = search needs
+  look-requires : lts.Need-look-requires (Claims x) (At x) climb.Post
+  look-requires c κs =
+      let at-next = c .before .before in
+      let at-push = at-next .before .before .before .before in
+      let at-supply-at = at-push .before .before .before in
+      let at-start = at-supply-at .before .before .before in
+      let K = at-start .pre .1 .1 in
+      let R = ready-again K (at-push .push .ensures) (at-supply-at .supply-at .ensures) (at-next .next .given .1) in
+      let Z = zero-again K (at-push .push .ensures) (at-supply-at .supply-at .ensures) (at-next .next .given .1) in
+      ((at-start .pre .1 .0, omega (arith, R .inside), R .below), (R .chained, Z))
 
-climb-enum-known-found : (t : ℕ) → climb-lts.Need-enum-known-found (climb-claims t) (climb-at t) climb.Post
-climb-enum-known-found t c = search needs
+  -- the supply has no arrow: the walk rests there ..
+  returns-2 : lts.Need-returns-2 (Claims x) (At x) climb.Post
+  returns-2 c =
+      let at-told = c .before in
+      let at-look = at-told .before .before in
+      let at-next = at-look .before .before .before in
+      let at-push = at-next .before .before .before .before in
+      let at-supply-at = at-push .before .before .before in
+      let K = at-supply-at .before .before .before .pre .1 .1 in
+      climb-rests K (at-push .push .ensures) (at-supply-at .supply-at .ensures) (at-next .next .given .1)
+      (at-look .look .ensures) (at-told .enum-told2 .given .1)
 
-climb-enum-told : (t : ℕ) → climb-lts.Need-enum-told (climb-claims t) (climb-at t) climb.Post
-climb-enum-told t c = search needs
+  -- .. or goes on
+  climb-requires : lts.Need-climb-requires (Claims x) (At x) climb.Post
+  climb-requires c κs =
+      let at-told = c .before .before in
+      let at-look = at-told .before .before in
+      let at-next = at-look .before .before .before in
+      let at-push = at-next .before .before .before .before in
+      let at-supply-at = at-push .before .before .before in
+      let at-start = at-supply-at .before .before .before in
+      let R = climb-rests (at-start .pre .1 .1) (at-push .push .ensures) (at-supply-at .supply-at .ensures) (at-next .next .given .1)
+      (at-look .look .ensures) (at-told .enum-told2 .given .1) in
+      (omega (arith, at-start .pre .0, R .0), (at-start .pre .1 .0, R .1 .there))
 
-climb-supply-at-requires : (t : ℕ) → climb-lts.Need-supply-at-requires (climb-claims t) (climb-at t) climb.Post
-climb-supply-at-requires t c κs = search needs
+  returns-3 : lts.Need-returns-3 (Claims x) (At x) climb.Post
+  returns-3 c =
+      let at-climb = c .before .before in
+      let at-told = at-climb .before .before .before in
+      let at-look = at-told .before .before in
+      let at-next = at-look .before .before .before in
+      let at-push = at-next .before .before .before .before in
+      let at-supply-at = at-push .before .before .before in
+      let K = at-supply-at .before .before .before .pre .1 .1 in
+      let R = climb-rests K (at-push .push .ensures) (at-supply-at .supply-at .ensures) (at-next .next .given .1)
+      (at-look .look .ensures) (at-told .enum-told2 .given .1) in
+      says-on R _ (at-climb .climb .result) (at-climb .climb .ensures)
 
-climb-add-t21 : (t : ℕ) → climb-lts.Need-add-t21 (climb-claims t) (climb-at t) climb.Post
-climb-add-t21 t c = search needs
-
-climb-cast-t22 : (t : ℕ) → climb-lts.Need-cast-t22 (climb-claims t) (climb-at t) climb.Post
-climb-cast-t22 t c = search needs
-
-climb-push-requires : (t : ℕ) → climb-lts.Need-push-requires (climb-claims t) (climb-at t) climb.Post
-climb-push-requires t c κs = search needs
-
-climb-enum-known-next : (t : ℕ) → climb-lts.Need-enum-known-next (climb-claims t) (climb-at t) climb.Post
-climb-enum-known-next t c = search needs
-
-climb-enum-told-2 : (t : ℕ) → climb-lts.Need-enum-told-2 (climb-claims t) (climb-at t) climb.Post
-climb-enum-told-2 t c = search needs
-
-climb-add-t24 : (t : ℕ) → climb-lts.Need-add-t24 (climb-claims t) (climb-at t) climb.Post
-climb-add-t24 t c = search needs
-
-climb-same-length : (t : ℕ) → climb-lts.Need-same-length (climb-claims t) (climb-at t) climb.Post
-climb-same-length t c = search needs
-
-climb-returns-2 : (t : ℕ) → climb-lts.Need-returns-2 (climb-claims t) (climb-at t) climb.Post
-climb-returns-2 t c =
-    let at-push = c .before .before .before .before in
-    let at-supply-at = at-push .before .before in
-    let at-enum-told = at-supply-at .before .before in
-    let at-look = at-enum-told .before .before in
-    let at-start = at-look .before .before .before .before in
-    climb-out (at-push .push .ensures) (supply-untold (at-start .args .table .now) (at-start .args .n) (at-start .args .k .0) _ (at-supply-at .supply-at .ensures) (c .enum-told2 .given .1)) (rw (at-enum-told .enum-told .given .1) at (at-look .look .ensures))
-
-climb-add-climb : (t : ℕ) → climb-lts.Need-add-climb (climb-claims t) (climb-at t) climb.Post
-climb-add-climb t c = search needs
-
-climb-sub-climb : (t : ℕ) → climb-lts.Need-sub-climb (climb-claims t) (climb-at t) climb.Post
-climb-sub-climb t c = search needs
-
-climb-climb-requires : (t : ℕ) → climb-lts.Need-climb-requires (climb-claims t) (climb-at t) climb.Post
-climb-climb-requires t c κs =
-    let at-next = c .before .before in
-    let at-push = at-next .before .before .before .before in
-    let at-supply-at = at-push .before .before in
-    let at-start = at-supply-at .before .before .before .before .before .before .before .before in
-    let R = at-start .pre .1 .1 .0 in
-    let s = supply-told (at-start .args .table .now) (at-start .args .n) (at-start .args .k .0) _ (at-supply-at .supply-at .ensures) _ (at-next .next .given .1) in
-    (omega (arith, at-start .pre .0, s .0, s .1, R .down (at-start .args .k .0) (omega (arith, R .below))), (at-start .pre .1 .0, (ready-again (at-push .push .ensures) R (s .0) (s .1), zero-again (at-push .push .ensures) R (s .0) (at-start .pre .1 .1 .1))))
-
-climb-same-length-2 : (t : ℕ) → climb-lts.Need-same-length-2 (climb-claims t) (climb-at t) climb.Post
-climb-same-length-2 t c = search needs
-
-climb-returns-3 : (t : ℕ) → climb-lts.Need-returns-3 (climb-claims t) (climb-at t) climb.Post
-climb-returns-3 t c =
-    let at-climb = c .before .before in
-    let at-next = at-climb .before .before .before in
-    let at-push = at-next .before .before .before .before in
-    let at-supply-at = at-push .before .before in
-    let at-enum-told = at-supply-at .before .before in
-    let at-look = at-enum-told .before .before in
-    let at-if1 = at-look .before .before in
-    let at-start = at-if1 .before .before in
-    let s = supply-told (at-start .args .table .now) (at-start .args .n) (at-start .args .k .0) _ (at-supply-at .supply-at .ensures) _ (at-next .next .given .1) in
-    let missing = rw (at-enum-told .enum-told .given .1) at (at-look .look .ensures) in
-    says-again (at-start .args .n) (at-start .args .t) (at-start .args .c .0) (at-start .args .left) (at-start .args .table .now) (at-start .args .used) (at-start .args .k .0) _ (at-push .push .ensures) (s .0) (at-if1 .if1 .left) (s .1) missing (at-climb .climb .result) (at-climb .climb .ensures)
-
-climb-same-length-3 : (t : ℕ) → climb-lts.Need-same-length-3 (climb-claims t) (climb-at t) climb.Post
-climb-same-length-3 t c = search needs
-
-climb-returns-4 : (t : ℕ) → climb-lts.Need-returns-4 (climb-claims t) (climb-at t) climb.Post
-climb-returns-4 t c =
-    let at-found = c .before in
-    let at-look = at-found .before .before in
-    finds (rw (at-found .found .given .1) at (at-look .look .ensures)) refl refl
+  -- it has one
+  returns-4 : lts.Need-returns-4 (Claims x) (At x) climb.Post
+  returns-4 c =
+      let at-found = c .before in
+      let at-look = at-found .before .before in
+      let at-next = at-look .before .before .before in
+      let at-push = at-next .before .before .before .before in
+      let at-supply-at = at-push .before .before .before in
+      let K = at-supply-at .before .before .before .pre .1 .1 in
+      climb-found K (at-push .push .ensures) (at-supply-at .supply-at .ensures) (at-next .next .given .1)
+      (at-look .look .ensures) (at-found .found .given .1)
 
 pub +climb-spec : {M : Type 1} → statement M
-+climb-spec = close μ-climb λ t. climb-lts.spec (climb-claims t)
-    (climb-at t)
++climb-spec = close μ-climb λ x. lts.spec (Claims x)
+    (At x)
     climb.Post
-    (climb-returns t)
-    (climb-look-requires t)
-    (climb-enum-known-found t)
-    (climb-enum-told t)
-    (climb-supply-at-requires t)
-    (climb-add-t21 t)
-    (climb-cast-t22 t)
-    (climb-push-requires t)
-    (climb-enum-known-next t)
-    (climb-enum-told-2 t)
-    (climb-add-t24 t)
-    (climb-same-length t)
-    (climb-returns-2 t)
-    (climb-add-climb t)
-    (climb-sub-climb t)
-    (climb-climb-requires t)
-    (climb-same-length-2 t)
-    (climb-returns-3 t)
-    (climb-same-length-3 t)
-    (climb-returns-4 t)
+    (λ c κs. search needs)
+    (λ c. search needs)
+    (λ c κs. search needs)
+    (λ c. search needs)
+    (λ c. search needs)
+    (λ c. search needs)
+    (λ c. search needs)
+    (λ c. search needs)
+    (returns x)
+    (look-requires x)
+    (λ c. search needs)
+    (λ c. search needs)
+    (λ c. search needs)
+    (returns-2 x)
+    (λ c. search needs)
+    (λ c. search needs)
+    (climb-requires x)
+    (λ c. search needs)
+    (returns-3 x)
+    (λ c. search needs)
+    (returns-4 x)

@@ -1,5 +1,5 @@
--- `loaded::compare_arrows` meets its contract: what `Comparing` says holds before each arrow, and each way out is what `arrowsAt` shows. The measure is how
--- many are left.
+-- `loaded::compare_arrows` meets its contract: what `Comparing` says holds before each arrow, and each way out is what `arrowsAt` shows.
+-- The measure is how many are left.
 use mathlib.Core.Path.{sym, ap, _∙_}
 use native.Mathlib.Omega.{arith}
 use borrow.Author.Tests.{not-true, not-false}
@@ -36,7 +36,8 @@ returns c =
     let at-read-two = at-two .before .before in
     let at-loop-test = at-read-two .before in
     let at-loop = at-loop-test .before in
-    shows-refused (at-loop .loop .inv) (at-loop-test .loop-test .taken) (sym (ap pairOf (at-two .two .given .1)) ∙ at-read-two .read-two .ensures)
+    let read = sym (ap pairOf (at-two .two .given .1)) ∙ at-read-two .read-two .ensures in
+    shows-refused (at-loop .loop .inv) (at-loop-test .loop-test .taken) read
 
 enum-known-two-2 : tie.Need-enum-known-two-2 Inv-loop μ-loop
 enum-known-two-2 c = search needs
@@ -64,7 +65,8 @@ returns-3 c =
     let at-loop-test = at-read-two .before in
     let at-loop = at-loop-test .before in
     let read = sym (ap pairOf (at-two2 .two2 .given .1)) ∙ at-read-two .read-two .ensures in
-    shows-other (at-loop .loop .inv) (at-loop-test .loop-test .taken) read (at-next-step .next-step .ensures) (not-true _ (c .if2 .taken))
+    let own = at-next-step .next-step .ensures in
+    shows-other (at-loop .loop .inv) (at-loop-test .loop-test .taken) read own (not-true _ (c .if2 .taken))
 
 sub-left : tie.Need-sub-left Inv-loop μ-loop
 sub-left c = search needs
@@ -84,7 +86,8 @@ loop-again c =
     let at-loop-test = at-read-two .before in
     let at-loop = at-loop-test .before in
     let read = sym (ap pairOf (at-two2 .two2 .given .1)) ∙ at-read-two .read-two .ensures in
-    compare-next (at-loop .loop .inv) (at-loop-test .loop-test .taken) read (at-next-step .next-step .ensures) (not-false _ (at-if2 .if2 .left))
+    let own = at-next-step .next-step .ensures in
+    compare-next (at-loop .loop .inv) (at-loop-test .loop-test .taken) read own (not-false _ (at-if2 .if2 .left))
 
 returns-4 : tie.Need-returns-4 Inv-loop μ-loop
 returns-4 c =

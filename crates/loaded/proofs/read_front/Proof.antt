@@ -2,8 +2,8 @@
 use mathlib.Core.Path.{sym, _∙_}
 use borrow.Author.Tests.{eq-eqb, ne-eqb}
 use borrow.Author.Needs.{needs}
+use Rattle.saved.proofs.Spelled.{edition-number}
 use Rattle.loaded.specs.Load.{frontAt}
-use Rattle.loaded.proofs.Fronts.{edition-number}
 use Rattle.loaded.proofs.read_front.Statement.{statement}
 use Rattle.loaded.proofs.read_front.Tie as tie
 
@@ -21,7 +21,8 @@ unfolding frontAt
 returns c =
     let at-first2 = c .before .before in
     let at-number-at = at-first2 .before .before in
-    simp (sym (at-number-at .number-at .ensures) ∙ at-first2 .first2 .given .1, edition-number, ne-eqb _ _ (c .if1 .taken))
+    let read = sym (at-number-at .number-at .ensures) ∙ at-first2 .first2 .given .1 in
+    simp (read, edition-number, ne-eqb _ _ (c .if1 .taken))
 
 read-letters-requires : tie.Need-read-letters-requires
 read-letters-requires c κs = search needs
@@ -39,7 +40,8 @@ returns-3 c =
     let at-if1 = c .before in
     let at-first2 = at-if1 .before .before in
     let at-number-at = at-first2 .before .before in
-    simp (sym (at-number-at .number-at .ensures) ∙ at-first2 .first2 .given .1, edition-number, eq-eqb _ _ (at-if1 .if1 .left)) (c .read-letters .ensures)
+    let read = sym (at-number-at .number-at .ensures) ∙ at-first2 .first2 .given .1 in
+    simp (read, edition-number, eq-eqb _ _ (at-if1 .if1 .left)) (c .read-letters .ensures)
 
 pub read-front-spec : {M : Type 1} → statement M
 read-front-spec =

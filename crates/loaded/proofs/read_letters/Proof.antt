@@ -1,10 +1,9 @@
 -- `loaded::read_letters` meets its contract: each way out is what `lettersAt` shows once the number of letters is read.
 use mathlib.Core.Path.{sym, _∙_}
-use native.Mathlib.Omega.{arith}
 use borrow.Author.Tests.{not-true, not-false}
 use borrow.Author.Needs.{needs}
-use Rattle.number.proofs.Theorems.{number-at-stood}
-use Rattle.number.specs.Number.{Bytes}
+use Rattle.words.proofs.Limits.{least-saved, word-limit}
+use Rattle.number.proofs.Theorems.{number-at-inside}
 use Rattle.loaded.proofs.Fronts.{shows-other-size, shows-cut, shows-letters}
 use Rattle.loaded.proofs.read_letters.Statement.{statement}
 use Rattle.loaded.proofs.read_letters.Tie as tie
@@ -25,24 +24,24 @@ returns : tie.Need-returns
 returns c =
     let at-declared2 = c .before .before in
     let at-number-at = at-declared2 .before .before in
-    shows-other-size _ _ (sym (at-number-at .number-at .ensures) ∙ at-declared2 .declared2 .given .1) (not-true _ (c .if1 .taken))
+    let read = sym (at-number-at .number-at .ensures) ∙ at-declared2 .declared2 .given .1 in
+    shows-other-size _ _ read (rw (least-saved, word-limit) (not-true _ (c .if1 .taken)))
 
 sub-if2 : tie.Need-sub-if2
 sub-if2 c =
     let at-declared2 = c .before .before .before in
     let at-number-at = at-declared2 .before .before in
-    let at-shared-slice-known = at-number-at .before in
-    let at-start = at-shared-slice-known .before in
-    let bytes : Bytes (at-start .args .file .now) = λ i. omega (arith, at-shared-slice-known .shared-slice-known .given i) in
+    let at-start = at-number-at .before .before in
     let read = sym (at-number-at .number-at .ensures) ∙ at-declared2 .declared2 .given .1 in
-    number-at-stood (at-start .args .file .now) (at-start .args .c .at) bytes read .inside
+    number-at-inside (at-start .args .file .now) (at-start .args .c .at) read .1
 
 returns-2 : tie.Need-returns-2
 returns-2 c =
     let at-if1 = c .before .before in
     let at-declared2 = at-if1 .before .before in
     let at-number-at = at-declared2 .before .before in
-    shows-cut _ _ (sym (at-number-at .number-at .ensures) ∙ at-declared2 .declared2 .given .1) (not-false _ (at-if1 .if1 .left)) (c .if2 .taken)
+    let read = sym (at-number-at .number-at .ensures) ∙ at-declared2 .declared2 .given .1 in
+    shows-cut _ _ read (rw (least-saved, word-limit) (not-false _ (at-if1 .if1 .left))) (c .if2 .taken)
 
 returns-3 : tie.Need-returns-3
 returns-3 c =
@@ -55,7 +54,8 @@ returns-4 c =
     let at-if1 = c .before .before in
     let at-declared2 = at-if1 .before .before in
     let at-number-at = at-declared2 .before .before in
-    shows-letters _ _ (sym (at-number-at .number-at .ensures) ∙ at-declared2 .declared2 .given .1) (not-false _ (at-if1 .if1 .left)) (c .if2 .left)
+    let read = sym (at-number-at .number-at .ensures) ∙ at-declared2 .declared2 .given .1 in
+    shows-letters _ _ read (rw (least-saved, word-limit) (not-false _ (at-if1 .if1 .left))) (c .if2 .left)
 
 pub read-letters-spec : {M : Type 1} → statement M
 read-letters-spec =

@@ -37,7 +37,8 @@ returns-2 c =
     let at-number-at2 = at-second .before .before in
     let at-first2 = at-number-at2 .before .before in
     let at-number-at = at-first2 .before .before in
-    simp (sym (at-number-at .number-at .ensures) ∙ at-first2 .first2 .given .1, sym (at-number-at2 .number-at2 .ensures) ∙ at-second .second .given .1)
+    let read = sym (at-number-at .number-at .ensures) ∙ at-first2 .first2 .given .1 in
+    simp (read, sym (at-number-at2 .number-at2 .ensures) ∙ at-second .second .given .1)
 
 returns-3 : tie.Need-returns-3
 unfolding twoAt
@@ -46,7 +47,8 @@ returns-3 c =
     let at-number-at2 = at-second2 .before .before in
     let at-first2 = at-number-at2 .before .before in
     let at-number-at = at-first2 .before .before in
-    simp (sym (at-number-at .number-at .ensures) ∙ at-first2 .first2 .given .1, sym (at-number-at2 .number-at2 .ensures) ∙ at-second2 .second2 .given .1)
+    let read = sym (at-number-at .number-at .ensures) ∙ at-first2 .first2 .given .1 in
+    simp (read, sym (at-number-at2 .number-at2 .ensures) ∙ at-second2 .second2 .given .1)
 
 pub read-two-spec : {M : Type 1} → statement M
 read-two-spec =

@@ -1,5 +1,5 @@
--- `number::read` meets its contract: what `Reading` says holds before each byte, and a byte that is refused, that ends the number or that the file lacks
--- gives the answer. The measure is what is left of the file.
+-- `number::read` meets its contract: what `Reading` says holds before each byte, and a byte that is refused, that ends the number or that
+-- the file lacks gives the answer. The measure is what is left of the file.
 use mathlib.Core.Path.{sym, _∙_}
 use Prim.Native.Nat.{_-_}
 use native.Mathlib.Omega.{arith}
@@ -42,14 +42,16 @@ mul-value c =
     let at-refuses = c .before in
     let at-loop-test = at-refuses .before .before .before in
     let at-loop = at-loop-test .before in
-    omega (arith, read-fits (at-loop .loop .inv) (at-loop-test .loop-test .taken) (sym (at-refuses .refuses .ensures) ∙ c .if1 .left))
+    let passed = sym (at-refuses .refuses .ensures) ∙ c .if1 .left in
+    omega (arith, read-fits (at-loop .loop .inv) (at-loop-test .loop-test .taken) passed)
 
 add-value : tie.Need-add-value Inv-loop μ-loop
 add-value c =
     let at-refuses = c .before in
     let at-loop-test = at-refuses .before .before .before in
     let at-loop = at-loop-test .before in
-    omega (arith, read-fits (at-loop .loop .inv) (at-loop-test .loop-test .taken) (sym (at-refuses .refuses .ensures) ∙ c .if1 .left))
+    let passed = sym (at-refuses .refuses .ensures) ∙ c .if1 .left in
+    omega (arith, read-fits (at-loop .loop .inv) (at-loop-test .loop-test .taken) passed)
 
 add-t14 : tie.Need-add-t14 Inv-loop μ-loop
 add-t14 c = search needs
@@ -60,7 +62,8 @@ returns-2 c =
     let at-refuses = at-if1 .before in
     let at-loop-test = at-refuses .before .before .before in
     let at-loop = at-loop-test .before in
-    read-last (at-loop .loop .inv) (at-loop-test .loop-test .taken) (sym (at-refuses .refuses .ensures) ∙ at-if1 .if1 .left) (c .if2 .taken)
+    let passed = sym (at-refuses .refuses .ensures) ∙ at-if1 .if1 .left in
+    read-last (at-loop .loop .inv) (at-loop-test .loop-test .taken) passed (c .if2 .taken)
 
 mul-unit : tie.Need-mul-unit Inv-loop μ-loop
 mul-unit c =
@@ -68,7 +71,8 @@ mul-unit c =
     let at-refuses = at-if1 .before in
     let at-loop-test = at-refuses .before .before .before in
     let at-loop = at-loop-test .before in
-    omega (arith, read-next (at-loop .loop .inv) (at-loop-test .loop-test .taken) (sym (at-refuses .refuses .ensures) ∙ at-if1 .if1 .left) (c .if2 .left) .0)
+    let passed = sym (at-refuses .refuses .ensures) ∙ at-if1 .if1 .left in
+    omega (arith, read-next (at-loop .loop .inv) (at-loop-test .loop-test .taken) passed (c .if2 .left) .0)
 
 add-at : tie.Need-add-at Inv-loop μ-loop
 add-at c = search needs
@@ -82,7 +86,8 @@ loop-again c =
     let at-refuses = at-if1 .before in
     let at-loop-test = at-refuses .before .before .before in
     let at-loop = at-loop-test .before in
-    read-next (at-loop .loop .inv) (at-loop-test .loop-test .taken) (sym (at-refuses .refuses .ensures) ∙ at-if1 .if1 .left) (c .if2 .left) .1
+    let passed = sym (at-refuses .refuses .ensures) ∙ at-if1 .if1 .left in
+    read-next (at-loop .loop .inv) (at-loop-test .loop-test .taken) passed (c .if2 .left) .1
 
 returns-3 : tie.Need-returns-3 Inv-loop μ-loop
 returns-3 c = read-end (c .before .loop .inv) (c .loop-test .left)

@@ -50,7 +50,8 @@ loop-holds c =
     let at-width = at-width2 .before in
     let at-arrow-count = at-width .before in
     let at-start = at-arrow-count .before .before .before in
-    size-start (at-start .pre .least) (at-width .width .ensures .0) (at-width2 .width2 .ensures .0) (at-arrow-count .arrow-count .ensures) (c .width3 .ensures .0)
+    size-start (at-start .pre .least) (at-width .width .ensures .0) (at-width2 .width2 .ensures .0)
+    (at-arrow-count .arrow-count .ensures) (c .width3 .ensures .0)
 
 next-step-requires : tie.Need-next-step-requires Inv-loop μ-loop
 next-step-requires c κs =

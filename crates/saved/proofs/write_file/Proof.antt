@@ -88,7 +88,8 @@ next-step-requires : tie.Need-next-step-requires Inv-loop μ-loop
 next-step-requires c κs =
     let at-loop = c .before in
     let at-write3 = at-loop .before .before .before in
-    let at-arrow-count = at-write3 .before .before .before .before .before .before .before .before .before .before .before .before .before .before in
+    let at-write = at-write3 .before .before .before .before .before .before .before .before .before .before .before .before in
+    let at-arrow-count = at-write .before .before in
     let at-start = at-arrow-count .before .before .before .before in
     (at-start .pre .0, (omega (arith, at-arrow-count .arrow-count .ensures), at-loop .loop .inv .stands))
 
@@ -109,7 +110,8 @@ add-slot : tie.Need-add-slot Inv-loop μ-loop
 add-slot c =
     let at-loop-test = c .before .before .before .before .before .before .before .before .before .before in
     let at-write3 = at-loop-test .before .before .before .before in
-    let at-arrow-count = at-write3 .before .before .before .before .before .before .before .before .before .before .before .before .before .before in
+    let at-write = at-write3 .before .before .before .before .before .before .before .before .before .before .before .before in
+    let at-arrow-count = at-write .before .before in
     let at-start = at-arrow-count .before .before .before .before in
     omega (arith, at-loop-test .loop-test .taken, at-arrow-count .arrow-count .ensures, own-few (at-start .args .word .now))
 

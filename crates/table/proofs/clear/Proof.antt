@@ -1,63 +1,26 @@
-use mathlib.Core.Path.{sym}
+-- `table::clear` meets its contract: the law of clearing, entry by entry. The measure is how many entries are left.
 use Prim.Native.Nat.{_-_}
-use native.Mathlib.Omega.{arith}
-use lib.ListN.{length, replicate, length-replicate}
+use lib.ListN.{length}
 use borrow.Author.Needs.{needs}
-use Rattle.table.proofs.Rows.{zeros-at}
-use Rattle.table.proofs.Copying.{Copied, copy-start, copy-step, copy-end}
+use Rattle.words.proofs.Loops.{Cleared, clear-start, clear-step, clear-end}
 use Rattle.table.proofs.clear.Statement.{statement}
 use Rattle.table.proofs.clear.Tie as tie
-use Rattle.table.proofs.clear.Reads as reads
-use Rattle.table.proofs.clear.Lts as lts
 
 abbrev Inv-loop : tie.InvT-loop
-Inv-loop entries₀ i₀ entries i = Copied entries₀ (replicate (length entries₀) 0) entries i
+Inv-loop entries₀ i₀ entries i = Cleared entries₀ entries i
 
 abbrev μ-loop : tie.MeasureT-loop
 μ-loop entries₀ i₀ entries i = length entries₀ - i
 
-loop-holds : tie.Need-loop-holds Inv-loop μ-loop
-loop-holds c = copy-start _ _
-
-mul-entries : tie.Need-mul-entries Inv-loop μ-loop
-mul-entries c = search needs
-
-slice-write-entries : tie.Need-slice-write-entries Inv-loop μ-loop
-slice-write-entries c = search needs
-
-add-i : tie.Need-add-i Inv-loop μ-loop
-add-i c = search needs
-
-loop-less : tie.Need-loop-less Inv-loop μ-loop
-loop-less c = search needs
-
-loop-again : tie.Need-loop-again Inv-loop μ-loop
-loop-again c =
-    let at-loop = c .before in
-    let at-start = at-loop .before in
-    copy-step (at-loop .loop .inv) (omega (arith, at-loop .loop .inv .size)) (sym (zeros-at (length (at-start .args .entries .now)) (at-loop .loop .i)))
-
-same-length : tie.Need-same-length Inv-loop μ-loop
-same-length c =
-    let at-loop = c .before in
-    at-loop .loop .inv .size
-
-returns : tie.Need-returns Inv-loop μ-loop
-returns c =
-    let at-loop = c .before in
-    copy-end (at-loop .loop .inv) (sym (length-replicate _ _)) (omega (arith, at-loop .loop .inv .size))
-
 pub clear-spec : {M : Type 1} → statement M
-clear-spec =
-    tie.close
-    (tie.spec
+clear-spec = tie.close (tie.spec
     Inv-loop
     μ-loop
-    loop-holds
-    mul-entries
-    slice-write-entries
-    add-i
-    loop-less
-    loop-again
-    same-length
-    returns)
+    (λ c. clear-start _)
+    (λ c. search needs)
+    (λ c. search needs)
+    (λ c. search needs)
+    (λ c. search needs)
+    (λ c. clear-step (c .before .loop .inv) (c .loop-test .taken))
+    (λ c. c .before .loop .inv .size)
+    (λ c. clear-end (c .before .loop .inv) (c .loop-test .left)))

@@ -1,13 +1,13 @@
+-- `table::put_word` meets its contract: the law of copying, entry by entry; a letter fits an entry. The measure is how many letters are left.
 use mathlib.Core.Path.{refl}
 use Prim.Native.Nat.{_-_}
 use native.Mathlib.Omega.{arith}
 use lib.ListN.{length}
 use borrow.Author.Needs.{needs}
-use Rattle.table.proofs.Copying.{letter-fits, Copied, copy-start, copy-step, copy-end}
+use Rattle.words.proofs.Loops.{Copied, copy-start, copy-step, copy-end}
+use Rattle.table.proofs.Copying.{letter-fits}
 use Rattle.table.proofs.put_word.Statement.{statement}
 use Rattle.table.proofs.put_word.Tie as tie
-use Rattle.table.proofs.put_word.Reads as reads
-use Rattle.table.proofs.put_word.Lts as lts
 
 abbrev Inv-loop : tie.InvT-loop
 Inv-loop word row₀ i₀ row i = Copied row₀ word row i
@@ -15,58 +15,17 @@ Inv-loop word row₀ i₀ row i = Copied row₀ word row i
 abbrev μ-loop : tie.MeasureT-loop
 μ-loop word row₀ i₀ row i = length word - i
 
-loop-holds : tie.Need-loop-holds Inv-loop μ-loop
-loop-holds c = copy-start _ _
-
-shared-slice-read-c : tie.Need-shared-slice-read-c Inv-loop μ-loop
-shared-slice-read-c c = search needs
-
-cast-row : tie.Need-cast-row Inv-loop μ-loop
-cast-row c =
-    let at-start = c .before .before .before in
-    letter-fits (at-start .args .word .now) (c .shared-slice-known .given) _
-
-mul-row : tie.Need-mul-row Inv-loop μ-loop
-mul-row c = search needs
-
-slice-write-row : tie.Need-slice-write-row Inv-loop μ-loop
-slice-write-row c = search needs
-
-add-i : tie.Need-add-i Inv-loop μ-loop
-add-i c = search needs
-
-loop-less : tie.Need-loop-less Inv-loop μ-loop
-loop-less c = search needs
-
-loop-again : tie.Need-loop-again Inv-loop μ-loop
-loop-again c =
-    let at-loop = c .before .before in
-    copy-step (at-loop .loop .inv) (omega arith) refl
-
-same-length : tie.Need-same-length Inv-loop μ-loop
-same-length c =
-    let at-loop = c .before in
-    at-loop .loop .inv .size
-
-returns : tie.Need-returns Inv-loop μ-loop
-returns c =
-    let at-loop = c .before in
-    let at-start = at-loop .before in
-    copy-end (at-loop .loop .inv) (at-start .pre) (omega (arith, at-start .pre))
-
 pub put-word-spec : {M : Type 1} → statement M
-put-word-spec =
-    tie.close
-    (tie.spec
+put-word-spec = tie.close (tie.spec
     Inv-loop
     μ-loop
-    loop-holds
-    shared-slice-read-c
-    cast-row
-    mul-row
-    slice-write-row
-    add-i
-    loop-less
-    loop-again
-    same-length
-    returns)
+    (λ c. copy-start _ _)
+    (λ c. search needs)
+    (λ c. letter-fits (c .before .before .before .args .word .now) (c .shared-slice-known .given) _)
+    (λ c. search needs)
+    (λ c. search needs)
+    (λ c. search needs)
+    (λ c. search needs)
+    (λ c. copy-step (c .before .before .loop .inv) (omega arith) refl)
+    (λ c. c .before .loop .inv .size)
+    (λ c. let at-start = c .before .before in copy-end (c .before .loop .inv) (at-start .pre) (omega (arith, at-start .pre))))

@@ -1,0 +1,100 @@
+-- WHAT AN ENTRY MAY SAY: done with an answer, or refused with a number of 01's table, alone or with the place of the file where it shows.
+--
+--   emptyWord ..     01's numbers, by what they mean
+--   refusals         the whole table: each number and when it is given
+--   Answer A         done with an answer of kind A, or refused
+--   refusesOnly l a  whether a is done, or refused with one of the numbers l and nothing but the number
+--   numberOf r       the number of the code's refusal r
+--   refusedAs r      what it means
+--   sizeAnswer r     what the code's answer r means: the letters of a word, or the bytes of a file
+--   tallyAnswer r    the same of a search: finds and letters read
+--
+-- 01, 'When the library says no'.
+use mathlib.Core.Bool.{Bool, true, false, _||_}
+use mathlib.Core.List.{List, [], _∷_}
+use Prim.Native.Nat.{ℕ}
+use Prim.Native.String.{String}
+use lib.Dec.{eqb}
+use Rattle.words.specs.Words.{Place}
+use Rattle.finds.specs.declared.Tally.{Tally}
+use Rattle.answers.specs.declared.Refusal.{Refusal as Why}
+use Rattle.answers.specs.declared.Refusal.the-variants.{Numbered, Placed}
+use Rattle.answers.specs.declared.SizeAnswer.{SizeAnswer}
+use Rattle.answers.specs.declared.SizeAnswer
+use Rattle.answers.specs.declared.TallyAnswer.{TallyAnswer}
+use Rattle.answers.specs.declared.TallyAnswer
+
+-- ── The table ──────────────────────────────────────────────────────────────
+
+abbrev pub emptyWord : ℕ
+emptyWord = 1
+
+abbrev pub longWord : ℕ
+longWord = 2
+
+abbrev pub shortRoom : ℕ
+shortRoom = 3
+
+abbrev pub longText : ℕ
+longText = 4
+
+-- 5 to 11 are what a file shows, where it is read
+abbrev pub shortOutput : ℕ
+shortOutput = 12
+
+pub record Line : Type 0 where
+  pub number : ℕ
+  pub given-when : String
+
+abbrev pub line : ℕ → String → Line
+line n s = record { number = n; given-when = s }
+
+unfoldable pub refusals : List Line
+refusals =
+    line emptyWord "the word is empty (build, save, search)"
+    ∷ line longWord "the word is longer than 1,024 (the same)"
+    ∷ line shortRoom "fewer than 6(m+1) table entries, or, when loading or searching with a file, word room below m"
+    ∷ line longText "the text is longer than 16,777,216"
+    ∷ line 5 "the file ends before or inside a number, or before the last of the m letters"
+    ∷ line 6 "a number's last of several groups is zero, or its fifth byte is above 15"
+    ∷ line 7 "edition other than 1"
+    ∷ line 8 "declared m is 0 or above 1,024"
+    ∷ line 9 "declared arrows exceed m-1"
+    ∷ line 10 "an arrow differs from the word's extra arrow at that place or none is left there, or arrows are missing"
+    ∷ line 11 "bytes remain after the last arrow"
+    ∷ line shortOutput "output room is below the size of the file to be saved"
+    ∷ []
+
+-- ── Answers ────────────────────────────────────────────────────────────────
+
+pub data Answer (A : Type 0) : Type 0 where
+  done : A → Answer A
+  refused : ℕ → Answer A
+  refusedAt : ℕ → Place → Answer A
+
+unfoldable pub listed : ℕ → List ℕ → Bool
+listed n [] = false
+listed n (k ∷ l) = eqb n k || listed n l
+
+abbrev pub refusesOnly : {A : Type 0} → List ℕ → Answer A → Bool
+refusesOnly l (done a) = true
+refusesOnly l (refused n) = listed n l
+refusesOnly l (refusedAt n p) = false
+
+-- ── What the code's answers mean ───────────────────────────────────────────
+
+abbrev pub numberOf : Why → ℕ
+numberOf (Numbered n) = n
+numberOf (Placed n p) = n
+
+abbrev pub refusedAs : {A : Type 0} → Why → Answer A
+refusedAs (Numbered n) = refused n
+refusedAs (Placed n p) = refusedAt n p
+
+abbrev pub sizeAnswer : SizeAnswer → Answer ℕ
+sizeAnswer (SizeAnswer.the-variants.Done n) = done n
+sizeAnswer (SizeAnswer.the-variants.Refused r) = refusedAs r
+
+abbrev pub tallyAnswer : TallyAnswer → Answer Tally
+tallyAnswer (TallyAnswer.the-variants.Done t) = done t
+tallyAnswer (TallyAnswer.the-variants.Refused r) = refusedAs r

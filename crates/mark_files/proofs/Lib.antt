@@ -1,0 +1,5 @@
+pub mod SaveSays
+pub mod LoadSays
+pub mod LoadTheorems
+pub mod SearchFileSays
+pub mod Numbers

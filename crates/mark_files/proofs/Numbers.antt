@@ -1,0 +1,108 @@
+-- THE NUMBERS that each entry over files may refuse with: those that 01's table has for it, and nothing but the number. By its cases, and by
+-- the ways of loading.
+use mathlib.Core.Path.{_≡_, refl}
+use mathlib.Core.Bool.{true}
+use mathlib.Core.List.{List, [], _∷_}
+use Prim.Native.Nat.{ℕ}
+use Rattle.words.specs.Words.{Word, Place}
+use Rattle.saved.specs.File.{Step}
+use Rattle.loaded.specs.Load.{stop, broken, wrong}
+use Rattle.loaded.specs.Cases.{Unread, cut-off, bad-byte}
+use Rattle.loaded.specs.Cases.{FrontCase, edition-unread, edition-other, length-unread, length-bad, letters-missing}
+use Rattle.loaded.specs.Cases.{ArrowsCase, arrow-agrees, up-unread, over-unread, arrow-differs, no-arrow-left, arrows-missing}
+use Rattle.loaded.specs.Cases.{EndingCase, count-unread, count-too-large, count-fits, VerdictCase, arrows-wrong, leftovers}
+use Rattle.answers.specs.Answers.{refused, refusesOnly, listed}
+use Rattle.mark_files.specs.Save
+use Rattle.mark_files.specs.Save.{saveSays}
+use Rattle.mark_files.specs.Load
+use Rattle.mark_files.specs.Load.{loadSays}
+use Rattle.mark_files.specs.SearchFile
+use Rattle.mark_files.specs.SearchFile.{searchFileSays}
+use Rattle.mark_files.specs.Cases.{SaveCase, LoadCase, SearchFileCase}
+use Rattle.mark_files.proofs.SaveSays.{save-is}
+use Rattle.mark_files.proofs.LoadSays.{load-is}
+use Rattle.mark_files.proofs.SearchFileSays.{search-file-is}
+
+pub save-numbers : (word : Word) (T O : List ℕ) → refusesOnly (1 ∷ 2 ∷ 3 ∷ 12 ∷ []) (saveSays word T O .answer) ≡ true
+unfolding listed
+save-numbers word T O = by (save-is word T O _ .0 refl)
+  where
+    by : {o : Save.Outcome} → SaveCase word T O o → refusesOnly (1 ∷ 2 ∷ 3 ∷ 12 ∷ []) (o .answer) ≡ true
+    by (SaveCase.empty-word h) = refl
+    by (SaveCase.long-word h l) = refl
+    by (SaveCase.short-room h l s) = refl
+    by (SaveCase.short-output h l s o) = refl
+    by (SaveCase.accepted h l s o) = refl
+
+-- ── With a file ────────────────────────────────────────────────────────────
+
+-- what loading may refuse with, and what a search with a file may
+abbrev pub loading : List ℕ
+loading = 3 ∷ 5 ∷ 6 ∷ 7 ∷ 8 ∷ 9 ∷ 10 ∷ 11 ∷ []
+
+abbrev pub searching : List ℕ
+searching = 4 ∷ loading
+
+-- a number of a file is one of both
+abbrev Shown : ℕ → Type 0
+Shown r = (listed r loading ≡ true) × (listed r searching ≡ true)
+
+module _ {s : List ℕ} where
+  unread-number : {i : Place} {r : ℕ} {p : Place} → Unread s i r p → Shown r
+  unfolding listed
+  unread-number (cut-off e) = (refl, refl)
+  unread-number (bad-byte e) = (refl, refl)
+
+  front-number : {r : ℕ} {p : Place} → FrontCase s (stop r p) → Shown r
+  unfolding listed
+  front-number (edition-unread u) = unread-number u
+  front-number (edition-other a d) = (refl, refl)
+  front-number (length-unread a u) = unread-number u
+  front-number (length-bad a b d) = (refl, refl)
+  front-number (letters-missing a b c d h) = (refl, refl)
+
+  arrows-number : {i : Place} {n : ℕ} {l : List Step} {r : ℕ} {p : Place} → ArrowsCase s i n l (broken r p) → Shown r
+  unfolding listed
+  arrows-number (arrow-agrees a b c) = arrows-number c
+  arrows-number (up-unread u) = unread-number u
+  arrows-number (over-unread a u) = unread-number u
+  arrows-number (arrow-differs a b d) = (refl, refl)
+  arrows-number (no-arrow-left a b) = (refl, refl)
+  arrows-number arrows-missing = (refl, refl)
+
+  ending-number : {i : Place} {w : Word} {r : ℕ} {p : Place} → EndingCase s i w (broken r p) → Shown r
+  unfolding listed
+  ending-number (count-unread u) = unread-number u
+  ending-number (count-too-large a b) = (refl, refl)
+  ending-number (count-fits a b c) = arrows-number c
+
+  verdict-number : {i : Place} {w : Word} {r : ℕ} {p : Place} → VerdictCase s i w (wrong r p) → Shown r
+  unfolding listed
+  verdict-number (arrows-wrong c) = ending-number c
+  verdict-number (leftovers c h) = (refl, refl)
+
+  load-number : {R T : List ℕ} {n : ℕ} {R′ T′ : List ℕ} → LoadCase s R T (Load.outcome (refused n) R′ T′) → Shown n
+  unfolding listed
+  load-number (LoadCase.head-refused f) = front-number f
+  load-number (LoadCase.short-room f r) = (refl, refl)
+  load-number (LoadCase.arrows-refused f h t v) = verdict-number v
+
+pub load-numbers : (file R T : List ℕ) → refusesOnly loading (loadSays file R T .answer) ≡ true
+unfolding listed
+load-numbers file R T = by (load-is file R T _ .0 refl)
+  where
+    by : {o : Load.Outcome} → LoadCase file R T o → refusesOnly loading (o .answer) ≡ true
+    by (LoadCase.head-refused f) = front-number f .0
+    by (LoadCase.short-room f r) = refl
+    by (LoadCase.arrows-refused f h t v) = verdict-number v .0
+    by (LoadCase.accepted f h t v) = refl
+
+pub search-file-numbers : (file : List ℕ) (text : Word) (R T : List ℕ) (F : List Place)
+    → refusesOnly searching (searchFileSays file text R T F .answer) ≡ true
+unfolding listed
+search-file-numbers file text R T F = by (search-file-is file text R T F _ .0 refl)
+  where
+    by : {o : SearchFile.Outcome} → SearchFileCase file text R T F o → refusesOnly searching (o .answer) ≡ true
+    by (SearchFileCase.long-text h) = refl
+    by (SearchFileCase.load-refused k c) = load-number c .1
+    by (SearchFileCase.accepted k c) = refl

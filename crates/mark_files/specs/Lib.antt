@@ -1,0 +1,4 @@
+pub mod Save
+pub mod Load
+pub mod SearchFile
+pub mod Cases

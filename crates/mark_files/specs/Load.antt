@@ -1,0 +1,46 @@
+-- WHAT LOAD SAYS: the whole outcome as a function of what is lent.
+--
+--   Outcome            the answer, and the word room and the tables as they are left
+--   loadedAs r R T     the outcome of code that answers r and leaves R and T
+--   loadSays file R T  what it must be: the first refusal that the file shows up to its letters; then 3; then the first refusal that it
+--                      shows behind them; else m, the file's word and its table. A refusal before 3 is passed changes nothing, one after it
+--                      leaves zeros in the word's part of both rooms
+--
+-- 01, 'The file on disk' and 'When the library says no'; demands 1 and 3.
+use mathlib.Core.Bool.{_||_, cond}
+use mathlib.Core.List.{List, _++_}
+use Prim.Native.Nat.{ℕ, _+_}
+use lib.ListN.{length, drop, replicate}
+use lib.Dec.{ltb}
+use Rattle.words.specs.Words.{Word, part}
+use Rattle.table.specs.Table.{room, tableOf}
+use Rattle.loaded.specs.Load.{Front, letters, stop, front, Verdict, right, wrong, verdict}
+use Rattle.answers.specs.declared.SizeAnswer.{SizeAnswer}
+use Rattle.answers.specs.Answers.{Answer, done, refused, sizeAnswer, shortRoom}
+
+pub record Outcome : Type 0 where
+  pub answer : Answer ℕ
+  pub word : List ℕ
+  pub tables : List ℕ
+
+abbrev pub outcome : Answer ℕ → List ℕ → List ℕ → Outcome
+outcome a R T = record { answer = a; word = R; tables = T }
+
+abbrev pub loadedAs : SizeAnswer → List ℕ → List ℕ → Outcome
+loadedAs r R T = outcome (sizeAnswer r) R T
+
+-- what a file's arrows make of the word's part of the rooms
+abbrev pub judged : Verdict → Word → Outcome
+judged right w = outcome (done (length w)) w (tableOf w)
+judged (wrong n i) w = outcome (refused n) (replicate (length w) 0) (replicate (room (length w)) 0)
+
+abbrev pub lettersRead : Front → List ℕ → List ℕ → List ℕ → Outcome
+lettersRead (stop n i) file R T = outcome (refused n) R T
+lettersRead (letters m i) file R T =
+    let w = part file i m in
+    let o = judged (verdict file (i + m) w) w in
+    cond (ltb (length R) m || ltb (length T) (room m)) (outcome (refused shortRoom) R T)
+    (outcome (o .answer) (o .word ++ drop m R) (o .tables ++ drop (room m) T))
+
+unfoldable pub loadSays : List ℕ → List ℕ → List ℕ → Outcome
+loadSays file R T = lettersRead (front file) file R T

@@ -1,0 +1,46 @@
+-- WHAT SEARCH WITH A FILE SAYS: the whole outcome as a function of what is lent.
+--
+--   Outcome                          the answer, and the word room, the tables and the list as they are left
+--   fileSearched r R T F             the outcome of code that answers r and leaves R, T and F
+--   searchFileSays file text R T F   what it must be: 4, then as loading; then every occurrence of the mirror of the file's word is counted
+--                                    and the first of them are listed, as many as fit, and the letters are those of the published steps
+--
+-- 01, 'The file on disk' and 'When the library says no'; demands 1 to 3.
+use mathlib.Core.Bool.{cond}
+use mathlib.Core.List.{List}
+use Prim.Native.Nat.{ℕ}
+use lib.ListN.{length, take}
+use lib.Dec.{ltb}
+use Rattle.words.specs.Words.{Word, Place, mirror, occurrences}
+use Rattle.words.specs.Limits.{longestText}
+use Rattle.finds.specs.Finds.{filled}
+use Rattle.finds.specs.declared.Tally.{Tally}
+use Rattle.answers.specs.declared.TallyAnswer.{TallyAnswer}
+use Rattle.answers.specs.Answers.{Answer, done, refused, refusedAt, tallyAnswer, longText}
+use Rattle.marks.specs.Search.{found}
+use Rattle.mark_files.specs.Load.{loadSays}
+
+pub record Outcome : Type 0 where
+  pub answer : Answer Tally
+  pub word : List ℕ
+  pub tables : List ℕ
+  pub finds : List Place
+
+abbrev pub outcome : Answer Tally → List ℕ → List ℕ → List Place → Outcome
+outcome a R T F = record { answer = a; word = R; tables = T; finds = F }
+
+abbrev pub fileSearched : TallyAnswer → List ℕ → List ℕ → List Place → Outcome
+fileSearched r R T F = outcome (tallyAnswer r) R T F
+
+-- the file is loaded: its word has m letters and stands at the start of R
+abbrev pub afterLoad : Answer ℕ → Word → List ℕ → List ℕ → List Place → Outcome
+afterLoad (refused n) text R T F = outcome (refused n) R T F
+afterLoad (refusedAt n p) text R T F = outcome (refusedAt n p) R T F
+afterLoad (done m) text R T F =
+    let word = mirror (take m R) in
+    outcome (done (found word text)) R T (filled (occurrences word text) F)
+
+unfoldable pub searchFileSays : List ℕ → Word → List ℕ → List ℕ → List Place → Outcome
+searchFileSays file text R T F =
+    let o = loadSays file R T in
+    cond (ltb longestText (length text)) (outcome (refused longText) R T F) (afterLoad (o .answer) text (o .word) (o .tables) F)

@@ -1,0 +1,60 @@
+-- THE THEOREMS on calls from C: a call's promise allows one outcome, and its result is 0 exactly if the entry is done. The second rests on the
+-- numbers that each entry may refuse with, none of which is 0.
+use mathlib.Core.Path.{_≡_, refl, sym, _∙_}
+use mathlib.Core.Bool.{Bool, true, false}
+use mathlib.Core.Logic.{_↔_}
+use mathlib.Core.List.{List, [], _∷_}
+use Prim.Native.Nat.{ℕ}
+use native.Mathlib.Omega.{arith}
+use Rattle.words.specs.Words.{Word, Place}
+use Rattle.finds.specs.declared.Tally.{Tally}
+use Rattle.answers.specs.Answers.{Answer, done, refused, refusedAt, refusesOnly, listed}
+use Rattle.answers.proofs.Answers.{done-not-refused}
+use Rattle.marks.specs.Build.{buildSays}
+use Rattle.marks.specs.Search.{searchSays}
+use Rattle.mark_files.specs.Save.{saveSays}
+use Rattle.mark_files.specs.Load.{loadSays}
+use Rattle.mark_files.specs.SearchFile.{searchFileSays}
+use Rattle.marks.proofs.Numbers.{build-numbers, search-numbers}
+use Rattle.mark_files.proofs.Numbers.{save-numbers, loading, load-numbers, searching, search-file-numbers}
+use Rattle.marks_c.specs.Calls.{resultOf, buildCallSays, saveCallSays, loadCallSays, searchCallSays, searchFileCallSays}
+
+-- two outcomes that a call's promise allows are equal, whichever call it is
+pub call-one : {C : Type 0} {said o o′ : C} → o ≡ said → o′ ≡ said → o ≡ o′
+call-one e f = e ∙ sym f
+
+-- ── The result is 0 exactly if the entry is done ───────────────────────────
+
+false-not-true : {B : Type 0} → _≡_ {A = Bool} false true → B
+false-not-true e = let z : _≡_ {A = ℕ} 0 1 = cc in absurd (omega arith)
+
+abbrev Done : {A : Type 0} → Answer A → Type 0
+Done {A} a = (v : A) × (a ≡ done v)
+
+-- where every refusal has one of the numbers l, none of them 0
+done-exactly : {A : Type 0} (l : List ℕ) → listed 0 l ≡ false → (a : Answer A) → refusesOnly l a ≡ true → (resultOf a ≡ 0) ↔ Done a
+done-exactly l nowhere (done v) only = (λ e. (v, refl), λ d. refl)
+done-exactly l nowhere (refused n) only = (λ e. false-not-true (sym nowhere ∙ rw e at only), λ d. done-not-refused (sym (d .1)))
+done-exactly l nowhere (refusedAt n p) only = false-not-true only
+
+pub build-done : (word : Word) (T : List ℕ) (m : ℕ) → (buildCallSays word T m .result ≡ 0) ↔ Done (buildSays word T .answer)
+unfolding listed
+build-done word T m = done-exactly (1 ∷ 2 ∷ 3 ∷ []) refl _ (build-numbers word T)
+
+pub save-done : (word : Word) (T O : List ℕ) (n : ℕ) → (saveCallSays word T O n .result ≡ 0) ↔ Done (saveSays word T O .answer)
+unfolding listed
+save-done word T O n = done-exactly (1 ∷ 2 ∷ 3 ∷ 12 ∷ []) refl _ (save-numbers word T O)
+
+pub load-done : (file R T : List ℕ) (m : ℕ) → (loadCallSays file R T m .result ≡ 0) ↔ Done (loadSays file R T .answer)
+unfolding listed
+load-done file R T m = done-exactly loading refl _ (load-numbers file R T)
+
+pub search-done : (word text : Word) (T : List ℕ) (F : List Place) (c l : ℕ)
+    → (searchCallSays word text T F c l .result ≡ 0) ↔ Done (searchSays word text T F .answer)
+unfolding listed
+search-done word text T F c l = done-exactly (1 ∷ 2 ∷ 4 ∷ 3 ∷ []) refl _ (search-numbers word text T F)
+
+pub search-file-done : (file : List ℕ) (text : Word) (R T : List ℕ) (F : List Place) (c l : ℕ)
+    → (searchFileCallSays file text R T F c l .result ≡ 0) ↔ Done (searchFileSays file text R T F .answer)
+unfolding listed
+search-file-done file text R T F c l = done-exactly searching refl _ (search-file-numbers file text R T F)
