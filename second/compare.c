@@ -569,11 +569,11 @@ static void longer_words(void)
     static const size_t lengths[] = {
         9, 16, 31, 32, 33, 100, 127, 128, 129, 254, 255, 256, 257, 511, 512, 513, 1000, MOST_LETTERS - 1, MOST_LETTERS};
     static const unsigned alphabets[] = {2, 4, 256};
-    static uint8_t word[MOST_LETTERS], text[4096], file[MOST_FILE];
+    static uint8_t word[MOST_LETTERS], text[4 * MOST_LETTERS], file[MOST_FILE];
     for (size_t l = 0; l < sizeof lengths / sizeof *lengths; l++)
         for (unsigned a = 0; a < 3; a++)
             for (int kind = 0; kind < KINDS; kind++) {
-                size_t m = lengths[l], n = below(2) ? some_length(4096) : m + below(4096 - m);
+                size_t m = lengths[l], n = below(2) ? some_length(sizeof text) : m + below(sizeof text - m);
                 choose_palette(alphabets[a]);
                 make_word(word, m, (enum kind)kind);
                 size_t size = there_and_back(word, m, file);

@@ -9,7 +9,7 @@
 #include <stddef.h>
 #include <stdint.h>
 
-/* The scope document's limits; nothing in second/ has them as numbers. */
+/* The scope document's limits. Nothing else in second/ rests on their values. */
 enum {
     MOST_LETTERS = 1024,         /* of a word */
     MOST_TEXT = 16777216,        /* bytes of a text */

@@ -19,11 +19,11 @@ impl Mark {
     /// The mark of a word.
     ///
     /// ```
-    /// use marks::{Mark, Refusal};
+    /// use marks::{Mark, Refusal, LONGEST_WORD};
     ///
     /// assert_eq!(Mark::new(b"").unwrap_err(), Refusal::EmptyWord);
-    /// assert_eq!(Mark::new(&[0; 1_025]).unwrap_err(), Refusal::LongWord);
-    /// assert!(Mark::new(&[0; 1_024]).is_ok());
+    /// assert_eq!(Mark::new(&[0; LONGEST_WORD + 1]).unwrap_err(), Refusal::LongWord);
+    /// assert!(Mark::new(&[0; LONGEST_WORD]).is_ok());
     /// ```
     pub fn new(word: &[u8]) -> Result<Mark, Refusal> {
         let mut tables = vec![0; table_room(word.len().min(LONGEST_WORD))];

@@ -1,21 +1,20 @@
-//! Saved files at the limit of 1,024 letters, and refusals with what they leave, through the entries as Rust sees them.
+//! Saved files of the longest word, and refusals with what they leave, through the entries as Rust sees them.
 use marks::entries::{load, save, search_file, Tally};
-use marks::Refusal;
+use marks::{table_room, Refusal, LONGEST_FILE, LONGEST_TEXT, LONGEST_WORD};
 
-const WORD_LIMIT: usize = 1024;
-const TABLES: usize = 6 * (WORD_LIMIT + 1);
+const TABLES: usize = table_room(LONGEST_WORD);
 
 #[test]
 fn the_longest_word_is_saved_loaded_and_searched_for() {
-    let word: Vec<u8> = (0..WORD_LIMIT).map(|i| (i * i / 7 % 251) as u8).collect();
-    let (mut tables, mut file) = ([7u16; TABLES + 1], [9u8; 5121]);
+    let word: Vec<u8> = (0..LONGEST_WORD).map(|i| (i * i / 7 % 251) as u8).collect();
+    let (mut tables, mut file) = ([7u16; TABLES + 1], [9u8; LONGEST_FILE]);
     let length = save(&word, &mut tables, &mut file).unwrap() as usize;
     assert!(file[length..].iter().all(|&b| b == 9));
 
-    let (mut room, mut again) = ([8u8; WORD_LIMIT + 1], [7u16; TABLES + 1]);
-    assert_eq!(load(&file[..length], &mut room, &mut again), Ok(WORD_LIMIT as u64));
-    assert_eq!(room[..WORD_LIMIT], word[..]);
-    assert_eq!(room[WORD_LIMIT], 8);
+    let (mut room, mut again) = ([8u8; LONGEST_WORD + 1], [7u16; TABLES + 1]);
+    assert_eq!(load(&file[..length], &mut room, &mut again), Ok(LONGEST_WORD as u64));
+    assert_eq!(room[..LONGEST_WORD], word[..]);
+    assert_eq!(room[LONGEST_WORD], 8);
     assert_eq!(again, tables);
 
     let mut text: Vec<u8> = word.iter().rev().copied().collect();
@@ -39,7 +38,7 @@ fn an_output_one_byte_short_is_not_touched() {
 
 #[test]
 fn the_text_comes_before_the_file_and_the_room_before_the_arrows() {
-    let text = vec![b'a'; 16_777_217];
+    let text = vec![b'a'; LONGEST_TEXT + 1];
     let (mut room, mut tables, mut finds) = ([8u8; 3], [7u16; 24], [5u32; 2]);
     assert_eq!(search_file(b"", &text, &mut room, &mut tables, &mut finds), Err(Refusal::LongText));
     assert_eq!(search_file(b"", &text[1..], &mut room, &mut tables, &mut finds), Err(Refusal::CutFile));

@@ -1,5 +1,5 @@
 //! A mark against the plainest search there is: no find missed or doubled, however many there are and wherever the parts of a long text meet.
-use marks::{Mark, Refusal, LONGEST_TEXT};
+use marks::{Mark, Refusal, LONGEST_TEXT, LONGEST_WORD};
 
 fn plain(word: &[u8], text: &[u8]) -> Vec<usize> {
     text.windows(word.len()).enumerate().filter(|(_, part)| *part == word).map(|(at, _)| at).collect()
@@ -18,7 +18,7 @@ fn finds_are_those_of_the_plainest_search() {
     for round in 0..300 {
         let letters = [1, 2, 3, 256][round % 4];
         let text: Vec<u8> = (0..random(&mut seed) % 30_000).map(|_| ((random(&mut seed) >> 20) % letters) as u8).collect();
-        let m = 1 + random(&mut seed) as usize % [1, 3, 20, 1_024][round / 4 % 4];
+        let m = 1 + random(&mut seed) as usize % [1, 3, 20, LONGEST_WORD][round / 4 % 4];
         let word: Vec<u8> = match text.len() > m {
             true => text[text.len() / 2..].iter().chain(&text).copied().take(m).collect(),
             false => vec![0; m],
@@ -62,7 +62,7 @@ fn a_text_of_several_parts_loses_and_doubles_nothing_at_a_seam() {
 #[test]
 fn a_file_gives_the_mark_back() {
     let mut seed = 362436069;
-    for m in [1, 2, 3, 7, 64, 255, 256, 1_023, 1_024] {
+    for m in [1, 2, 3, 7, 64, 255, 256, LONGEST_WORD - 1, LONGEST_WORD] {
         for letters in [1u64, 2, 4, 256] {
             let word: Vec<u8> = (0..m).map(|_| (random(&mut seed) >> 20).wrapping_rem(letters) as u8).collect();
             let file = Mark::new(&word).unwrap().to_file();

@@ -1,5 +1,5 @@
 //! A header that declares four billion letters costs six bytes: the file goes on in memory that cannot be read, and the rooms cannot be touched at all.
-use marks as _; // for the archive that it links
+use marks::{table_room, LONGEST_WORD};
 use std::{ffi::c_void, ptr};
 
 const PAGE: usize = 65_536;
@@ -40,7 +40,7 @@ fn load_with_forbidden_rest(bytes: &[u8]) -> u32 {
     let refused = unsafe {
         let start = file.sub(bytes.len());
         ptr::copy_nonoverlapping(bytes.as_ptr(), start, bytes.len());
-        marks_load(start, 1 << 20, room, 1_024, tables.cast(), 6_150, &mut m)
+        marks_load(start, 1 << 20, room, LONGEST_WORD, tables.cast(), table_room(LONGEST_WORD), &mut m)
     };
     assert_eq!(m, 99);
     refused
@@ -49,7 +49,8 @@ fn load_with_forbidden_rest(bytes: &[u8]) -> u32 {
 #[test]
 fn a_declared_length_is_not_acted_on_before_it_is_checked() {
     assert_eq!(load_with_forbidden_rest(&[0x01, 0xFF, 0xFF, 0xFF, 0xFF, 0x0F]), 8);
-    assert_eq!(load_with_forbidden_rest(&[0x01, 0x81, 0x08]), 8);
+    let longer = LONGEST_WORD + 1;
+    assert_eq!(load_with_forbidden_rest(&[0x01, 0x80 | (longer % 128) as u8, (longer / 128) as u8]), 8);
     assert_eq!(load_with_forbidden_rest(&[0x01, 0x00]), 8);
     assert_eq!(load_with_forbidden_rest(&[0x02]), 7);
     assert_eq!(load_with_forbidden_rest(&[0x01, 0x83, 0x00]), 6);

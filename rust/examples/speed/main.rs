@@ -5,7 +5,7 @@ mod plain;
 mod rivals;
 
 use marks::entries::{build, load, save, search};
-use marks::{table_room, LONGEST_FILE};
+use marks::{table_room, LONGEST_FILE, LONGEST_WORD};
 use plain::Plain;
 use rivals::{memchr_count, memmem_count};
 use std::time::Instant;
@@ -109,7 +109,7 @@ fn load_times() {
             println!("{line}");
         }
     }
-    let (mut tables, mut room) = (vec![0u16; table_room(1_024)], vec![0u8; 1_024]);
+    let (mut tables, mut room) = (vec![0u16; table_room(LONGEST_WORD)], vec![0u8; LONGEST_WORD]);
     let took = best(|| {
         for _ in 0..1_000_000 {
             let _ = std::hint::black_box(load(&[0x01, 0xFF, 0xFF, 0xFF, 0xFF, 0x0F], &mut room, &mut tables));

@@ -1,6 +1,7 @@
 //! `marks find`: words and mark files, offsets and counts, names, standard input, and files that cannot be read.
 
-use crate::{Folder, MARKS};
+use crate::{told, Folder, MARKS};
+use marks::LONGEST_WORD;
 use std::{
     ffi::OsStr,
     fs,
@@ -78,19 +79,20 @@ fn words_and_names_are_bytes_of_any_kind() {
 }
 
 #[test]
-fn a_word_has_1_to_1024_bytes() {
-    let here = Folder::new("lengths").with("long", "a".repeat(1_025));
-    let (most, more) = ("a".repeat(1_024), "a".repeat(1_025));
-    let (empty, long) = ("the word is empty (1)", "the word is longer than 1,024 bytes (2)");
+fn a_word_has_1_byte_to_the_most() {
+    let (most, more) = ("a".repeat(LONGEST_WORD), "a".repeat(LONGEST_WORD + 1));
+    let here = Folder::new("lengths").with("long", &more);
+    let long = format!("the word is longer than {} bytes (2)", told(LONGEST_WORD));
+    let (empty, advice) = ("the word is empty (1)", format!("give 1 to {} bytes", told(LONGEST_WORD)));
     here.marks(&["find", &most, "long"]).is(0, "0\n1\n");
-    for (word, said) in [("", empty), (&more, long)] {
+    for (word, said) in [("", empty), (&more, &long)] {
         for words in [["find", word, "long"], ["save", word, "out"]] {
-            here.marks(&words).is_with(2, "", &format!("marks: WORD: {said}; give 1 to 1,024 bytes\n"));
+            here.marks(&words).is_with(2, "", &format!("marks: WORD: {said}; {advice}\n"));
         }
     }
-    here.marks(&["find", "-x", "", "long"]).is_with(2, "", &format!("marks: WORD: {empty}; give 1 to 1,024 bytes\n"));
-    here.marks(&["find", "-x", &"61".repeat(1_024), "long"]).is(0, "0\n1\n");
-    here.marks(&["find", "-x", &"61".repeat(1_025), "long"]).is_with(2, "", &format!("marks: WORD: {long}; give 1 to 1,024 bytes\n"));
+    here.marks(&["find", "-x", "", "long"]).is_with(2, "", &format!("marks: WORD: {empty}; {advice}\n"));
+    here.marks(&["find", "-x", &"61".repeat(LONGEST_WORD), "long"]).is(0, "0\n1\n");
+    here.marks(&["find", "-x", &"61".repeat(LONGEST_WORD + 1), "long"]).is_with(2, "", &format!("marks: WORD: {long}; {advice}\n"));
     assert!(!here.path("out").exists());
 }
 

@@ -17,6 +17,11 @@ use std::{
 
 pub const MARKS: &str = env!("CARGO_BIN_EXE_marks");
 
+/// A number below a million as messages have it: 1,024.
+pub fn told(number: usize) -> String {
+    format!("{},{:03}", number / 1_000, number % 1_000)
+}
+
 /// A folder to run in, removed in the end. Tests run side by side, so each names its own.
 pub struct Folder(PathBuf);
 

@@ -1,6 +1,7 @@
 //! `marks save`, `marks check` and `marks show`: mark files good and bad.
 
-use crate::Folder;
+use crate::{told, Folder};
+use marks::LONGEST_WORD;
 use std::{fs, os::unix::fs::PermissionsExt};
 
 #[test]
@@ -70,7 +71,8 @@ fn every_refusal_of_a_file_is_told_with_its_number() {
     let again = "save the mark again";
     let damaged = format!("it is damaged or no mark file: {again}");
     let cut = ("the file ends before its last field does (5)", format!("it was cut: copy it again, or {again}"));
-    let length = ("the file declares a word of no letters or of more than 1,024 (8)", damaged.clone());
+    let no_word = format!("the file declares a word of no letters or of more than {} (8)", told(LONGEST_WORD));
+    let length = (&no_word[..], damaged.clone());
     let arrows = ("the file's arrows are not those of its word (10)", damaged.clone());
     let spelling = ("a number in the file is not in its one spelling (6)", format!("{damaged}; docs/FILE.md has the spelling"));
     let cases: [(&[u8], _); 11] = [

@@ -1,6 +1,7 @@
 //! Files that are searched in parts: no find is lost or doubled where parts meet, at 16 MiB or beyond, and memory stays flat.
 
 use crate::Folder;
+use marks::LONGEST_WORD;
 use std::{
     fs::File,
     io::{Seek, SeekFrom, Write},
@@ -40,11 +41,12 @@ fn a_find_across_the_border_of_each_part() {
 fn overlapping_finds_around_16_mib() {
     let here = Folder::new("limit");
     let places: Vec<u64> = (16 * MIB - 40..16 * MIB + 40).collect();
-    // 1,103 letters in a row hold a mark of 1,024 at 80 places
-    sparse(&here, "file", 17 * MIB, &[b'a'; 1_103], &places[..1]);
-    here.marks(&["find", &"a".repeat(1_024), "file"]).is(0, &lines(&places));
-    here.marks(&["find", "-c", &"a".repeat(1_024), "file"]).is(0, "80\n");
-    here.marks(&["find", "-c", "-x", "00", "file"]).is(0, &format!("{}\n", 17 * MIB - 1_103));
+    // so many letters in a row hold the longest mark at 80 places
+    const ROW: usize = LONGEST_WORD + 79;
+    sparse(&here, "file", 17 * MIB, &[b'a'; ROW], &places[..1]);
+    here.marks(&["find", &"a".repeat(LONGEST_WORD), "file"]).is(0, &lines(&places));
+    here.marks(&["find", "-c", &"a".repeat(LONGEST_WORD), "file"]).is(0, "80\n");
+    here.marks(&["find", "-c", "-x", "00", "file"]).is(0, &format!("{}\n", 17 * MIB - ROW as u64));
 }
 
 #[test]

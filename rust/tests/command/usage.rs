@@ -1,6 +1,7 @@
 //! Help, version, options, and command lines that ask for nothing that can be done.
 
-use crate::Folder;
+use crate::{told, Folder};
+use marks::LONGEST_WORD;
 
 #[test]
 fn help_fits_a_screen() {
@@ -11,6 +12,7 @@ fn help_fits_a_screen() {
     for word in ["find", "save", "check", "show", "-x", "-m", "-X", "-c", "-H", "-h", "--dot", "--help", "--version", "mirror"] {
         assert!(said.out.contains(word), "{word}");
     }
+    assert!(said.out.contains(&format!("WORD has 1 to {} bytes", told(LONGEST_WORD))));
     assert_eq!(here.marks(&["find", "--help"]), said);
     assert_eq!(here.marks(&["check", "-x", "--help"]), said);
     here.marks(&["--version"]).is(0, concat!("marks ", env!("CARGO_PKG_VERSION"), "\n"));

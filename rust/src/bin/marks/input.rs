@@ -1,6 +1,7 @@
 //! What is read: files by name, and standard input where the name is `-`.
 
 use crate::trouble::Trouble;
+use marks::LONGEST_FILE;
 use std::{
     ffi::OsStr,
     fs::File,
@@ -9,8 +10,8 @@ use std::{
 };
 
 /// So much of a mark file is read. The library has judged any file before: one that agrees with a word's file ends, or has its first wrong field, within the
-/// 5,121 bytes of the longest and one arrow more.
-const MARK_FILE: u64 = 8_192;
+/// bytes of the longest file and one arrow more.
+const MARK_FILE: u64 = 2 * LONGEST_FILE as u64;
 
 pub struct Input {
     pub source: Box<dyn Read>,
