@@ -1,39 +1,23 @@
-use mathlib.Core.Path.{sym}
+-- The law of clearing, letter by letter. The measure is how many letters are left.
 use Prim.Native.Nat.{_-_}
-use native.Mathlib.Omega.{arith}
-use lib.ListN.{length, replicate, length-replicate}
+use lib.ListN.{length}
 use borrow.Author.Needs.{needs}
-use Rattle.table.proofs.Rows.{zeros-at}
-use Rattle.table.proofs.Copying.{Copied, copy-start, copy-step, copy-end}
+use Rattle.words.proofs.Loops.{Cleared, clear-start, clear-step, clear-end}
 use Rattle.mark_files.proofs.clear.Statement.{statement}
 use Rattle.mark_files.proofs.clear.Tie as tie
 
 abbrev Inv-loop : tie.InvT-loop
-Inv-loop letters₀ i₀ letters i = Copied letters₀ (replicate (length letters₀) 0) letters i
+Inv-loop letters₀ i₀ letters i = Cleared letters₀ letters i
 
 abbrev μ-loop : tie.MeasureT-loop
 μ-loop letters₀ i₀ letters i = length letters₀ - i
 
-loop-holds : tie.Need-loop-holds Inv-loop μ-loop
-loop-holds c = copy-start _ _
-
-loop-again : tie.Need-loop-again Inv-loop μ-loop
-loop-again c =
-    let at-loop = c .before in
-    let at-start = at-loop .before in
-    copy-step (at-loop .loop .inv) (omega (arith, at-loop .loop .inv .size)) (sym (zeros-at (length (at-start .args .letters .now)) (at-loop .loop .i)))
-
-same-length : tie.Need-same-length Inv-loop μ-loop
-same-length c =
-    let at-loop = c .before in
-    at-loop .loop .inv .size
-
-returns : tie.Need-returns Inv-loop μ-loop
-returns c =
-    let at-loop = c .before in
-    copy-end (at-loop .loop .inv) (sym (length-replicate _ _)) (omega (arith, at-loop .loop .inv .size))
-
 pub clear-spec : {M : Type 1} → statement M
 clear-spec =
     tie.close
-    (tie.spec Inv-loop μ-loop loop-holds (λ c. search needs) (λ c. search needs) (λ c. search needs) loop-again same-length returns)
+    (tie.spec Inv-loop μ-loop
+    (λ c. clear-start _)
+    (λ c. search needs) (λ c. search needs) (λ c. search needs)
+    (λ c. clear-step (c .before .loop .inv) (c .loop-test .taken))
+    (λ c. c .before .loop .inv .size)
+    (λ c. clear-end (c .before .loop .inv) (c .loop-test .left)))
