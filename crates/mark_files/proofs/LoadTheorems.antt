@@ -18,7 +18,7 @@ use Rattle.table.proofs.Theorems.{table-size, table-arrow}
 use Rattle.number.specs.Number.{Bytes}
 use Rattle.saved.specs.File.{edition, spell, Saved}
 use Rattle.loaded.specs.Load.{letters, stop, front, Verdict, right, wrong, verdict}
-use Rattle.loaded.specs.Accepts.{Judged, FileOf}
+use Rattle.loaded.specs.Accepts.{Judged, Accepts, FileOf}
 use Rattle.loaded.specs.Cases.{Reads, BadLength, FrontCase, length-bad, count-too-large, arrows-wrong}
 use Rattle.loaded.proofs.Fronts.{front-letters}
 use Rattle.loaded.proofs.Theorems.{file-accepted, only-files, beginning-refused, longer-refused, front-is, verdict-is}
@@ -99,7 +99,7 @@ module _ (R T : List ℕ) where
           let shown : front s ≡ letters m i = front-is s (letters m i) .1 f in
           let size : length w ≡ m = part-length s i m (front-letters s shown .inside) in
           let judged : verdict s (i + m) w ≡ right = verdict-is s (i + m) w right .1 v in
-          let accepts = record { place = i; shown = rw size shown; word = rw size; judged = rw size judged } in
+          let accepts : Accepts s w = record { place = i; shown = rw size shown; word = rw size; judged = rw size judged } in
           let file : FileOf s w = only-files s bytes accepts in
           (w, file, sym size, rw size h, rw size t)
 

@@ -66,7 +66,8 @@ returns-4 c =
     let at-head2 = at-if1 .before .before in
     let at-read-front = at-head2 .before .before in
     let shown = sym (at-read-front .read-front .ensures) ∙ ap headOf (at-head2 .head2 .given .1) in
-    given-back _ _ _ shown (at-if1 .if1 .left) (at-if2 .if2 .left) _ (at-take-word .take-word .ensures)
+    let taken = at-take-word .take-word in
+    given-back _ _ _ shown (at-if1 .if1 .left) (at-if2 .if2 .left) (taken .result) (taken .ensures)
 
 pub load-spec : {M : Type 1} → statement M
 load-spec =
