@@ -6,7 +6,7 @@ use Prim.Native.Nat.{ℕ, _+_, _-_, _≤_}
 use native.Mathlib.Nat.{zero-add}
 use native.Mathlib.Omega.{arith}
 use lib.ListN.{length, take, drop, length-drop, length-append}
-use lib.Seq.{take-append-seam, drop-append-seam, drop-drop}
+use lib.Seq.{take-append-seam}
 use borrow.Author.Tests.{lt-ltb, le-ltb}
 use Rattle.words.specs.Words.{Word, Place}
 use Rattle.words.specs.Limits.{leastSaved, longestWord}
@@ -22,7 +22,7 @@ use Rattle.loaded.specs.Load.{Ending, behind, wrong, closed, verdict}
 use Rattle.loaded.specs.Accepts.{ShownAt, Judged, Accepts}
 use Rattle.loaded.specs.Cases.{letters-there, ArrowsCase, arrow-agrees, all-agree, count-fits}
 use Rattle.loaded.proofs.Cases.{case-front, case-ending}
-use Rattle.loaded.proofs.Fields.{reads-spelled}
+use Rattle.loaded.proofs.Fields.{drop-past, reads-spelled}
 
 -- a file that is all of s is judged by its ending
 shown-judged : {s : List ℕ} {w : Word} {e : Ending} → ShownAt s 0 w e → Judged s w (closed s e)
@@ -63,7 +63,7 @@ module _ (w : Word) (least : leastSaved ≤ length w) (most : length w ≤ longe
       let i = second .next in
       let rest : drop i s ≡ w ++ (arrows ++ l) = second .rest ∙ append-assoc w arrows l in
       let there : i + length w ≤ length s = omega (arith, saved-some, simp (length-drop, length-append) at (ap {B = ℕ} length rest)) in
-      let after = sym (drop-drop (length w) i s) ∙ ap (drop (length w)) rest ∙ drop-append-seam w (arrows ++ l) in
+      let after = drop-past s i w (arrows ++ l) rest in
       let few = own-few w in
       let counted = reads-spelled s (i + length w) (length (ownSteps w)) steps l (omega (arith, words-fit)) after in
       let end = o + length (spell w) in

@@ -16,6 +16,13 @@ use Rattle.loaded.specs.Cases.{Reads, Unread, cut-off, bad-byte}
 
 -- ── Numbers that stand there ───────────────────────────────────────────────
 
+-- what stands behind a
+pub drop-past : (s : List ℕ) (i : Place) (a b : List ℕ) → drop i s ≡ a ++ b → drop (i + length a) s ≡ b
+drop-past s i a b e =
+    sym (drop-drop (length a) i s)
+    ∙ ap (drop (length a)) e
+    ∙ drop-append-seam a b
+
 -- v is read at place i, and l stands behind it
 pub record ReadsBefore (s : List ℕ) (i v : ℕ) (l : List ℕ) : Type 0 where
   pub next : Place
@@ -27,12 +34,11 @@ pub record ReadsBefore (s : List ℕ) (i v : ℕ) (l : List ℕ) : Type 0 where
 pub reads-spelled : (s : List ℕ) (i v : ℕ) (x l : List ℕ) → v ≤ greatest → drop i s ≡ (spellNumber v ++ x) ++ l
     → ReadsBefore s i v (x ++ l)
 reads-spelled s i v x l h e =
-    let n = length (spellNumber v) in
     let split = e ∙ append-assoc (spellNumber v) x l in
     record {
-      next = i + n;
+      next = i + length (spellNumber v);
       read = number-at-spelled s i v (x ++ l) h split;
-      rest = sym (drop-drop n i s) ∙ ap (drop n) split ∙ drop-append-seam (spellNumber v) (x ++ l);
+      rest = drop-past s i (spellNumber v) (x ++ l) split;
       size = refl;
     }
 

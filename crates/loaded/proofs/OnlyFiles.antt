@@ -80,4 +80,4 @@ module _ (s : List ℕ) (bytes : Bytes s) where
       by : VerdictCase s (a .place + length w) w right → FileOf s w
       by (all-read {p = p} c h) =
           let S = shown-stood (record { place = a .place; shown = a .shown; word = a .word; judged = case-ending s c }) in
-          record { savable = S .savable; file = S .there ∙ ap (λ z. spell w ++ z) (drop-of-length-le s h) ∙ append-nil (spell w) }
+          record { savable = S .savable; file = S .there ∙ rw (drop-of-length-le s h) (append-nil (spell w)) }

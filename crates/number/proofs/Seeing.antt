@@ -139,7 +139,9 @@ see-spells {n} r f (follows {v = v} {l = l} h s) =
     let g = spellable-follow f h in
     let e : (128 + v % 128) % 128 + 128 * (v / 128) ≡ v = omega arith in
     let c : suc n + length l ≡ n + suc (length l) = omega arith in
-    see-follows (l ++ r) (g .2) (omega arith) ∙ ap (withGroup ((128 + v % 128) % 128)) (see-spells r (g .1) s) ∙ rw (e, c)
+    see-follows (l ++ r) (g .2) (omega arith)
+    ∙ ap (withGroup ((128 + v % 128) % 128)) (see-spells r (g .1) s)
+    ∙ rw (e, c)
 
 -- ── What is seen was spelled ───────────────────────────────────────────────
 
@@ -214,4 +216,4 @@ see-append n (b ∷ l) r = by (kind-of n b) (see-append (suc n) l r)
     by (is-refused e) o = inr (see-refused n b (l ++ r) e ∙ sym (see-refused n b l e))
     by (is-last p h) o = inr (see-last (l ++ r) p h ∙ sym (see-last l p h))
     by (is-followed p h) (inl e) = inl (see-follows l p h ∙ ap (withGroup (b % 128)) e)
-    by (is-followed p h) (inr e) = inr (see-follows (l ++ r) p h ∙ ap (withGroup (b % 128)) e ∙ sym (see-follows l p h))
+    by (is-followed p h) (inr e) = inr (rw (see-follows (l ++ r) p h, see-follows l p h, e))

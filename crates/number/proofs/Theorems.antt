@@ -134,7 +134,9 @@ module _ (s : List ℕ) (i : ℕ) where
       let f = placed-value (seeNumber (drop i s)) e in
       let stood = read-stood {l = drop i s} (λ j. rw (getD-drop i s j 0) (bytes (i + j))) (f .1) in
       record {
-        spelled = stood .spelled ∙ ap (λ y. spellNumber v ++ y) (drop-drop (f .0) i s ∙ ap (λ j. drop j s) (sym (f .2)));
+        spelled = stood .spelled
+            ∙ ap (λ y. spellNumber v ++ y) (drop-drop (f .0) i s)
+            ∙ ap (λ j. spellNumber v ++ drop j s) (sym (f .2));
         next = f .2 ∙ ap (λ n. i + n) (stood .size);
         inside = number-at-inside e .1;
         small = stood .small;

@@ -45,7 +45,9 @@ module _ {final t : List ℕ} {at : ℕ} {ahead : List ℕ} (P : Putting final t
     -- the next piece is put
     put-piece : Putting final (take at t ++ x ++ drop (at + length x) t) (at + length x) rest
     put-piece = rw (← sets-eq x t at put-room) (record {
-      still = sym (sets-append t at x rest) ∙ ap (sets t at) (sym e) ∙ P .still;
+      still = sym (sets-append t at x rest)
+          ∙ ap (sets t at) (sym e)
+          ∙ P .still;
       room = omega (arith, P .room, length-sets t at x, simp length-append at (ap length e));
     })
 
@@ -152,8 +154,14 @@ module _ (p : Word) where
             module _ {t : List ℕ} {at : ℕ} {x : State} {s : ℕ} (P : PuttingSteps p (sets t₄ at₄ fromSteps) t at x s) where
               -- as long as before
               pub file-room : length t ≡ length out
-              file-room = put-size (P .putting) ∙ ap length (at-steps .still) ∙ length-sets out 0 (spell p)
+              file-room =
+                  put-size (P .putting)
+                  ∙ ap length (at-steps .still)
+                  ∙ length-sets out 0 (spell p)
 
               -- all is put
               pub file-put : length (ownSteps p) ≤ s → t ≡ spell p ++ drop (length (spell p)) out
-              file-put l = steps-end P l ∙ at-steps .still ∙ rw (zero-add (length (spell p))) at (sets-eq (spell p) out 0 (omega arith))
+              file-put l =
+                  steps-end P l
+                  ∙ at-steps .still
+                  ∙ rw (zero-add (length (spell p))) at (sets-eq (spell p) out 0 (omega arith))
