@@ -70,7 +70,9 @@ windows δ w t zero s = nothing
 windows δ w t (suc k) s =
     let r = readWindow δ w t s in
     let later = windows δ w t k (nextWindow w s (r .failed)) in
-    cond (leb (s + length w) (length t)) (record { starts = listed s (r .failed) (later .starts); letters = r .letters + later .letters }) nothing
+    cond (leb (s + length w) (length t))
+    (record { starts = listed s (r .failed) (later .starts); letters = r .letters + later .letters })
+    nothing
 
 -- every window starts at another of the places 0 to n, so n + 1 bounds them
 unfoldable pub steps : Delta → Word → Word → Sweep

@@ -72,8 +72,8 @@ module _ (word text : Word) (file R T O : List ℕ) (F : List Place) where
 
   -- ── 'exactly when the table says and at no other time.' ──────────────────
 
-  -- The table with its order is `marks/Cases` and `mark_files/Cases`: a line is a constructor, with what word, bytes and rooms have to be for
-  -- it, and its outcome.
+  -- The table with its order is `marks/Cases` and `mark_files/Cases`: a line is a constructor, with what word, bytes and rooms have to be
+  -- for it, and its outcome.
 
   pub build-exactly : (o : Build.Outcome) → (buildSays word T ≡ o) ↔ BuildCase word T o
   build-exactly = BuildSays.build-is word T

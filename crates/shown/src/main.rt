@@ -1,6 +1,6 @@
 // Runs 01's worked examples of files by the entries for C, and writes a line for each: what is handed over, the number returned and the
-// answer, and what the lent buffers hold afterwards. `tools/expect` computes the same lines another way, from 01 alone, and they are the file
-// `stdout`. Before a call each lent byte is 6, each table entry 7 and the answer 0.
+// answer, and what the lent buffers hold afterwards. `tools/expect` computes the same lines another way, from 01 alone, and they are the
+// file `stdout`. Before a call each lent byte is 6, each table entry 7 and the answer 0.
 use io::print_decimal;
 use io::write_all;
 use libc::STDOUT_FILENO;

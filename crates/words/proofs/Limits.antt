@@ -21,11 +21,6 @@ pub least-saved : leastSaved ≡ 1
 unfolding leastSaved
 least-saved = refl
 
--- FILE_LIMIT
-pub file-limit : greatestFile ≡ 5121
-unfolding greatestFile
-file-limit = refl
-
 -- ── Between the names ──────────────────────────────────────────────────────
 
 -- states and entries stay far below 16 bits

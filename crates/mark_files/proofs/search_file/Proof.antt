@@ -73,7 +73,8 @@ returns-3 c =
     let at-if1 = at-load .before .before .before in
     let short = at-if1 .if1 .left in
     let scanned = at-scan .scan .ensures in
-    scan-counts _ _ _ _ _ (omega (arith, text-limit, short)) _ (at-load .load .ensures) (at-said2 .said2 .given .1) (scanned .0) (scanned .1)
+    let loaded = at-load .load .ensures in
+    scan-counts _ _ _ _ _ (omega (arith, text-limit, short)) _ loaded (at-said2 .said2 .given .1) (scanned .0) (scanned .1)
 
 pub search-file-spec : {M : Type 1} → statement M
 search-file-spec =
