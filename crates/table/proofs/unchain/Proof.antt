@@ -1,5 +1,5 @@
--- `table::unchain` meets its contract: before each slot `Unchaining` holds, and `unchain-step` moves one target. The measure is the slot, as a
--- chain leads to older ones.
+-- `table::unchain` meets its contract: before each slot `Unchaining` holds, and `unchain-step` moves one target. The measure is the slot,
+-- as a chain leads to older ones.
 use mathlib.Core.Path.{sym, _∙_}
 use Prim.Native.Nat.{_+_, _*_}
 use native.Mathlib.Omega.{arith}
