@@ -84,9 +84,23 @@ returns-4 c =
     chase-end (at-start .pre .0 .2) (at-loop .loop .inv) (c .loop-test .left)
 
 pub look-spec : {M : Type 1} → statement M
-look-spec = tie.close
-    (tie.spec Inv-loop μ-loop (λ c. search needs) (λ c. search needs) returns (λ c. search needs) (λ c. search needs)
-    (λ c. search needs) (λ c. search needs) (λ c. search needs) returns-2 (λ c. search needs) (λ c. search needs) (λ c. search needs)
-    (λ c. search needs) cast-slot loop-holds (λ c. search needs) (λ c. search needs) (λ c. search needs) (λ c. search needs) cast-at
-    mul-if3 shared-slice-read-if3 returns-3 (λ c. search needs) (λ c. search needs) (λ c. search needs) (λ c. search needs) cast-slot-2
-    loop-less loop-again returns-4)
+look-spec = tie.close (tie.spec
+    Inv-loop
+    μ-loop
+    (λ c. search needs) (λ c. search needs)
+    returns
+    (λ c. search needs) (λ c. search needs) (λ c. search needs) (λ c. search needs) (λ c. search needs)
+    returns-2
+    (λ c. search needs) (λ c. search needs) (λ c. search needs) (λ c. search needs)
+    cast-slot
+    loop-holds
+    (λ c. search needs) (λ c. search needs) (λ c. search needs) (λ c. search needs)
+    cast-at
+    mul-if3
+    shared-slice-read-if3
+    returns-3
+    (λ c. search needs) (λ c. search needs) (λ c. search needs) (λ c. search needs)
+    cast-slot-2
+    loop-less
+    loop-again
+    returns-4)

@@ -58,9 +58,19 @@ returns c =
     unchain-end (at-loop .loop .inv) (at-start .pre .1 .size) (at-start .pre .0 .1) (c .loop-test .left)
 
 pub unchain-spec : {M : Type 1} → statement M
-unchain-spec = tie.close
-    (tie.spec Inv-loop μ-loop (λ c. search needs) (λ c. search needs) (λ c. search needs) (λ c. search needs) (λ c. search needs)
-    cast-slot loop-holds (λ c. search needs) (λ c. search needs) (λ c. search needs) (λ c. search needs) (λ c. search needs)
-    (λ c. search needs) (λ c. search needs) (λ c. search needs) sub-start (λ c. search needs) (λ c. search needs) (λ c. search needs)
-    (λ c. search needs) cast-slot-2 loop-less loop-again (λ c. search needs) (λ c. search needs) (λ c. search needs) (λ c. search needs)
-    (λ c. search needs) same-length returns)
+unchain-spec = tie.close (tie.spec
+    Inv-loop
+    μ-loop
+    (λ c. search needs) (λ c. search needs) (λ c. search needs) (λ c. search needs) (λ c. search needs)
+    cast-slot
+    loop-holds
+    (λ c. search needs) (λ c. search needs) (λ c. search needs) (λ c. search needs) (λ c. search needs)
+    (λ c. search needs) (λ c. search needs) (λ c. search needs)
+    sub-start
+    (λ c. search needs) (λ c. search needs) (λ c. search needs) (λ c. search needs)
+    cast-slot-2
+    loop-less
+    loop-again
+    (λ c. search needs) (λ c. search needs) (λ c. search needs) (λ c. search needs) (λ c. search needs)
+    same-length
+    returns)
