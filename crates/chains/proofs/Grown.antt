@@ -32,7 +32,7 @@ use Rattle.chains.proofs.Looking.{look-far}
 use Rattle.chains.proofs.Pushing.{chain-kept}
 use Rattle.chains.proofs.Climbing.{begun-ready}
 use Rattle.chains.proofs.Model.{Targets, arrowsOf, extrasUpTo, Gets, letter-supplied, letter-in-order}
-use Rattle.chains.proofs.Sources.{total, Held, held-chained, Climbed, climbed}
+use Rattle.chains.proofs.Sources.{total, Held, held-chained, ComesTo, comes-to}
 
 pub record Grown (B : List ℕ) (m : ℕ) (L : List ℕ) (t u : ℕ) : Type 0 where
   pub T : Targets
@@ -177,12 +177,12 @@ module _ {B : List ℕ} {m : ℕ} (K : Blank B m) where
         same = ap (set L (n + suc t)) (sym (G .later (suc t) (le-refl _) more)) ∙ set-getD L (n + suc t) 0
     grown-letter {L′} {u′} (later-letter L₁ y p C e) =
         let R = begun-ready grown-begun (λ z. omega arith, refl) in
-        rw e (by (climbed (at B) (rw (G .letters (suc t) (omega arith)) at C) R (G .held) (G .letters)))
+        rw e (by (comes-to (at B) (rw (G .letters (suc t) (omega arith)) at C) R (G .held) (G .letters)))
       where
         down : at L (n + t) ≤ t - 1
         down = supply-below (G .supplied) t (le-refl t)
 
-        by : Climbed (at B) n t (at B (suc t)) L u (G .T) (at L (n + t)) L₁ u′ y → Grown B m (set L₁ (n + suc t) y) (suc t) u′
+        by : ComesTo (at B) n t (at B (suc t)) L u (G .T) (at L (n + t)) L₁ u′ y → Grown B m (set L₁ (n + suc t) y) (suc t) u′
         by R = grown-next (go p (last-free (G .supplied) (at B (suc t))) (R .climb)) (R .news)
             (λ x i. omega (arith, R .low x i, down)) (R .held) (R .used) (R .kept) (R .unlaid) (R .counts)
 

@@ -94,7 +94,7 @@ climb-agree {δ} {δ′} {S} {S′} {c} {k = k} a b d (go p e r) =
     let rest = climb-agree {δ = δ} {S = S} (λ x h. a x (omega arith)) (λ x h. b x (omega arith)) (λ x h. d x (omega arith)) r in
     go p (sym (a k (le-refl k)) ∙ e) (rw q at rest)
 
-pub record Climbed (a : State → Letter) (n t : ℕ) (c : Letter) (L : List ℕ) (u : ℕ) (T : Targets) (k : State)
+pub record ComesTo (a : State → Letter) (n t : ℕ) (c : Letter) (L : List ℕ) (u : ℕ) (T : Targets) (k : State)
     (L′ : List ℕ) (u′ : ℕ) (y : State) : Type 0 where
   pub xs : List State
   pub T′ : Targets
@@ -155,9 +155,9 @@ module _ (a : State → Letter) {n t : ℕ} {c : Letter} where
       s .says (T k) (H .chain k (ready-push R .source))
       ∙ ap arrowTo (look-held a t c H same (omega (arith, R .below, R .inside)))
 
-  pub climbed : {L L′ : List ℕ} {u u′ : ℕ} {T : Targets} {k y : State} → Climbs n t c L u k L′ u′ y → Ready L n t u k → Held L n u T
-      → ((z : State) → z < n → at L z ≡ a z) → Climbed a n t c L u T k L′ u′ y
-  climbed {L} {u = u} {T = T} {k = k} {y = y} (finds s e q) R H same = rw (e, q) (record {
+  pub comes-to : {L L′ : List ℕ} {u u′ : ℕ} {T : Targets} {k y : State} → Climbs n t c L u k L′ u′ y → Ready L n t u k → Held L n u T
+      → ((z : State) → z < n → at L z ≡ a z) → ComesTo a n t c L u T k L′ u′ y
+  comes-to {L} {u = u} {T = T} {k = k} {y = y} (finds s e q) R H same = rw (e, q) (record {
     xs = [];
     T′ = T;
     climb = stop (arrow-told _ _ (record { 0 = y }) (arrow-held R H same s) refl);
@@ -169,7 +169,7 @@ module _ (a : State → Letter) {n t : ℕ} {c : Letter} where
     unlaid = λ i h. refl;
     counts = refl;
   })
-  climbed {L} {u = u} {T = T} {k = k} {y = y} (runs-out z q s e f) R H same = rw (e, f) (record {
+  comes-to {L} {u = u} {T = T} {k = k} {y = y} (runs-out z q s e f) R H same = rw (e, f) (record {
     xs = k ∷ [];
     T′ = put T k (suc t);
     climb = out z q (arrow-untold _ _ (arrow-held R H same s) refl);
@@ -185,8 +185,8 @@ module _ (a : State → Letter) {n t : ℕ} {c : Letter} where
       one : (x : State) → List·Memᴰ x (k ∷ []) → x ≤ k
       one x (List·Memᴰ·head e) = omega arith
       one x (List·Memᴰ·tail m) = absurd (elim m [ ])
-  climbed {L} {L′} {u} {u′} {T} {k} {y} (goes-on p s r) R H same =
-      join (climbed r (ready-next R (λ z. omega arith)) (held₁ R H) (λ z h. kept₁ R H z (omega arith) ∙ same z h))
+  comes-to {L} {L′} {u} {u′} {T} {k} {y} (goes-on p s r) R H same =
+      join (comes-to r (ready-next R (λ z. omega arith)) (held₁ R H) (λ z h. kept₁ R H z (omega arith) ∙ same z h))
     where
       S : State → State
       S x = at L (n + x)
@@ -194,7 +194,7 @@ module _ (a : State → Letter) {n t : ℕ} {c : Letter} where
       below : S k < k
       below = omega (arith, R .down k (omega (arith, R .below)))
 
-      join : Climbed a n t c (pushed L n u k (suc t)) (suc u) (put T k (suc t)) (S k) L′ u′ y → Climbed a n t c L u T k L′ u′ y
+      join : ComesTo a n t c (pushed L n u k (suc t)) (suc u) (put T k (suc t)) (S k) L′ u′ y → ComesTo a n t c L u T k L′ u′ y
       join I = record {
         xs = k ∷ I .xs;
         T′ = I .T′;

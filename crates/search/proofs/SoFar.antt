@@ -32,9 +32,8 @@ module _ (δ : Delta) (w t : Word) where
   ahead-one : (s : Place) → s + length w ≤ length t → ahead s ≡ with-window δ w t s (ahead (next δ w t s))
   ahead-one s h =
       let behind = next-moves δ w t s in
-      windows-one δ w t (length t) s h
-      ∙ ap (with-window δ w t s)
-      (windows-enough δ w t (length t) (suc (length t)) (next δ w t s) (omega (arith, behind)) (omega (arith, behind)))
+      let enough = windows-enough δ w t (length t) (suc (length t)) (next δ w t s) (omega (arith, behind)) (omega (arith, behind)) in
+      windows-one δ w t (length t) s h ∙ ap (with-window δ w t s) enough
 
   -- where it is read whole
   ahead-whole : (s : Place) → s + length w ≤ length t → readDown δ t s (length w) 0 .failed ≡ none

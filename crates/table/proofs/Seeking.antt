@@ -16,6 +16,7 @@ use Rattle.table.proofs.Formed.{firstOf, arrow-far, arrow-spine, arrow-
 
 -- the arrow from x on c is to be found in the slots from s to e
 pub record Seeking (L : List ℕ) (m : ℕ) (x : State) (c : Letter) (e s : ℕ) : Type 0 where
+  pub formed : Formed L m
   pub inside : e ≤ m + 1
   pub same : readArrow m L x c ≡ firstOf L c (3 * (m + 1) + s) (e - s)
 
@@ -32,18 +33,18 @@ module _ (L : List ℕ) (m : ℕ) (x : State) (c : Letter) where
 
 -- ── Slot by slot ───────────────────────────────────────────────────────────
 
-module _ {L : List ℕ} {m : ℕ} {x : State} {c : Letter} (F : Formed L m) where
+module _ {L : List ℕ} {m : ℕ} {x : State} {c : Letter} where
   -- all slots of the state are ahead
-  pub seek-start : x < m → at L (x + 1) ≢ c → Seeking L m x c (at L (2 * (m + 1) + x + 1)) (at L (2 * (m + 1) + x))
-  seek-start h f = record { inside = slots-inside F x h; same = arrow-slots L m x c h f }
+  pub seek-start : Formed L m → x < m → at L (x + 1) ≢ c → Seeking L m x c (at L (2 * (m + 1) + x + 1)) (at L (2 * (m + 1) + x))
+  seek-start F h f = record { formed = F; inside = slots-inside F x h; same = arrow-slots L m x c h f }
 
   module _ {e s : ℕ} (S : Seeking L m x c e s) where
     within : s < e → 3 * (m + 1) + s < length L
-    within h = omega (arith, S .inside, F .enough)
+    within h = omega (arith, S .inside, S .formed .enough)
 
     -- a slot's target is a state
     pub seek-state : s < e → at L (3 * (m + 1) + s) ≤ m
-    seek-state h = F .targets s (omega (arith, S .inside))
+    seek-state h = S .formed .targets s (omega (arith, S .inside))
 
     -- it has the letter
     pub seek-hit : s < e → at L (at L (3 * (m + 1) + s)) ≡ c → To (record { 0 = at L (3 * (m + 1) + s) }) ≡ arrowTo (readArrow m L x c)
@@ -51,7 +52,7 @@ module _ {L : List ℕ} {m : ℕ} {x : State} {c : Letter} (F : Formed L m) wher
 
     -- it has not: the next slot
     pub seek-next : s < e → at L (at L (3 * (m + 1) + s)) ≢ c → Seeking L m x c e (s + 1)
-    seek-next h q = record { inside = S .inside; same = S .same ∙ slot-next L c (3 * (m + 1)) s e h (within h) q }
+    seek-next h q = record { formed = S .formed; inside = S .inside; same = S .same ∙ slot-next L c (3 * (m + 1)) s e h (within h) q }
 
     -- no slot is left
     pub seek-end : e ≤ s → Missing ≡ arrowTo (readArrow m L x c)

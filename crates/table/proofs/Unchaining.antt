@@ -20,6 +20,7 @@ use Rattle.table.specs.Layout.{Fits, Moved, Unchained}
 -- K is the table so far, L the one at entry; the slots from j on hold the targets `rest`, and the targets `gone` stand in row 3 from slot s
 -- on
 pub record Unchaining (L : List ℕ) (n : ℕ) (x : State) (e : ℕ) (K : List ℕ) (s j : ℕ) : Type 0 where
+  pub few : e < n
   pub inside : j < n
   pub low : s ≤ e
   pub rest : List State
@@ -41,8 +42,9 @@ pub record Next (K : List ℕ) (n s j : ℕ) : Type 0 where
 
 module _ {L : List ℕ} {n : ℕ} {x : State} {e : ℕ} where
   -- nothing is moved
-  pub unchain-start : x < n → Fits L n x e → Unchaining L n x e L e (at L (2 * n + x))
-  unchain-start h F = record {
+  pub unchain-start : e < n → Fits L n x e → Unchaining L n x e L e (at L (2 * n + x))
+  unchain-start b F = record {
+    few = b;
     inside = chain-inside (omega arith) (F .chain);
     low = le-refl e;
     rest = F .targets;
@@ -56,9 +58,9 @@ module _ {L : List ℕ} {n : ℕ} {x : State} {e : ℕ} where
     kept = λ i h. refl;
   }
 
-  module _ {K : List ℕ} {s j : ℕ} (b : e < n) (U : Unchaining L n x e K s j) where
+  module _ {K : List ℕ} {s j : ℕ} (U : Unchaining L n x e K s j) where
     slots-kept : (i : ℕ) → 4 * n ≤ i → at K i ≡ at L i
-    slots-kept i h = U .kept i (inr (omega arith))
+    slots-kept i h = U .kept i (inr (omega (arith, U .few)))
 
     -- the next slot is an older one, and there is room for a target
     pub unchain-next : j ≢ 0 → Next K n s j
@@ -83,6 +85,7 @@ module _ {L : List ℕ} {n : ℕ} {x : State} {e : ℕ} where
             → Unchaining L n x e K′ (s - 1) (at K (4 * n + j))
         by (ends z) h w = absurd (f z)
         by (links {l = r} p i q g o C) h w = record {
+          few = U .few;
           inside = omega (arith, o, slots-kept (4 * n + j) (omega arith));
           low = omega (arith, U .low);
           rest = r;

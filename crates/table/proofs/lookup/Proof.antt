@@ -12,14 +12,6 @@ Inv-loop table m n from on s₀ end s = Seeking table m from on end s
 abbrev μ-loop : tie.MeasureT-loop
 μ-loop table m n from on s₀ end s = end - s
 
-returns : tie.Need-returns Inv-loop μ-loop
-returns c = seek-far _ _ _ _ (c .if1 .taken)
-
-returns-2 : tie.Need-returns-2 Inv-loop μ-loop
-returns-2 c =
-    let at-if1 = c .before .before in
-    seek-spine _ _ _ _ (at-if1 .if1 .left) (c .if2 .taken)
-
 cast-s : tie.Need-cast-s Inv-loop μ-loop
 cast-s c =
     let at-start = c .before .before .before .before .before .before in
@@ -46,45 +38,33 @@ cast-at c =
 mul-if3 : tie.Need-mul-if3 Inv-loop μ-loop
 mul-if3 c =
     let at-loop-test = c .before in
-    let at-loop = at-loop-test .before in
-    let at-start = at-loop .before .before .before .before .before .before .before .before in
-    omega (arith, at-start .pre .small, seek-state (at-start .pre) (at-loop .loop .inv) (at-loop-test .loop-test .taken))
+    let S = at-loop-test .before .loop .inv in
+    omega (arith, S .formed .small, seek-state S (at-loop-test .loop-test .taken))
 
 shared-slice-read-if3 : tie.Need-shared-slice-read-if3 Inv-loop μ-loop
 shared-slice-read-if3 c =
     let at-loop-test = c .before .before in
-    let at-loop = at-loop-test .before in
-    let at-start = at-loop .before .before .before .before .before .before .before .before in
-    omega (arith, at-start .pre .enough, seek-state (at-start .pre) (at-loop .loop .inv) (at-loop-test .loop-test .taken))
+    let S = at-loop-test .before .loop .inv in
+    omega (arith, S .formed .enough, seek-state S (at-loop-test .loop-test .taken))
 
 returns-3 : tie.Need-returns-3 Inv-loop μ-loop
 returns-3 c =
     let at-loop-test = c .before .before .before in
-    let at-loop = at-loop-test .before in
-    let at-start = at-loop .before .before .before .before .before .before .before .before in
-    seek-hit (at-start .pre) (at-loop .loop .inv) (at-loop-test .loop-test .taken) (c .if3 .taken)
+    seek-hit (at-loop-test .before .loop .inv) (at-loop-test .loop-test .taken) (c .if3 .taken)
 
 loop-again : tie.Need-loop-again Inv-loop μ-loop
 loop-again c =
     let at-loop-test = c .before .before .before in
-    let at-loop = at-loop-test .before in
-    let at-start = at-loop .before .before .before .before .before .before .before .before in
-    seek-next (at-start .pre) (at-loop .loop .inv) (at-loop-test .loop-test .taken) (c .if3 .left)
-
-returns-4 : tie.Need-returns-4 Inv-loop μ-loop
-returns-4 c =
-    let at-loop = c .before in
-    let at-start = at-loop .before .before .before .before .before .before .before .before in
-    seek-end (at-start .pre) (at-loop .loop .inv) (c .loop-test .left)
+    seek-next (at-loop-test .before .loop .inv) (at-loop-test .loop-test .taken) (c .if3 .left)
 
 pub lookup-spec : {M : Type 1} → statement M
 lookup-spec = tie.close (tie.spec
     Inv-loop
     μ-loop
     (λ c. search needs) (λ c. search needs) (λ c. search needs)
-    returns
+    (λ c. seek-far _ _ _ _ (c .if1 .taken))
     (λ c. search needs) (λ c. search needs) (λ c. search needs) (λ c. search needs) (λ c. search needs)
-    returns-2
+    (λ c. seek-spine _ _ _ _ (c .before .before .if1 .left) (c .if2 .taken))
     (λ c. search needs) (λ c. search needs) (λ c. search needs) (λ c. search needs)
     cast-s
     (λ c. search needs) (λ c. search needs) (λ c. search needs) (λ c. search needs) (λ c. search needs)
@@ -97,4 +77,4 @@ lookup-spec = tie.close (tie.spec
     returns-3
     (λ c. search needs) (λ c. search needs)
     loop-again
-    returns-4)
+    (λ c. seek-end (c .before .loop .inv) (c .loop-test .left)))

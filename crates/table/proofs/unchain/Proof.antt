@@ -1,5 +1,5 @@
--- `table::unchain` meets its contract: before each slot `Unchaining` holds, and `unchain-step` moves one target. The measure is the slot, as a
--- chain leads to older ones.
+-- `table::unchain` meets its contract: before each slot `Unchaining` holds, and `unchain-step` moves one target. The measure is the slot,
+-- as a chain leads to older ones.
 use mathlib.Core.Path.{sym, _∙_}
 use Prim.Native.Nat.{_+_, _*_}
 use native.Mathlib.Omega.{arith}
@@ -23,35 +23,27 @@ cast-slot c =
 loop-holds : tie.Need-loop-holds Inv-loop μ-loop
 loop-holds c =
     let at-start = c .before .before in
-    unchain-start (at-start .pre .0 .1) (at-start .pre .1)
+    unchain-start (at-start .pre .0 .2) (at-start .pre .1)
 
 sub-start : tie.Need-sub-start Inv-loop μ-loop
 sub-start c =
     let at-loop-test = c .before .before in
-    let at-loop = at-loop-test .before in
-    let at-start = at-loop .before .before .before in
-    unchain-next (at-start .pre .0 .2) (at-loop .loop .inv) (at-loop-test .loop-test .taken) .room
+    unchain-next (at-loop-test .before .loop .inv) (at-loop-test .loop-test .taken) .room
 
 cast-slot-2 : tie.Need-cast-slot-2 Inv-loop μ-loop
 cast-slot-2 c =
     let at-loop-test = c .before .before in
-    let at-loop = at-loop-test .before in
-    let at-start = at-loop .before .before .before in
-    omega (arith, unchain-next (at-start .pre .0 .2) (at-loop .loop .inv) (at-loop-test .loop-test .taken))
+    omega (arith, unchain-next (at-loop-test .before .loop .inv) (at-loop-test .loop-test .taken))
 
 loop-less : tie.Need-loop-less Inv-loop μ-loop
 loop-less c =
     let at-loop-test = c .before .before in
-    let at-loop = at-loop-test .before in
-    let at-start = at-loop .before .before .before in
-    unchain-next (at-start .pre .0 .2) (at-loop .loop .inv) (at-loop-test .loop-test .taken) .older
+    unchain-next (at-loop-test .before .loop .inv) (at-loop-test .loop-test .taken) .older
 
 loop-again : tie.Need-loop-again Inv-loop μ-loop
 loop-again c =
     let at-loop-test = c .before .before in
-    let at-loop = at-loop-test .before in
-    let at-start = at-loop .before .before .before in
-    unchain-step (at-start .pre .0 .2) (at-loop .loop .inv) (at-loop-test .loop-test .taken)
+    unchain-step (at-loop-test .before .loop .inv) (at-loop-test .loop-test .taken)
 
 same-length : tie.Need-same-length Inv-loop μ-loop
 same-length c =
@@ -63,7 +55,7 @@ returns : tie.Need-returns Inv-loop μ-loop
 returns c =
     let at-loop = c .before in
     let at-start = at-loop .before .before .before in
-    unchain-end (at-start .pre .0 .2) (at-loop .loop .inv) (at-start .pre .1 .size) (at-start .pre .0 .1) (c .loop-test .left)
+    unchain-end (at-loop .loop .inv) (at-start .pre .1 .size) (at-start .pre .0 .1) (c .loop-test .left)
 
 pub unchain-spec : {M : Type 1} → statement M
 unchain-spec = tie.close (tie.spec
@@ -72,19 +64,10 @@ unchain-spec = tie.close (tie.spec
     (λ c. search needs) (λ c. search needs) (λ c. search needs) (λ c. search needs) (λ c. search needs)
     cast-slot
     loop-holds
-    (λ c. search needs)
-    (λ c. search needs)
-    (λ c. search needs)
-    (λ c. search needs)
-    (λ c. search needs)
-    (λ c. search needs)
-    (λ c. search needs)
-    (λ c. search needs)
+    (λ c. search needs) (λ c. search needs) (λ c. search needs) (λ c. search needs) (λ c. search needs)
+    (λ c. search needs) (λ c. search needs) (λ c. search needs)
     sub-start
-    (λ c. search needs)
-    (λ c. search needs)
-    (λ c. search needs)
-    (λ c. search needs)
+    (λ c. search needs) (λ c. search needs) (λ c. search needs) (λ c. search needs)
     cast-slot-2
     loop-less
     loop-again
