@@ -3,7 +3,7 @@
 use mathlib.Core.Path.{_≡_, refl, sym, ap}
 use mathlib.Core.Logic.{_↔_}
 use mathlib.Core.Option.{none, some}
-use mathlib.Core.List.{List, _++_, List·Memᴰ}
+use mathlib.Core.List.{List, [], _∷_, _++_, List·Memᴰ}
 use Prim.Native.Nat.{ℕ, _+_, _*_, _-_, _≤_, _<_}
 use lib.ListN.{length, take, drop, getD}
 use Rattle.words.specs.Words.{Letter, Word, Place, part, mirror, occurrences}
@@ -30,7 +30,6 @@ use Rattle.mark_files.specs.SearchFile.{outcome, searchFileSays}
 use Rattle.marks.proofs.BuildSays
 use Rattle.marks.proofs.SearchSays
 use Rattle.mark_files.proofs.SearchFileSays
-use Rattle.demands.proofs.TwoTables.{ab}
 use Rattle.demands.proofs.TwoTables
 
 -- for every word within the limits, every text, and tables T with room for the word
@@ -135,6 +134,6 @@ pub freedom : (p : Word) (E : List Arrow) (S : State → State) → ExtraSet p E
 freedom = Freedom.freedom
 
 -- so two tables that hold one word, ab, may be read with different arrows and different supplies
-pub one-word-two-tables : (L : List ℕ) × (L′ : List ℕ) × (readWord 2 L ≡ ab) × (readWord 2 L′ ≡ ab)
+pub one-word-two-tables : (L : List ℕ) × (L′ : List ℕ) × (readWord 2 L ≡ 97 ∷ 98 ∷ []) × (readWord 2 L′ ≡ 97 ∷ 98 ∷ [])
     × (readArrow 2 L 0 98 ≡ some 2) × (readArrow 2 L′ 0 98 ≡ none) × (readSupply 2 L 2 ≡ some 0) × (readSupply 2 L′ 2 ≡ some 1)
 one-word-two-tables = TwoTables.two-tables

@@ -10,7 +10,7 @@ use lib.ListN.{length, length-append}
 use Rattle.words.specs.Words.{Word, Place}
 use Rattle.words.specs.declared.Place.{Place as Placed}
 use Rattle.oracle.specs.Arrows.{Delta}
-use Rattle.backward.specs.Steps.{Sweep as Searched, readDown, afterFind, windows, steps}
+use Rattle.backward.specs.Steps.{Sweep, readDown, afterFind, windows, steps}
 use Rattle.backward.proofs.Reading.{FailedAt, failed-place, whole-letters}
 use Rattle.backward.proofs.AfterFind.{after-moves, after-most}
 use Rattle.backward.proofs.Windows.{next, with-window, next-moves, windows-past, windows-one, windows-enough, steps-letters}
@@ -25,7 +25,7 @@ use Rattle.finds.proofs.Filling.{filled-nil, filled-length}
 
 module _ (δ : Delta) (w t : Word) where
   -- what the windows from s on give
-  abbrev ahead : Place → Searched
+  abbrev ahead : Place → Sweep
   ahead s = windows δ w t (suc (length t)) s
 
   -- a window and those behind it

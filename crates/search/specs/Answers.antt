@@ -10,7 +10,7 @@ use Rattle.words.specs.Words.{Place}
 use Rattle.search.specs.declared.WindowRead.{WindowRead}
 use Rattle.search.specs.declared.WindowRead.the-variants.{Failed, Whole}
 use Rattle.finds.specs.declared.Tally.{Tally}
-use Rattle.backward.specs.Steps.{Reading, Sweep as Searched}
+use Rattle.backward.specs.Steps.{Reading, Sweep}
 
 abbrev pub failedAt : Option Place → WindowRead
 failedAt none = Whole
@@ -19,5 +19,5 @@ failedAt (some f) = Failed (record { 0 = f })
 abbrev pub readingOf : Reading → WindowRead
 readingOf r = failedAt (r .failed)
 
-abbrev pub tallyOf : Searched → Tally
+abbrev pub tallyOf : Sweep → Tally
 tallyOf R = record { count = length (R .starts); letters = R .letters }

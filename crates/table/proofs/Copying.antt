@@ -7,8 +7,6 @@ use mir.Syntax.{w8, w16}
 use mir.Val.{Fits}
 use Rattle.words.specs.Words.{Word, letter, mirror}
 use Rattle.words.proofs.Words.{part-cons, mirror-part}
--- the law of copying, for the rooms above
-pub use Rattle.words.proofs.Loops.{Copied, copy-start, copy-step, copy-end}
 
 -- a letter fits an entry
 pub letter-fits : (w : Word) → ((i : ℕ) → Fits w8 (letter w i)) → (i : ℕ) → Fits w16 (letter w i)

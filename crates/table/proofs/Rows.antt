@@ -13,8 +13,7 @@ use lib.Seq.{getD-take, ext-getD}
 use Rattle.words.specs.Lists.{at, from}
 use Rattle.words.specs.Words.{Word, letter}
 use Rattle.words.proofs.Lists.{from-length, map-from-at, at-behind}
-use Rattle.words.proofs.Loops.{padded}
-pub use Rattle.words.proofs.Loops.{zeros-at}
+use Rattle.words.proofs.Loops.{padded, zeros-at}
 use Rattle.oracle.specs.Arrows.{State, Delta}
 use Rattle.oracle.specs.FileOrder.{targetsBefore}
 use Rattle.oracle.proofs.FileOrder.{before-room, before-at}
