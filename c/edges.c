@@ -1,15 +1,15 @@
 /* What only a caller in C can hand over, a null pointer with length 0 for each buffer, and the deepest calls there are, every entry on eight threads at
- * once, each with a stack of 64 KiB for the calls and for what a thread needs of its own; where the system gives no thread so little, its least. */
+ * once. Each thread's stack is painted before, and less than 64 KiB of it may be touched, by the calls and by what a thread needs of its own. */
 #define _POSIX_C_SOURCE 200809L
 #include <inttypes.h>
 #include <pthread.h>
 #include <stdio.h>
+#include <stdlib.h>
 #include <string.h>
-#include <unistd.h>
 
 #include "marks.h"
 
-enum { THREADS = 8, STACK = 64 * 1024, TEXT = 65536 };
+enum { THREADS = 8, MOST = 64 * 1024, STACK = 4 * MOST, PAINT = 0xa5, TEXT = 65536 };
 
 static uint16_t tables[MARKS_TABLES(1)];
 static uint8_t room[1], out[4];
@@ -50,9 +50,19 @@ struct work {
     uint16_t tables[MARKS_MOST_TABLES];
     uint32_t finds[2], file_finds[2], said;
     uint64_t m, length, count, file_count, letters;
+    void *stack;
 };
 
 static struct work works[THREADS];
+
+/* a stack grows towards its first byte */
+static size_t touched(const uint8_t *stack)
+{
+    size_t at = 0;
+    while (at < STACK && stack[at] == PAINT)
+        at++;
+    return STACK - at;
+}
 
 static void *deepest(void *mine)
 {
@@ -66,14 +76,19 @@ static void *deepest(void *mine)
     return NULL;
 }
 
+static int start(pthread_t *thread, struct work *w)
+{
+    pthread_attr_t painted;
+    if (posix_memalign(&w->stack, MOST, STACK) != 0 || pthread_attr_init(&painted) != 0)
+        return 1;
+    memset(w->stack, PAINT, STACK);
+    return pthread_attr_setstack(&painted, w->stack, STACK) != 0 || pthread_create(thread, &painted, deepest, w) != 0;
+}
+
 int main(void)
 {
     pthread_t threads[THREADS];
-    pthread_attr_t small;
-    long least = sysconf(_SC_THREAD_STACK_MIN);
     null_buffers();
-    if (pthread_attr_init(&small) != 0 || pthread_attr_setstacksize(&small, least > STACK ? (size_t)least : STACK) != 0)
-        return 1;
     for (int i = 0; i < THREADS; i++) {
         memset(works[i].word, 'a', MARKS_LONGEST_WORD - 1);
         works[i].word[MARKS_LONGEST_WORD - 1] = 'b';
@@ -81,7 +96,7 @@ int main(void)
         works[i].mirror[0] = 'b';
         memset(works[i].text, 'a', TEXT);
         works[i].text[1000 * i] = 'b';
-        if (pthread_create(&threads[i], &small, deepest, &works[i]) != 0)
+        if (start(&threads[i], &works[i]) != 0)
             return 1;
     }
     for (int i = 0; i < THREADS; i++) {
@@ -89,6 +104,11 @@ int main(void)
             return 1;
         printf("thread %d: %" PRIu32 ", file of %" PRIu64 " bytes, %" PRIu64 " place at %" PRIu32 ", with the file %" PRIu64 " at %" PRIu32 "\n", i,
                works[i].said, works[i].length, works[i].count, works[i].finds[0], works[i].file_count, works[i].file_finds[0]);
+        if (touched(works[i].stack) >= MOST) {
+            printf("thread %d: %u bytes of stack\n", i, (unsigned)touched(works[i].stack));
+            return 1;
+        }
+        free(works[i].stack);
     }
     return 0;
 }

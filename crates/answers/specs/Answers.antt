@@ -3,6 +3,8 @@
 --   emptyWord ..     01's numbers, by what they mean
 --   refusals         the whole table: each number and when it is given
 --   Answer A         done with an answer of kind A, or refused
+--   Succeeds a       a is done, with some answer
+--   oneOf n l        whether n is one of the numbers l
 --   refusesOnly l a  whether a is done, or refused with one of the numbers l and nothing but the number
 --   numberOf r       the number of the code's refusal r
 --   refusedAs r      what it means
@@ -10,6 +12,7 @@
 --   tallyAnswer r    the same of a search: finds and letters read
 --
 -- 01, 'When the library says no'.
+use mathlib.Core.Path.{_≡_}
 use mathlib.Core.Bool.{Bool, true, false, _||_}
 use mathlib.Core.List.{List, [], _∷_}
 use Prim.Native.Nat.{ℕ}
@@ -72,13 +75,16 @@ pub data Answer (A : Type 0) : Type 0 where
   refused : ℕ → Answer A
   refusedAt : ℕ → Place → Answer A
 
-unfoldable pub listed : ℕ → List ℕ → Bool
-listed n [] = false
-listed n (k ∷ l) = eqb n k || listed n l
+abbrev pub Succeeds : {A : Type 0} → Answer A → Type 0
+Succeeds {A} a = (v : A) × (a ≡ done v)
+
+unfoldable pub oneOf : ℕ → List ℕ → Bool
+oneOf n [] = false
+oneOf n (k ∷ l) = eqb n k || oneOf n l
 
 abbrev pub refusesOnly : {A : Type 0} → List ℕ → Answer A → Bool
 refusesOnly l (done a) = true
-refusesOnly l (refused n) = listed n l
+refusesOnly l (refused n) = oneOf n l
 refusesOnly l (refusedAt n p) = false
 
 -- ── What the code's answers mean ───────────────────────────────────────────

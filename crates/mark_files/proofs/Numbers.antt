@@ -11,7 +11,7 @@ use Rattle.loaded.specs.Cases.{Unread, cut-off, bad-byte}
 use Rattle.loaded.specs.Cases.{FrontCase, edition-unread, edition-other, length-unread, length-bad, letters-missing}
 use Rattle.loaded.specs.Cases.{ArrowsCase, arrow-agrees, up-unread, over-unread, arrow-differs, no-arrow-left, arrows-missing}
 use Rattle.loaded.specs.Cases.{EndingCase, count-unread, count-too-large, count-fits, VerdictCase, arrows-wrong, leftovers}
-use Rattle.answers.specs.Answers.{refused, refusesOnly, listed}
+use Rattle.answers.specs.Answers.{refused, refusesOnly, oneOf}
 use Rattle.mark_files.specs.Save
 use Rattle.mark_files.specs.Save.{saveSays}
 use Rattle.mark_files.specs.Load
@@ -24,7 +24,7 @@ use Rattle.mark_files.proofs.LoadSays.{load-is}
 use Rattle.mark_files.proofs.SearchFileSays.{search-file-is}
 
 pub save-numbers : (word : Word) (T O : List ℕ) → refusesOnly (1 ∷ 2 ∷ 3 ∷ 12 ∷ []) (saveSays word T O .answer) ≡ true
-unfolding listed
+unfolding oneOf
 save-numbers word T O = by (save-is word T O _ .0 refl)
   where
     by : {o : Save.Outcome} → SaveCase word T O o → refusesOnly (1 ∷ 2 ∷ 3 ∷ 12 ∷ []) (o .answer) ≡ true
@@ -45,16 +45,16 @@ searching = 4 ∷ loading
 
 -- a number of a file is one of both
 abbrev Shown : ℕ → Type 0
-Shown r = (listed r loading ≡ true) × (listed r searching ≡ true)
+Shown r = (oneOf r loading ≡ true) × (oneOf r searching ≡ true)
 
 module _ {s : List ℕ} where
   unread-number : {i : Place} {r : ℕ} {p : Place} → Unread s i r p → Shown r
-  unfolding listed
+  unfolding oneOf
   unread-number (cut-off e) = (refl, refl)
   unread-number (bad-byte e) = (refl, refl)
 
   front-number : {r : ℕ} {p : Place} → FrontCase s (stop r p) → Shown r
-  unfolding listed
+  unfolding oneOf
   front-number (edition-unread u) = unread-number u
   front-number (edition-other a d) = (refl, refl)
   front-number (length-unread a u) = unread-number u
@@ -62,7 +62,7 @@ module _ {s : List ℕ} where
   front-number (letters-missing a b c d h) = (refl, refl)
 
   arrows-number : {i : Place} {n : ℕ} {l : List Step} {r : ℕ} {p : Place} → ArrowsCase s i n l (broken r p) → Shown r
-  unfolding listed
+  unfolding oneOf
   arrows-number (arrow-agrees a b c) = arrows-number c
   arrows-number (up-unread u) = unread-number u
   arrows-number (over-unread a u) = unread-number u
@@ -71,24 +71,24 @@ module _ {s : List ℕ} where
   arrows-number arrows-missing = (refl, refl)
 
   ending-number : {i : Place} {w : Word} {r : ℕ} {p : Place} → EndingCase s i w (broken r p) → Shown r
-  unfolding listed
+  unfolding oneOf
   ending-number (count-unread u) = unread-number u
   ending-number (count-too-large a b) = (refl, refl)
   ending-number (count-fits a b c) = arrows-number c
 
   verdict-number : {i : Place} {w : Word} {r : ℕ} {p : Place} → VerdictCase s i w (wrong r p) → Shown r
-  unfolding listed
+  unfolding oneOf
   verdict-number (arrows-wrong c) = ending-number c
   verdict-number (leftovers c h) = (refl, refl)
 
   load-number : {R T : List ℕ} {n : ℕ} {R′ T′ : List ℕ} → LoadCase s R T (Load.outcome (refused n) R′ T′) → Shown n
-  unfolding listed
+  unfolding oneOf
   load-number (LoadCase.head-refused f) = front-number f
   load-number (LoadCase.short-room f r) = (refl, refl)
   load-number (LoadCase.arrows-refused f h t v) = verdict-number v
 
 pub load-numbers : (file R T : List ℕ) → refusesOnly loading (loadSays file R T .answer) ≡ true
-unfolding listed
+unfolding oneOf
 load-numbers file R T = by (load-is file R T _ .0 refl)
   where
     by : {o : Load.Outcome} → LoadCase file R T o → refusesOnly loading (o .answer) ≡ true
@@ -99,7 +99,7 @@ load-numbers file R T = by (load-is file R T _ .0 refl)
 
 pub search-file-numbers : (file : List ℕ) (text : Word) (R T : List ℕ) (F : List Place)
     → refusesOnly searching (searchFileSays file text R T F .answer) ≡ true
-unfolding listed
+unfolding oneOf
 search-file-numbers file text R T F = by (search-file-is file text R T F _ .0 refl)
   where
     by : {o : SearchFile.Outcome} → SearchFileCase file text R T F o → refusesOnly searching (o .answer) ≡ true

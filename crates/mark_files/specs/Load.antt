@@ -1,10 +1,13 @@
 -- WHAT LOAD SAYS: the whole outcome as a function of what is lent.
 --
---   Outcome            the answer, and the word room and the tables as they are left
---   loadedAs r R T     the outcome of code that answers r and leaves R and T
---   loadSays file R T  what it must be: the first refusal that the file shows up to its letters; then 3; then the first refusal that it
---                      shows behind them; else m, the file's word and its table. A refusal before 3 is passed changes nothing, one after it
---                      leaves zeros in the word's part of both rooms
+--   Outcome                 the answer, and the word room and the tables as they are left
+--   loadedAs r R T          the outcome of code that answers r and leaves R and T
+--   judged v w              what the verdict v on its arrows makes of the word w: the outcome in the word's part of both rooms
+--   judgedAt file i m       the same of the m letters that stand in the file from place i on
+--   lettersRead f file R T  the outcome for a file that shows f up to its letters
+--   loadSays file R T       what it must be: the first refusal that the file shows up to its letters; then 3; then the first refusal that
+--                           it shows behind them; else m, the file's word and its table. A refusal before 3 is passed changes nothing,
+--                           one after it leaves zeros in the word's part of both rooms
 --
 -- 01, 'The file on disk' and 'When the library says no'; demands 1 and 3.
 use mathlib.Core.Bool.{_||_, cond}
@@ -29,12 +32,10 @@ outcome a R T = record { answer = a; word = R; tables = T }
 abbrev pub loadedAs : SizeAnswer → List ℕ → List ℕ → Outcome
 loadedAs r R T = outcome (sizeAnswer r) R T
 
--- what a file's arrows make of the word's part of the rooms
 abbrev pub judged : Verdict → Word → Outcome
 judged right w = outcome (done (length w)) w (tableOf w)
 judged (wrong n i) w = outcome (refused n) (replicate (length w) 0) (replicate (room (length w)) 0)
 
--- the m letters that stand in the file from place i on, with the arrows behind them
 abbrev pub judgedAt : List ℕ → Place → ℕ → Outcome
 judgedAt file i m =
     let w = part file i m in

@@ -2,6 +2,7 @@
 --
 --   Outcome                          the answer, and the word room, the tables and the list as they are left
 --   fileSearched r R T F             the outcome of code that answers r and leaves R, T and F
+--   afterLoad a text R T F           the outcome once loading has answered a and left R and T
 --   searchFileSays file text R T F   what it must be: 4, then as loading; then every occurrence of the mirror of the file's word is counted
 --                                    and the first of them are listed, as many as fit, and the letters are those of the published steps
 --

@@ -4,7 +4,7 @@ use mathlib.Core.Bool.{true}
 use mathlib.Core.List.{List, [], _∷_}
 use Prim.Native.Nat.{ℕ}
 use Rattle.words.specs.Words.{Word, Place}
-use Rattle.answers.specs.Answers.{refusesOnly, listed}
+use Rattle.answers.specs.Answers.{refusesOnly, oneOf}
 use Rattle.marks.specs.Build
 use Rattle.marks.specs.Build.{buildSays}
 use Rattle.marks.specs.Search
@@ -14,7 +14,7 @@ use Rattle.marks.proofs.BuildSays.{build-is}
 use Rattle.marks.proofs.SearchSays.{search-is}
 
 pub build-numbers : (word : Word) (T : List ℕ) → refusesOnly (1 ∷ 2 ∷ 3 ∷ []) (buildSays word T .answer) ≡ true
-unfolding listed
+unfolding oneOf
 build-numbers word T = by (build-is word T _ .0 refl)
   where
     by : {o : Build.Outcome} → BuildCase word T o → refusesOnly (1 ∷ 2 ∷ 3 ∷ []) (o .answer) ≡ true
@@ -25,7 +25,7 @@ build-numbers word T = by (build-is word T _ .0 refl)
 
 pub search-numbers : (word text : Word) (T : List ℕ) (F : List Place)
     → refusesOnly (1 ∷ 2 ∷ 4 ∷ 3 ∷ []) (searchSays word text T F .answer) ≡ true
-unfolding listed
+unfolding oneOf
 search-numbers word text T F = by (search-is word text T F _ .0 refl)
   where
     by : {o : Search.Outcome} → SearchCase word text T F o → refusesOnly (1 ∷ 2 ∷ 4 ∷ 3 ∷ []) (o .answer) ≡ true

@@ -8,7 +8,7 @@ use Prim.Native.Nat.{ℕ}
 use native.Mathlib.Omega.{arith}
 use Rattle.words.specs.Words.{Word, Place}
 use Rattle.finds.specs.declared.Tally.{Tally}
-use Rattle.answers.specs.Answers.{Answer, done, refused, refusedAt, refusesOnly, listed}
+use Rattle.answers.specs.Answers.{Answer, done, refused, refusedAt, Succeeds, refusesOnly, oneOf}
 use Rattle.answers.proofs.Answers.{done-not-refused}
 use Rattle.marks.specs.Build.{buildSays}
 use Rattle.marks.specs.Search.{searchSays}
@@ -28,33 +28,30 @@ call-one e f = e ∙ sym f
 false-not-true : {B : Type 0} → _≡_ {A = Bool} false true → B
 false-not-true e = let z : _≡_ {A = ℕ} 0 1 = cc in absurd (omega arith)
 
-abbrev Done : {A : Type 0} → Answer A → Type 0
-Done {A} a = (v : A) × (a ≡ done v)
-
 -- where every refusal has one of the numbers l, none of them 0
-done-exactly : {A : Type 0} (l : List ℕ) → listed 0 l ≡ false → (a : Answer A) → refusesOnly l a ≡ true → (resultOf a ≡ 0) ↔ Done a
+done-exactly : {A : Type 0} (l : List ℕ) → oneOf 0 l ≡ false → (a : Answer A) → refusesOnly l a ≡ true → (resultOf a ≡ 0) ↔ Succeeds a
 done-exactly l nowhere (done v) only = (λ e. (v, refl), λ d. refl)
 done-exactly l nowhere (refused n) only = (λ e. false-not-true (sym nowhere ∙ rw e at only), λ d. done-not-refused (sym (d .1)))
 done-exactly l nowhere (refusedAt n p) only = false-not-true only
 
-pub build-done : (word : Word) (T : List ℕ) (m : ℕ) → (buildCallSays word T m .result ≡ 0) ↔ Done (buildSays word T .answer)
-unfolding listed
+pub build-done : (word : Word) (T : List ℕ) (m : ℕ) → (buildCallSays word T m .result ≡ 0) ↔ Succeeds (buildSays word T .answer)
+unfolding oneOf
 build-done word T m = done-exactly (1 ∷ 2 ∷ 3 ∷ []) refl _ (build-numbers word T)
 
-pub save-done : (word : Word) (T O : List ℕ) (n : ℕ) → (saveCallSays word T O n .result ≡ 0) ↔ Done (saveSays word T O .answer)
-unfolding listed
+pub save-done : (word : Word) (T O : List ℕ) (n : ℕ) → (saveCallSays word T O n .result ≡ 0) ↔ Succeeds (saveSays word T O .answer)
+unfolding oneOf
 save-done word T O n = done-exactly (1 ∷ 2 ∷ 3 ∷ 12 ∷ []) refl _ (save-numbers word T O)
 
-pub load-done : (file R T : List ℕ) (m : ℕ) → (loadCallSays file R T m .result ≡ 0) ↔ Done (loadSays file R T .answer)
-unfolding listed
+pub load-done : (file R T : List ℕ) (m : ℕ) → (loadCallSays file R T m .result ≡ 0) ↔ Succeeds (loadSays file R T .answer)
+unfolding oneOf
 load-done file R T m = done-exactly loading refl _ (load-numbers file R T)
 
 pub search-done : (word text : Word) (T : List ℕ) (F : List Place) (c l : ℕ)
-    → (searchCallSays word text T F c l .result ≡ 0) ↔ Done (searchSays word text T F .answer)
-unfolding listed
+    → (searchCallSays word text T F c l .result ≡ 0) ↔ Succeeds (searchSays word text T F .answer)
+unfolding oneOf
 search-done word text T F c l = done-exactly (1 ∷ 2 ∷ 4 ∷ 3 ∷ []) refl _ (search-numbers word text T F)
 
 pub search-file-done : (file : List ℕ) (text : Word) (R T : List ℕ) (F : List Place) (c l : ℕ)
-    → (searchFileCallSays file text R T F c l .result ≡ 0) ↔ Done (searchFileSays file text R T F .answer)
-unfolding listed
+    → (searchFileCallSays file text R T F c l .result ≡ 0) ↔ Succeeds (searchFileSays file text R T F .answer)
+unfolding oneOf
 search-file-done file text R T F c l = done-exactly searching refl _ (search-file-numbers file text R T F)
