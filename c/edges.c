@@ -1,15 +1,17 @@
 /* What only a caller in C can hand over, a null pointer with length 0 for each buffer, and the deepest calls there are, every entry on eight threads at
- * once. Each thread's stack is painted before, and less than 64 KiB of it may be touched, by the calls and by what a thread needs of its own. */
-#define _POSIX_C_SOURCE 200809L
+ * once. Each thread has a stack of 64 KiB, or the least that the system gives where that is more, above a page that nobody may touch. It is painted before, and
+ * less than 64 KiB of it may be touched, by the calls and by what a thread needs of its own. */
+#define _DEFAULT_SOURCE
 #include <inttypes.h>
 #include <pthread.h>
 #include <stdio.h>
-#include <stdlib.h>
 #include <string.h>
+#include <sys/mman.h>
+#include <unistd.h>
 
 #include "marks.h"
 
-enum { THREADS = 8, MOST = 64 * 1024, STACK = 4 * MOST, PAINT = 0xa5, TEXT = 65536 };
+enum { THREADS = 8, MOST = 64 * 1024, GUARD = MOST, PAINT = 0xa5, TEXT = 65536 };
 
 static uint16_t tables[MARKS_TABLES(1)];
 static uint8_t room[1], out[4];
@@ -43,25 +45,31 @@ static void null_buffers(void)
     printf(", %" PRIu64 " places, %" PRIu64 " letters\n", count, letters);
 }
 
-/* a word of 1,023 times a and one b: its last letter climbs over every state, and does so too where the mirror is looked for, which stands in the text at a
+/* the longest word of a's and one b: its last letter climbs over every state, and does so too where the mirror is looked for, which stands in the text at a
  * place of the thread's own */
 struct work {
     uint8_t word[MARKS_LONGEST_WORD], mirror[MARKS_LONGEST_WORD], text[TEXT], room[MARKS_LONGEST_WORD], file[MARKS_MOST_FILE];
     uint16_t tables[MARKS_MOST_TABLES];
     uint32_t finds[2], file_finds[2], said;
     uint64_t m, length, count, file_count, letters;
-    void *stack;
+    uint8_t *stack;
 };
 
 static struct work works[THREADS];
+
+static size_t stack_size(void)
+{
+    long least = sysconf(_SC_THREAD_STACK_MIN);
+    return least > MOST ? (size_t)least : MOST;
+}
 
 /* a stack grows towards its first byte */
 static size_t touched(const uint8_t *stack)
 {
     size_t at = 0;
-    while (at < STACK && stack[at] == PAINT)
+    while (at < stack_size() && stack[at] == PAINT)
         at++;
-    return STACK - at;
+    return stack_size() - at;
 }
 
 static void *deepest(void *mine)
@@ -79,10 +87,12 @@ static void *deepest(void *mine)
 static int start(pthread_t *thread, struct work *w)
 {
     pthread_attr_t painted;
-    if (posix_memalign(&w->stack, MOST, STACK) != 0 || pthread_attr_init(&painted) != 0)
+    uint8_t *guard = mmap(NULL, GUARD + stack_size(), PROT_READ | PROT_WRITE, MAP_PRIVATE | MAP_ANONYMOUS, -1, 0);
+    if (guard == MAP_FAILED || mprotect(guard, GUARD, PROT_NONE) != 0 || pthread_attr_init(&painted) != 0)
         return 1;
-    memset(w->stack, PAINT, STACK);
-    return pthread_attr_setstack(&painted, w->stack, STACK) != 0 || pthread_create(thread, &painted, deepest, w) != 0;
+    w->stack = guard + GUARD;
+    memset(w->stack, PAINT, stack_size());
+    return pthread_attr_setstack(&painted, w->stack, stack_size()) != 0 || pthread_create(thread, &painted, deepest, w) != 0;
 }
 
 int main(void)
@@ -108,7 +118,6 @@ int main(void)
             printf("thread %d: %u bytes of stack\n", i, (unsigned)touched(works[i].stack));
             return 1;
         }
-        free(works[i].stack);
     }
     return 0;
 }
