@@ -1,6 +1,6 @@
 /* Finding marks in broken ride files, for C99 and C++.
  *
- * A mark is a word of 1 to 1,024 bytes. marks_search lists every place where it stands in a text. marks_save writes its index to a file of at most 5,121
+ * A mark is a word of 1 to 4,096 bytes. marks_search lists every place where it stands in a text. marks_save writes its index to a file of at most 20,481
  * bytes, marks_load reads such a file, and marks_search_file searches with one. c/find.c is a program to start from.
  *
  * Any bytes and any lengths may be handed to every entry. It returns MARKS_OK and writes its answers through the last pointers; or it refuses: it returns
@@ -27,13 +27,13 @@
 enum {
     MARKS_OK = 0,
     MARKS_EMPTY_WORD = 1,    /* the word is empty */
-    MARKS_LONG_WORD = 2,     /* the word is longer than 1,024 */
+    MARKS_LONG_WORD = 2,     /* the word is longer than 4,096 */
     MARKS_SHORT_ROOM = 3,    /* fewer than 6(m+1) table entries; with a file also word room below m */
     MARKS_LONG_TEXT = 4,     /* the text is longer than 16,777,216 */
     MARKS_CUT_FILE = 5,      /* the file ends before or inside a number, or before the last of the m letters */
     MARKS_BAD_NUMBER = 6,    /* a number's last of several groups is zero, or its fifth byte is above 15 */
     MARKS_OTHER_EDITION = 7, /* edition other than 1 */
-    MARKS_BAD_LENGTH = 8,    /* declared m is 0 or above 1,024 */
+    MARKS_BAD_LENGTH = 8,    /* declared m is 0 or above 4,096 */
     MARKS_BAD_COUNT = 9,     /* declared arrows exceed m-1 */
     MARKS_WRONG_ARROW = 10,  /* an arrow differs from the word's extra arrow at that place or none is left there, or arrows are missing */
     MARKS_LEFTOVERS = 11,    /* bytes remain after the last arrow */
@@ -41,11 +41,11 @@ enum {
 };
 
 /* Room, in elements of the buffer that it is for. A text may be empty, and a list of finds may have any length, 0 too. */
-#define MARKS_LONGEST_WORD 1024                             /* also word room for every file */
+#define MARKS_LONGEST_WORD 4096                             /* also word room for every file */
 #define MARKS_LONGEST_TEXT 16777216
 #define MARKS_TABLES(m) (6 * ((m) + 1))                     /* table entries for a word of m letters */
 #define MARKS_MOST_TABLES MARKS_TABLES(MARKS_LONGEST_WORD)  /* table entries for every word */
-#define MARKS_MOST_FILE 5121                                /* output for the file of every word */
+#define MARKS_MOST_FILE 20481                               /* output for the file of every word */
 
 #ifdef __cplusplus
 extern "C" {

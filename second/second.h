@@ -11,9 +11,9 @@
 
 /* The scope document's limits. Nothing else in second/ rests on their values. */
 enum {
-    MOST_LETTERS = 1024,         /* of a word */
+    MOST_LETTERS = 4096,         /* of a word */
     MOST_TEXT = 16777216,        /* bytes of a text */
-    ALWAYS_ENOUGH = 5121,        /* bytes of output, for the file of any word */
+    ALWAYS_ENOUGH = 20481,       /* bytes of output, for the file of any word */
     MOST_FILE = 8 * MOST_LETTERS /* a room of our own for a file: more than any has */
 };
 

@@ -1,6 +1,6 @@
 //! Finding marks in broken ride files: a safe face of the proved library.
 //!
-//! A [`Mark`] is a word of 1 to 1,024 bytes. It is made from the word itself or from a saved file, owns the rooms that the library works in, and can be used for
+//! A [`Mark`] is a word of 1 to 4,096 bytes. It is made from the word itself or from a saved file, owns the rooms that the library works in, and can be used for
 //! any number of texts of any length.
 //!
 //! ```
@@ -29,13 +29,13 @@ pub use mark::Mark;
 pub use refusal::Refusal;
 
 /// The longest word, in bytes.
-pub const LONGEST_WORD: usize = 1_024;
+pub const LONGEST_WORD: usize = 4_096;
 
 /// The longest text that one call of an entry takes, in bytes. [`Mark`] takes longer ones, in parts.
 pub const LONGEST_TEXT: usize = 16_777_216;
 
 /// So many bytes are room enough for the file of any word.
-pub const LONGEST_FILE: usize = 5_121;
+pub const LONGEST_FILE: usize = 20_481;
 
 /// How many entries the table of a word of m letters takes.
 pub const fn table_room(m: usize) -> usize {

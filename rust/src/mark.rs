@@ -5,7 +5,7 @@ use crate::{entries, table_room, Finds, Refusal, LONGEST_FILE, LONGEST_TEXT, LON
 /// How many finds are listed at a time.
 const LIST: usize = 4_096;
 
-/// A word of 1 to 1,024 bytes, ready to be found in any number of texts.
+/// A word of 1 to 4,096 bytes, ready to be found in any number of texts.
 ///
 /// It owns its rooms, so a search allocates nothing. To search on several threads at once, clone it.
 #[derive(Clone, Debug)]

@@ -11,14 +11,14 @@ use std::{error::Error, fmt};
 /// let refused = Mark::from_file(&[0x01, 0xFF, 0xFF, 0xFF, 0xFF, 0x0F]).unwrap_err();
 /// assert_eq!(refused, Refusal::BadLength);
 /// assert_eq!(refused.number(), 8);
-/// assert_eq!(refused.to_string(), "the file declares a word of no letters or of more than 1,024 (8)");
+/// assert_eq!(refused.to_string(), "the file declares a word of no letters or of more than 4,096 (8)");
 /// ```
 #[derive(Clone, Copy, Debug, PartialEq, Eq, Hash, PartialOrd, Ord)]
 #[repr(u32)]
 pub enum Refusal {
     /// The word is empty.
     EmptyWord = 1,
-    /// The word is longer than 1,024 bytes.
+    /// The word is longer than 4,096 bytes.
     LongWord = 2,
     /// Fewer than 6(m+1) table entries are lent, or, with a file, fewer than m bytes for its word.
     ShortRoom = 3,
@@ -30,7 +30,7 @@ pub enum Refusal {
     BadNumber = 6,
     /// The file's edition is not 1.
     OtherEdition = 7,
-    /// The declared length of the word is 0 or above 1,024.
+    /// The declared length of the word is 0 or above 4,096.
     BadLength = 8,
     /// More arrows are declared than the word's length less 1.
     BadCount = 9,
@@ -71,13 +71,13 @@ impl Refusal {
     fn meaning(self) -> &'static str {
         match self {
             Refusal::EmptyWord => "the word is empty",
-            Refusal::LongWord => "the word is longer than 1,024 bytes",
+            Refusal::LongWord => "the word is longer than 4,096 bytes",
             Refusal::ShortRoom => "the room lent for the table or for the word is too short",
             Refusal::LongText => "the text is longer than 16,777,216 bytes",
             Refusal::CutFile => "the file ends before its last field does",
             Refusal::BadNumber => "a number in the file is not in its one spelling",
             Refusal::OtherEdition => "the file is of another edition than 1",
-            Refusal::BadLength => "the file declares a word of no letters or of more than 1,024",
+            Refusal::BadLength => "the file declares a word of no letters or of more than 4,096",
             Refusal::BadCount => "the file declares more arrows than its word can have",
             Refusal::WrongArrow => "the file's arrows are not those of its word",
             Refusal::Leftovers => "bytes follow the file's last arrow",

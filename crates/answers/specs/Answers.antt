@@ -55,13 +55,13 @@ line n s = record { number = n; given-when = s }
 unfoldable pub refusals : List Line
 refusals =
     line emptyWord "the word is empty (build, save, search)"
-    ∷ line longWord "the word is longer than 1,024 (the same)"
+    ∷ line longWord "the word is longer than 4,096 (the same)"
     ∷ line shortRoom "fewer than 6(m+1) table entries, or, when loading or searching with a file, word room below m"
     ∷ line longText "the text is longer than 16,777,216"
     ∷ line 5 "the file ends before or inside a number, or before the last of the m letters"
     ∷ line 6 "a number's last of several groups is zero, or its fifth byte is above 15"
     ∷ line 7 "edition other than 1"
-    ∷ line 8 "declared m is 0 or above 1,024"
+    ∷ line 8 "declared m is 0 or above 4,096"
     ∷ line 9 "declared arrows exceed m-1"
     ∷ line 10 "an arrow differs from the word's extra arrow at that place or none is left there, or arrows are missing"
     ∷ line 11 "bytes remain after the last arrow"

@@ -7,7 +7,7 @@ use Rattle.words.specs.Limits.{longestWord, longestText, leastSaved, gre
 -- ── The code's constants ───────────────────────────────────────────────────
 
 -- WORD_LIMIT
-pub word-limit : longestWord ≡ 1024
+pub word-limit : longestWord ≡ 4096
 unfolding longestWord
 word-limit = refl
 

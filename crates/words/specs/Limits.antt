@@ -9,7 +9,7 @@
 use Prim.Native.Nat.{ℕ}
 
 unfoldable pub longestWord : ℕ
-longestWord = 1024
+longestWord = 4096
 
 unfoldable pub longestText : ℕ
 longestText = 16777216
@@ -18,4 +18,4 @@ unfoldable pub leastSaved : ℕ
 leastSaved = 1
 
 unfoldable pub greatestFile : ℕ
-greatestFile = 5121
+greatestFile = 20481

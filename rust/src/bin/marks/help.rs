@@ -18,7 +18,7 @@ marks finds byte marks in files of any size, with a proved library.
       --dot             show: as Graphviz text; marks show --dot F | dot -Tsvg
       --help, --version
 
-WORD has 1 to 1,024 bytes; finds may overlap. The file - is standard input, and
+WORD has 1 to 4,096 bytes; finds may overlap. The file - is standard input, and
 -- ends the options. A mark file holds its mark from last letter to first, the
 mirror, because the search reads backward.
 Status: 0 found or good, 1 none found or a mark file refused, 2 trouble.";

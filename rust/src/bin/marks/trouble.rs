@@ -61,7 +61,7 @@ impl fmt::Display for Trouble {
 /// What to do about a refusal.
 pub fn advice(refusal: Refusal) -> &'static str {
     match refusal {
-        Refusal::EmptyWord | Refusal::LongWord => "give 1 to 1,024 bytes",
+        Refusal::EmptyWord | Refusal::LongWord => "give 1 to 4,096 bytes",
         Refusal::CutFile => "it was cut: copy it again, or save the mark again",
         Refusal::BadNumber => "it is damaged or no mark file: save the mark again; docs/FILE.md has the spelling",
         Refusal::OtherEdition => "it is no mark file, or of a later edition: save the mark again",
