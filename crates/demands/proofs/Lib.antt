@@ -2,3 +2,4 @@ pub mod Demand1
 pub mod Demand2
 pub mod TwoTables
 pub mod Demand3
+pub mod LongerMarks

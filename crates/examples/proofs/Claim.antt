@@ -11,9 +11,9 @@ use Rattle.oracle.specs.FileOrder.{leadsTo, extraTargets, extrasBefore, fileArr
 use Rattle.backward.specs.Steps.{readDown, afterFind, windows, steps, backward}
 use Rattle.number.specs.Number.{groups, spellNumber, refuses, see, seeNumber, numberAt}
 use Rattle.saved.specs.File.{edition, stepsFrom, spellSteps, ownSteps, body, spell}
-use Rattle.loaded.specs.Load.{frontAt}
-use Rattle.mark_files.specs.Load.{loadSays}
-use Rattle.examples.specs.Examples.{is, isNone, walked, empty, has, gives, isRefused, refusedWith, refusedInRooms, holds, allHold}
+use Rattle.loaded.specs.Load.{frontWithin}
+use Rattle.mark_files.specs.Load.{loadWithin}
+use Rattle.examples.specs.Examples.{is, isNone, walked, empty, has, gives, isRefused, refusedWith, refusedInRooms, shows, holds, allHold}
 use Rattle.examples.specs.Examples.{word, digit, bytes, table}
 
 pub examples-hold : T (allHold table)
@@ -21,6 +21,6 @@ unfolding from only first same stands occurrences longestWord leastSaved
     target walk spine far mend missing extrasAfter extraArrows suffixRule climb addLetter builtUpTo letterRule
     ends twice repeated supply leadsTo extraTargets extrasBefore fileArrows
     readDown afterFind windows steps backward
-    groups spellNumber refuses see seeNumber numberAt edition stepsFrom spellSteps ownSteps body spell frontAt loadSays
-    is isNone walked empty has gives isRefused refusedWith refusedInRooms holds allHold word digit bytes table
+    groups spellNumber refuses see seeNumber numberAt edition stepsFrom spellSteps ownSteps body spell frontWithin loadWithin
+    is isNone walked empty has gives isRefused refusedWith refusedInRooms shows holds allHold word digit bytes table
 examples-hold = tt

@@ -1,16 +1,17 @@
--- The worked examples that 01 marks P, as one table, and the test that each must pass on the definitions.
+-- The worked examples that 01 marks P, and those of 02 that the definitions can compute, as one table, and the test that each must pass on
+-- the definitions.
 --
---   Example         one line of 01's list
+--   Example         one line of their lists
 --   holds e         whether the definitions say what the line says
 --   word s          a word, written in its letters
 --   bytes s         a file, written in hexadecimal digits
 --   table           the lines
 --   allHold l       whether every one of them holds
 --
--- 01, 'Examples to hold against the rules'.
+-- 01, 'Examples to hold against the rules'; 02.
 use mathlib.Core.Bool.{Bool, true, false, _&&_, cond}
 use mathlib.Core.Option.{Option, none, some}
-use mathlib.Core.List.{List, [], _∷_}
+use mathlib.Core.List.{List, [], _∷_, _++_}
 use Prim.Native.Nat.{ℕ, suc, pred, _+_, _*_, _-_}
 use Prim.Native.Char.{code}
 use Prim.Native.String.{String}
@@ -25,6 +26,7 @@ use Rattle.oracle.specs.FileOrder.{Extra, extra}
 use Rattle.backward.specs.Steps.{backward}
 use Rattle.table.specs.Table.{room}
 use Rattle.saved.specs.File.{spell}
+use Rattle.loaded.specs.Load.{Front, letters, stop, front}
 use Rattle.answers.specs.Answers.{Answer, done, refused, refusedAt}
 use Rattle.mark_files.specs.Load.{Outcome, loadSays}
 
@@ -44,6 +46,8 @@ pub data Example : Type 0 where
   fileOf : (word : Word) (file : List ℕ) → Example
   -- bytes that are no file, and the number with which load refuses them
   loadRefused : (file : List ℕ) (number : ℕ) → Example
+  -- the first bytes of a file which, with so many letters behind them, is let through to the next field
+  letThrough : (start : List ℕ) (m : ℕ) → Example
 
 unfoldable pub is : Option ℕ → ℕ → Bool
 is none y = false
@@ -87,6 +91,11 @@ refusedInRooms f n m =
     let T : List ℕ = replicate (room m) 9 in
     refusedWith n R T (loadSays f R T)
 
+-- m letters that start at place i
+unfoldable pub shows : Front → ℕ → Place → Bool
+shows (letters n j) m i = eqb n m && eqb j i
+shows (stop n j) m i = false
+
 unfoldable pub holds : Example → Bool
 holds (arrowsOf p extra n l) =
     let rule = letterRule p in
@@ -106,6 +115,7 @@ holds (search w t starts n) =
 holds (fileOf p f) = same (spell p) f
 -- the rooms of no letter, too short for any word, and those of three letters: these refusals come before 3
 holds (loadRefused f n) = refusedInRooms f n 0 && refusedInRooms f n 3
+holds (letThrough start m) = shows (front (start ++ replicate m 97)) m (length start)
 
 unfoldable pub allHold : List Example → Bool
 allHold [] = true
@@ -146,4 +156,8 @@ table =
     ∷ search (word "abc") (word "ab") [] 0
     ∷ loadRefused (bytes "01 FF FF FF FF 0F") 8
     ∷ loadRefused (bytes "01 83 00 61 61 61 00") 6
+    ∷ letThrough (bytes "01 80 08") 1024
+    ∷ letThrough (bytes "01 81 08") 1025
+    ∷ letThrough (bytes "01 80 20") 4096
+    ∷ loadRefused (bytes "01 81 20") 8
     ∷ []

@@ -18,7 +18,7 @@ use Rattle.number.specs.declared.Number.the-variants.{Value, Refused}
 use Rattle.number.specs.Number.{numberAt}
 use Rattle.number.proofs.Theorems.{Refusal, number-at-refused, cut-exactly, bad-exactly}
 use Rattle.saved.specs.File.{edition, Step, ownSteps}
-use Rattle.loaded.specs.Load.{taking, field, Front, stop, frontAt, neither, twoAt, nextIs, takingTwo}
+use Rattle.loaded.specs.Load.{taking, field, Front, stop, frontWithin, frontAt, neither, twoAt, nextIs, takingTwo}
 use Rattle.loaded.specs.Load.{Ending, behind, broken, arrowsAt, ending, Verdict, closed, verdict}
 use Rattle.loaded.specs.Cases.{Reads, Unread, cut-off, bad-byte}
 use Rattle.loaded.specs.Cases.{BadLength, FrontCaseAt, edition-unread, edition-other, length-unread, length-bad}
@@ -86,7 +86,7 @@ module _ (s : List ℕ) where
 
   -- some way leads to what is shown
   pub front-case : (o : Place) → FrontCaseAt s o (frontAt s o)
-  unfolding frontAt
+  unfolding frontWithin
   front-case o =
       field-case (FrontCaseAt s o) s o stop _ (λ r p u. edition-unread u) (λ e i h.
       test-case (FrontCaseAt s o) (eqb e edition) (λ t. let g : Reads s o edition i = rw (eqb-true e edition t) at h in
@@ -98,7 +98,7 @@ module _ (s : List ℕ) where
 
   -- and every way that applies leads there
   pub case-front : {o : Place} {f : Front} → FrontCaseAt s o f → frontAt s o ≡ f
-  unfolding frontAt
+  unfolding frontWithin
   case-front (edition-unread u) = rw (unread s _ u)
   case-front (edition-other {e = e} h d) = rw (h, ne-eqb e edition d)
   case-front (length-unread h u) = rw (h, eq-eqb edition edition refl, unread s _ u)

@@ -1,5 +1,6 @@
 pub mod Cases
 pub mod Fronts
+pub mod Within
 pub mod Comparing
 pub mod Fields
 pub mod Accepted

@@ -28,14 +28,14 @@ use Rattle.answers.specs.declared.SizeAnswer.{SizeAnswer}
 use Rattle.answers.specs.declared.SizeAnswer.the-variants.{Done}
 use Rattle.answers.specs.Answers.{Answer, done, refused, shortRoom}
 use Rattle.answers.proofs.Answers.{done-not-refused, size-answer-one}
-use Rattle.mark_files.specs.Load.{Outcome, outcome, loadedAs, judgedAt, loadSays}
+use Rattle.mark_files.specs.Load.{Outcome, outcome, loadedAs, judgedAt, loadWithin, loadSays}
 use Rattle.mark_files.specs.Cases.{LoadCase, AfterRefusal}
 
 module _ (file R T : List ℕ) where
   -- ── Its cases, in the order of the tests ─────────────────────────────────
 
   pub says-stop : (n i : ℕ) → front file ≡ stop n i → loadSays file R T ≡ outcome (refused n) R T
-  unfolding loadSays
+  unfolding loadWithin
   says-stop n i e = rw e
 
   -- an outcome in the first m letters' part of the rooms, with what stands behind it
@@ -47,11 +47,11 @@ module _ (file R T : List ℕ) where
     word = part file i m
 
     pub says-short-word : length R < m → loadSays file R T ≡ outcome (refused shortRoom) R T
-    unfolding loadSays
+    unfolding loadWithin
     says-short-word h = rw (e, lt-ltb (length R) m h)
 
     pub says-short-tables : length T < room m → loadSays file R T ≡ outcome (refused shortRoom) R T
-    unfolding loadSays
+    unfolding loadWithin
     says-short-tables h = by (decLt (length R) m)
       where
         by : Dec (length R < m) → loadSays file R T ≡ outcome (refused shortRoom) R T
@@ -61,7 +61,7 @@ module _ (file R T : List ℕ) where
             rw (e, k, lt-ltb (length T) (room m) h)
 
     pub says-judged : m ≤ length R → room m ≤ length T → loadSays file R T ≡ put m (judgedAt file i m)
-    unfolding loadSays
+    unfolding loadWithin
     says-judged h s = rw (e, le-ltb (length R) m h, le-ltb (length T) (room m) s)
 
   -- ── When each is given ───────────────────────────────────────────────────

@@ -1,10 +1,12 @@
 -- WHAT SEARCH WITH A FILE SAYS: the whole outcome as a function of what is lent.
 --
---   Outcome                          the answer, and the word room, the tables and the list as they are left
---   fileSearched r R T F             the outcome of code that answers r and leaves R, T and F
---   afterLoad a text R T F           the outcome once loading has answered a and left R and T
---   searchFileSays file text R T F   what it must be: 4, then as loading; then every occurrence of the mirror of the file's word is counted
---                                    and the first of them are listed, as many as fit, and the letters are those of the published steps
+--   Outcome                                 the answer, and the word room, the tables and the list as they are left
+--   fileSearched r R T F                    the outcome of code that answers r and leaves R, T and F
+--   afterLoad a text R T F                  the outcome once loading has answered a and left R and T
+--   searchFileWithin most file text R T F   what it must be where a word may have so many letters: 4, then as loading; then every
+--                                           occurrence of the mirror of the file's word is counted and the first of them are listed, as
+--                                           many as fit, and the letters are those of the published steps
+--   searchFileSays file text R T F          the same with the limit that there is
 --
 -- 01, 'The file on disk' and 'When the library says no'; demands 1 to 3.
 use mathlib.Core.Bool.{cond}
@@ -13,13 +15,13 @@ use Prim.Native.Nat.{ℕ}
 use lib.ListN.{length, take}
 use lib.Dec.{ltb}
 use Rattle.words.specs.Words.{Word, Place, mirror, occurrences}
-use Rattle.words.specs.Limits.{longestText}
+use Rattle.words.specs.Limits.{longestWord, longestText}
 use Rattle.finds.specs.Finds.{filled}
 use Rattle.finds.specs.declared.Tally.{Tally}
 use Rattle.answers.specs.declared.TallyAnswer.{TallyAnswer}
 use Rattle.answers.specs.Answers.{Answer, done, refused, refusedAt, tallyAnswer, longText}
 use Rattle.marks.specs.Search.{found}
-use Rattle.mark_files.specs.Load.{loadSays}
+use Rattle.mark_files.specs.Load.{loadWithin}
 
 pub record Outcome : Type 0 where
   pub answer : Answer Tally
@@ -41,7 +43,10 @@ afterLoad (done m) text R T F =
     let word = mirror (take m R) in
     outcome (done (found word text)) R T (filled (occurrences word text) F)
 
-unfoldable pub searchFileSays : List ℕ → Word → List ℕ → List ℕ → List Place → Outcome
-searchFileSays file text R T F =
-    let o = loadSays file R T in
+abbrev pub searchFileWithin : ℕ → List ℕ → Word → List ℕ → List ℕ → List Place → Outcome
+searchFileWithin most file text R T F =
+    let o = loadWithin most file R T in
     cond (ltb longestText (length text)) (outcome (refused longText) R T F) (afterLoad (o .answer) text (o .word) (o .tables) F)
+
+unfoldable pub searchFileSays : List ℕ → Word → List ℕ → List ℕ → List Place → Outcome
+searchFileSays file text R T F = searchFileWithin longestWord file text R T F

@@ -1,7 +1,11 @@
--- Laws of the limits: all that proofs use of their values. First the code's constants, then what holds between the names.
-use mathlib.Core.Path.{_≡_, refl}
-use Prim.Native.Nat.{_+_, _*_, _≤_, _<_}
+-- Laws of the limits: all that proofs use of their values. First the code's constants, then what holds between the names, then on which
+-- lengths two limits agree.
+use mathlib.Core.Path.{_≡_, refl, sym, _∙_}
+use mathlib.Core.Logic.{_⊎_, inl, inr}
+use Prim.Native.Nat.{ℕ, _+_, _*_, _≤_, _<_}
 use native.Mathlib.Omega.{arith}
+use lib.Dec.{leb, ltb}
+use borrow.Author.Tests.{le-leb, lt-leb, lt-ltb, le-ltb}
 use Rattle.words.specs.Limits.{longestWord, longestText, leastSaved, greatestFile}
 
 -- ── The code's constants ───────────────────────────────────────────────────
@@ -45,5 +49,21 @@ least-below-longest = omega arith
 
 -- five bytes a letter and one more are room enough
 pub file-room : 5 * longestWord + 1 ≤ greatestFile
-unfolding longestWord greatestFile
+unfolding greatestFile
 file-room = omega arith
+
+pub greatest-file : greatestFile ≡ 20481
+unfolding longestWord greatestFile
+greatest-file = refl
+
+-- ── Two limits ─────────────────────────────────────────────────────────────
+
+-- they agree on what is within the lower one or above the higher one
+module _ (low high m : ℕ) (rises : low ≤ high) where
+  pub limits-agree : (m ≤ low) ⊎ (high < m) → ltb low m ≡ ltb high m
+  limits-agree (inl h) = le-ltb low m h ∙ sym (le-ltb high m (omega (arith, h, rises)))
+  limits-agree (inr h) = lt-ltb low m (omega (arith, h, rises)) ∙ sym (lt-ltb high m h)
+
+  pub limits-allow : (m ≤ low) ⊎ (high < m) → leb m low ≡ leb m high
+  limits-allow (inl h) = le-leb m low h ∙ sym (le-leb m high (omega (arith, h, rises)))
+  limits-allow (inr h) = lt-leb m low (omega (arith, h, rises)) ∙ sym (lt-leb m high h)

@@ -6,7 +6,7 @@
 --   greatestFile    so many bytes are always room enough for a file
 --
 -- 01, 'What the base holds' and 'The file on disk'.
-use Prim.Native.Nat.{ℕ}
+use Prim.Native.Nat.{ℕ, _+_, _*_}
 
 unfoldable pub longestWord : ℕ
 longestWord = 4096
@@ -18,4 +18,4 @@ unfoldable pub leastSaved : ℕ
 leastSaved = 1
 
 unfoldable pub greatestFile : ℕ
-greatestFile = 20481
+greatestFile = 5 * longestWord + 1
