@@ -45,7 +45,7 @@ enum {
 #define MARKS_LONGEST_TEXT 16777216
 #define MARKS_TABLES(m) (6 * ((m) + 1))                     /* table entries for a word of m letters */
 #define MARKS_MOST_TABLES MARKS_TABLES(MARKS_LONGEST_WORD)  /* table entries for every word */
-#define MARKS_MOST_FILE 20481                               /* output for the file of every word */
+#define MARKS_MOST_FILE (5 * MARKS_LONGEST_WORD + 1)        /* output for the file of every word */
 
 #ifdef __cplusplus
 extern "C" {

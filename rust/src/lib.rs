@@ -35,7 +35,7 @@ pub const LONGEST_WORD: usize = 4_096;
 pub const LONGEST_TEXT: usize = 16_777_216;
 
 /// So many bytes are room enough for the file of any word.
-pub const LONGEST_FILE: usize = 20_481;
+pub const LONGEST_FILE: usize = 5 * LONGEST_WORD + 1;
 
 /// How many entries the table of a word of m letters takes.
 pub const fn table_room(m: usize) -> usize {

@@ -31,13 +31,24 @@ fn one_byte_more_is_refused_and_changes_nothing() {
     assert_eq!((tables, finds), ([7; 19], [9; 3]));
 }
 
+/// A word of as many letters as any, in a text of the same letter: every window is read whole.
+fn one_letter_over_and_over(length: usize) -> Tally {
+    let text = vec![b'a'; length];
+    let mut tables = vec![0; table_room(LONGEST_WORD)];
+    let mut finds = vec![9; length - LONGEST_WORD + 1];
+    let tally = search(&text[..LONGEST_WORD], &text, &mut tables, &mut finds).unwrap();
+    assert!(finds.iter().enumerate().all(|(i, &at)| i as u32 == at));
+    tally
+}
+
 #[test]
 fn the_letters_pass_32_bits() {
-    let text = vec![b'a'; LONGEST_TEXT];
-    let mut tables = [0u16; table_room(257)];
-    let places = LONGEST_TEXT as u64 - 256;
-    let mut finds = vec![9; places as usize];
-    let tally = search(&[b'a'; 257], &text, &mut tables, &mut finds).unwrap();
-    assert_eq!(tally, Tally { count: places, letters: 257 * places });
-    assert!(finds.iter().enumerate().all(|(i, &at)| i as u32 == at));
+    assert_eq!(one_letter_over_and_over(2_097_152), Tally { count: 2_093_057, letters: 8_573_161_472 });
+}
+
+/// It takes a minute: `cargo test --release --test limits -- --ignored`.
+#[test]
+#[ignore = "takes a minute"]
+fn the_most_letters_that_a_search_can_read() {
+    assert_eq!(one_letter_over_and_over(LONGEST_TEXT), Tally { count: 16_773_121, letters: 68_702_703_616 });
 }
