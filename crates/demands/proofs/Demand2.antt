@@ -1,5 +1,6 @@
--- DEMAND 2, clause by clause: each is quoted word for word, and under it stands what says just that of the entries' outcomes, by citing the
--- file where it is proved. Wrong programs that 01 wants shut out by this demand are named in plain words, each with what shuts it out.
+-- DEMAND 2, clause by clause: each is quoted word for word, in brackets a number that 02 sets, and under it stands what says just that of
+-- the entries' outcomes, by citing the file where it is proved. Wrong programs that 01 wants shut out by this demand are named in plain
+-- words, each with what shuts it out.
 use mathlib.Core.Path.{_≡_, refl, sym, ap}
 use mathlib.Core.Logic.{_↔_}
 use mathlib.Core.Option.{none, some}
@@ -43,7 +44,7 @@ module _ (word text : Word) (T : List ℕ) (least : 1 ≤ length word) (most : l
   left = take (room m) (buildSays word T .tables)
 
   -- ── 'The oracle built letter by letter is the one that the published suffix rule gives, arrow for arrow, for every word of
-  --    1 to 1,024 bytes.' ──
+  --    1 to 1,024 [4,096] bytes.' ──
 
   -- from every state, on every letter, the letter-by-letter rule's arrow leads where the suffix rule's does, or neither has one
   pub rules-agree : (x : State) (c : Letter) → target (letterRule word .arrows) x c ≡ oracle word x c

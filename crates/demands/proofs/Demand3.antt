@@ -1,5 +1,6 @@
--- DEMAND 3, clause by clause: each is quoted word for word, and under it stands what says just that of the entries' outcomes, by citing the
--- file where it is proved. Wrong programs that 01 wants shut out by this demand are named in plain words, each with what shuts it out.
+-- DEMAND 3, clause by clause: each is quoted word for word, in brackets a number that 02 sets, and under it stands what says just that of
+-- the entries' outcomes, by citing the file where it is proved. Wrong programs that 01 wants shut out by this demand are named in plain
+-- words, each with what shuts it out.
 use mathlib.Core.Path.{_≡_, sym, ap, _∙_}
 use mathlib.Core.Logic.{_↔_}
 use mathlib.Core.Option.{some}
@@ -29,8 +30,8 @@ use Rattle.mark_files.proofs.SearchFileSays
 use Rattle.mark_files.proofs.LoadTheorems.{Handed}
 use Rattle.mark_files.proofs.LoadTheorems
 
--- ── 'Given enough room, a saved file is accepted exactly when it is the one spelling of some word of 1 to 1,024 bytes with that word's
---    oracle,' ──
+-- ── 'Given enough room, a saved file is accepted exactly when it is the one spelling of some word of 1 to 1,024 [4,096] bytes with that
+--    word's oracle,' ──
 
 -- s is bytes, as whatever a caller hands over is; `spell` is the spelling, and `Saved s` says that s is that of some word within the limits
 pub accepted-exactly : (s R T : List ℕ) → Bytes s

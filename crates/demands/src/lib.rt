@@ -1,1 +1,2 @@
-// The three demands, clause by clause, as theorems about the outcomes of the entries. No code: what is proved elsewhere is cited here.
+// The three demands, clause by clause, and the requests, sentence by sentence, as theorems about the outcomes of the entries. No code: what
+// is proved elsewhere is cited here.

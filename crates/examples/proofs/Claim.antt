@@ -13,8 +13,8 @@ use Rattle.number.specs.Number.{groups, spellNumber, refuses, see, seeNumber, n
 use Rattle.saved.specs.File.{edition, stepsFrom, spellSteps, ownSteps, body, spell}
 use Rattle.loaded.specs.Load.{frontWithin}
 use Rattle.mark_files.specs.Load.{loadWithin}
-use Rattle.examples.specs.Examples.{is, isNone, walked, empty, has, gives, isRefused, refusedWith, refusedInRooms, shows, holds, allHold}
-use Rattle.examples.specs.Examples.{word, digit, bytes, table}
+use Rattle.examples.specs.Examples.{is, isNone, walked, empty, has, gives, isRefused, refusedWith, refusedInRooms, holds, allHold}
+use Rattle.examples.specs.Examples.{shows, word, digit, bytes, table}
 
 pub examples-hold : T (allHold table)
 unfolding from only first same stands occurrences longestWord leastSaved

@@ -6,9 +6,9 @@
 --   field s i off on          the same of the number at place i of the file s
 --   Front                     the number of letters and where they stand, or a refusal
 --   lettersWithin most s i    what s shows at place i, where the number of letters stands, if a word may have so many letters
+--   lettersAt s i             the same with the limit that there is
 --   frontWithin most s o      what the file that stands in s from place o on shows up to its letters, if a word may have so many
---   lettersAt s i             the same with the limit that there is,
---   frontAt s o               likewise
+--   frontAt s o               the same with the limit that there is
 --   front s                   the same of a file that is all of s
 --   Two                       two numbers and the next place, or a refusal
 --   twoAt s i                 what s shows at place i
@@ -56,11 +56,11 @@ lettersWithin most s i =
     field s i stop (λ m j.
     cond (leb leastSaved m && leb m most) (cond (leb (j + m) (length s)) (letters m j) (stop 5 (length s))) (stop 8 i))
 
-unfoldable pub frontWithin : ℕ → List ℕ → ℕ → Front
-frontWithin most s o = field s o stop (λ e i. cond (eqb e edition) (lettersWithin most s i) (stop 7 o))
-
 abbrev pub lettersAt : List ℕ → ℕ → Front
 lettersAt s i = lettersWithin longestWord s i
+
+unfoldable pub frontWithin : ℕ → List ℕ → ℕ → Front
+frontWithin most s o = field s o stop (λ e i. cond (eqb e edition) (lettersWithin most s i) (stop 7 o))
 
 abbrev pub frontAt : List ℕ → ℕ → Front
 frontAt s o = frontWithin longestWord s o

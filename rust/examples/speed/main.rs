@@ -41,12 +41,22 @@ fn best(mut run: impl FnMut()) -> f64 {
     fastest
 }
 
+/// The words that are built and loaded, each twice as long as the one before.
+const LENGTHS: [usize; 6] = [128, 256, 512, 1024, 2048, LONGEST_WORD];
+
+/// The head of a table with a column for each of them, behind the columns that are named.
+fn lengths_head(before: &str) -> String {
+    let lengths = LENGTHS.map(|m| m.to_string()).join(" | ");
+    let columns = before.matches('|').count() - 1 + LENGTHS.len();
+    format!("{before} m = {lengths} |\n|{}", "---|".repeat(columns))
+}
+
 fn build_times() {
-    println!("<!-- begin build -->\n| Alphabet | m = 128 | 256 | 512 | 1,024 |\n|---|---|---|---|---|");
+    println!("<!-- begin build -->\n{}", lengths_head("| Alphabet |"));
     for letters in [2, 4, 256] {
         let mut line = format!("| {letters} |");
         let mut before = 0.0;
-        for m in [128usize, 256, 512, 1024] {
+        for m in LENGTHS {
             let words: Vec<Vec<u8>> = (0..64).map(|i| Random(88172645463325252 + i).bytes(m, letters)).collect();
             let mut tables = vec![0u16; 6 * (m + 1)];
             let took = best(|| {
@@ -77,12 +87,12 @@ fn damaged(file: &[u8], how: &str) -> Vec<u8> {
 }
 
 fn load_times() {
-    println!("<!-- begin load -->\n| Alphabet | File | m = 128 | 256 | 512 | 1,024 |\n|---|---|---|---|---|---|");
+    println!("<!-- begin load -->\n{}", lengths_head("| Alphabet | File |"));
     for letters in [2, 4, 256] {
         for how in ["good", "last arrow differs (10)", "one byte more (11)", "one byte less (5)"] {
             let mut line = format!("| {letters} | {how} |");
             let mut before = 0.0;
-            for m in [128usize, 256, 512, 1024] {
+            for m in LENGTHS {
                 let (mut tables, mut room) = (vec![0u16; table_room(m)], vec![0u8; m]);
                 let files: Vec<Vec<u8>> = (0..64)
                     .map(|i| {
@@ -160,7 +170,7 @@ fn search_times() {
     println!("<!-- begin search -->\n| Alphabet | Word | {RACE} letters read |\n|---|---|---|---|---|---|---|---|");
     for letters in [2, 4, 256] {
         let text = Random(362436069 + letters).bytes(16 << 20, letters);
-        for m in [4usize, 16, 64, 256, 1024] {
+        for m in [4, 16, 64, 256, 1024, LONGEST_WORD] {
             race_line(format!("| {letters} | {m} |"), &text[5_000_000..5_000_000 + m], &text);
         }
     }
@@ -172,7 +182,7 @@ fn letters_read() {
     println!("<!-- begin letters -->\n| Alphabet | Word | letters read | log m / m | ratio |\n|---|---|---|---|---|");
     for letters in [2u64, 4, 256] {
         let text = Random(521288629 + letters).bytes(4 << 20, letters);
-        for m in [4usize, 8, 16, 32, 64, 128, 256, 512, 1024] {
+        for m in [4, 8, 16, 32, 64, 128, 256, 512, 1024, 2048, LONGEST_WORD] {
             let word = Random(2463534242 + m as u64).bytes(m, letters);
             let said = search(&word, &text, &mut vec![0; table_room(m)], &mut []).expect("within the limits");
             let measured = said.letters as f64 / text.len() as f64;
