@@ -2,26 +2,26 @@
 -- after m the letters (5); each arrow is compared once both its numbers are read (10); after the last, missing arrows (10), then leftovers
 -- (11). Every refusal keeps the place where it shows.
 --
---   taking n off on           the answer n on a number: `on` its value and the next place, or `off` the refusal and where it shows
---   field s i off on          the same of the number at place i of the file s
---   Front                     the number of letters and where they stand, or a refusal
---   lettersWithin most s i    what s shows at place i, where the number of letters stands, if a word may have so many letters
---   lettersAt s i             the same with the limit that there is
---   frontWithin most s o      what the file that stands in s from place o on shows up to its letters, if a word may have so many
---   frontAt s o               the same with the limit that there is
---   front s                   the same of a file that is all of s
---   Two                       two numbers and the next place, or a refusal
---   twoAt s i                 what s shows at place i
---   Ending                    the place behind a file, whose arrows are the word's own, or a refusal; what follows is not judged
---   nextIs a b l              whether the numbers a and b are those of the first of the arrows l
---   later l                   the arrows behind the first
---   none-left l               whether there are none
---   takingTwo t off on        what `taking` is to one number, to two
---   arrowsAt s i n l          n declared arrows from place i on, against the word's own that are left, l
---   ending s i w              what s shows from place i on, where the number of arrows stands, for the word w
---   Verdict                   whether a file's arrows are the word's own, and nothing follows
---   closed s e                what an ending comes to where nothing may follow the file
---   verdict s i w             both at once
+--   taking n off on      the answer n on a number: `on` its value and the next place, or `off` the refusal and where it shows
+--   field s i off on     the same of the number at place i of the file s
+--   Front                the number of letters and where they stand, or a refusal
+--   lettersWithin n s i  what s shows at place i, where the number of letters stands, if a word may have n letters
+--   lettersAt s i        the same with the limit that there is
+--   frontWithin n s o    what the file that stands in s from place o on shows up to its letters, if a word may have n letters
+--   frontAt s o          the same with the limit that there is
+--   front s              the same of a file that is all of s
+--   Two                  two numbers and the next place, or a refusal
+--   twoAt s i            what s shows at place i
+--   Ending               the place behind a file, whose arrows are the word's own, or a refusal; what follows is not judged
+--   nextIs a b l         whether the numbers a and b are those of the first of the arrows l
+--   later l              the arrows behind the first
+--   none-left l          whether there are none
+--   takingTwo t off on   what `taking` is to one number, to two
+--   arrowsAt s i n l     n declared arrows from place i on, against the word's own that are left, l
+--   ending s i w         what s shows from place i on, where the number of arrows stands, for the word w
+--   Verdict              whether a file's arrows are the word's own, and nothing follows
+--   closed s e           what an ending comes to where nothing may follow the file
+--   verdict s i w        both at once
 --
 -- 01, 'When the library says no'; demands 1 and 3.
 use mathlib.Core.Bool.{Bool, true, false, _&&_, cond}
@@ -52,15 +52,15 @@ pub data Front : Type 0 where
   stop : ℕ → ℕ → Front
 
 abbrev pub lettersWithin : ℕ → List ℕ → ℕ → Front
-lettersWithin most s i =
+lettersWithin n s i =
     field s i stop (λ m j.
-    cond (leb leastSaved m && leb m most) (cond (leb (j + m) (length s)) (letters m j) (stop 5 (length s))) (stop 8 i))
+    cond (leb leastSaved m && leb m n) (cond (leb (j + m) (length s)) (letters m j) (stop 5 (length s))) (stop 8 i))
 
 abbrev pub lettersAt : List ℕ → ℕ → Front
 lettersAt s i = lettersWithin longestWord s i
 
 unfoldable pub frontWithin : ℕ → List ℕ → ℕ → Front
-frontWithin most s o = field s o stop (λ e i. cond (eqb e edition) (lettersWithin most s i) (stop 7 o))
+frontWithin n s o = field s o stop (λ e i. cond (eqb e edition) (lettersWithin n s i) (stop 7 o))
 
 abbrev pub frontAt : List ℕ → ℕ → Front
 frontAt s o = frontWithin longestWord s o

@@ -1,14 +1,14 @@
 -- WHAT LOAD SAYS: the whole outcome as a function of what is lent.
 --
---   Outcome                    the answer, and the word room and the tables as they are left
---   loadedAs r R T             the outcome of code that answers r and leaves R and T
---   judged v w                 what the verdict v on its arrows makes of the word w: the outcome in the word's part of both rooms
---   judgedAt file i m          the same of the m letters that stand in the file from place i on
---   lettersRead f file R T     the outcome for a file that shows f up to its letters
---   loadWithin most file R T   what it must be where a word may have so many letters: the first refusal that the file shows up to its
---                              letters; then 3; then the first refusal that it shows behind them; else m, the file's word and its table.
---                              A refusal before 3 is passed changes nothing, one after it leaves zeros in the word's part of both rooms
---   loadSays file R T          the same with the limit that there is
+--   Outcome                 the answer, and the word room and the tables as they are left
+--   loadedAs r R T          the outcome of code that answers r and leaves R and T
+--   judged v w              what the verdict v on its arrows makes of the word w: the outcome in the word's part of both rooms
+--   judgedAt file i m       the same of the m letters that stand in the file from place i on
+--   lettersRead f file R T  the outcome for a file that shows f up to its letters
+--   loadWithin n file R T   what it must be where a word may have n letters: the first refusal that the file shows up to its letters;
+--                           then 3; then the first refusal that it shows behind them; else m, the file's word and its table. A refusal
+--                           before 3 is passed changes nothing, one after it leaves zeros in the word's part of both rooms
+--   loadSays file R T       the same with the limit that there is
 --
 -- 01, 'The file on disk' and 'When the library says no'; demands 1 and 3.
 use mathlib.Core.Bool.{_||_, cond}
@@ -51,7 +51,7 @@ lettersRead (letters m i) file R T =
     (outcome (o .answer) (o .word ++ drop m R) (o .tables ++ drop (room m) T))
 
 unfoldable pub loadWithin : ℕ → List ℕ → List ℕ → List ℕ → Outcome
-loadWithin most file R T = lettersRead (frontWithin most file 0) file R T
+loadWithin n file R T = lettersRead (frontWithin n file 0) file R T
 
 abbrev pub loadSays : List ℕ → List ℕ → List ℕ → Outcome
 loadSays file R T = loadWithin longestWord file R T

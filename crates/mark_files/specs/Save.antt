@@ -1,11 +1,12 @@
 -- WHAT SAVE SAYS: the whole outcome as a function of what is lent.
 --
---   Outcome                    the answer, and the room and the output as they are left
---   savedAs r T O              the outcome of code that answers r and leaves T and O
---   saveWithin most word T O   what it must be where a word may have so many letters: 1, 2, 3, 12 in that order, else the file at the
---                              start of the output and its length, and the word's table in the room. 12 leaves zeros in the word's part
---                              of the room; the output is not touched by a refusal
---   saveSays word T O          the same with the limit that there is
+--   Outcome              the answer, and the room and the output as they are left
+--   savedAs r T O        the outcome of code that answers r and leaves T and O
+--   saveWithin n word T O
+--                        what it must be where a word may have n letters: 1, 2, 3, 12 in that order, else the file at the start of the
+--                        output and its length, and the word's table in the room. 12 leaves zeros in the word's part of the room; the
+--                        output is not touched by a refusal
+--   saveSays word T O    the same with the limit that there is
 --
 -- 01, 'The file on disk' and 'When the library says no'; demands 1 and 3.
 use mathlib.Core.Bool.{cond}
@@ -32,11 +33,11 @@ abbrev pub savedAs : SizeAnswer → List ℕ → List ℕ → Outcome
 savedAs r T O = outcome (sizeAnswer r) T O
 
 abbrev pub saveWithin : ℕ → Word → List ℕ → List ℕ → Outcome
-saveWithin most word T O =
+saveWithin n word T O =
     let m = length word in
     let file = spell word in
     cond (ltb m 1) (outcome (refused emptyWord) T O)
-    (cond (ltb most m) (outcome (refused longWord) T O)
+    (cond (ltb n m) (outcome (refused longWord) T O)
     (cond (ltb (length T) (room m)) (outcome (refused shortRoom) T O)
     (cond (ltb (length O) (length file)) (outcome (refused shortOutput) (replicate (room m) 0 ++ drop (room m) T) O)
     (outcome (done (length file)) (tableOf word ++ drop (room m) T) (file ++ drop (length file) O)))))

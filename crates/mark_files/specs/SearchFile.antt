@@ -1,12 +1,13 @@
 -- WHAT SEARCH WITH A FILE SAYS: the whole outcome as a function of what is lent.
 --
---   Outcome                                 the answer, and the word room, the tables and the list as they are left
---   fileSearched r R T F                    the outcome of code that answers r and leaves R, T and F
---   afterLoad a text R T F                  the outcome once loading has answered a and left R and T
---   searchFileWithin most file text R T F   what it must be where a word may have so many letters: 4, then as loading; then every
---                                           occurrence of the mirror of the file's word is counted and the first of them are listed, as
---                                           many as fit, and the letters are those of the published steps
---   searchFileSays file text R T F          the same with the limit that there is
+--   Outcome                          the answer, and the word room, the tables and the list as they are left
+--   fileSearched r R T F             the outcome of code that answers r and leaves R, T and F
+--   afterLoad a text R T F           the outcome once loading has answered a and left R and T
+--   searchFileWithin n file text R T F
+--                                    what it must be where a word may have n letters: 4, then as loading; then every occurrence of the
+--                                    mirror of the file's word is counted and the first of them are listed, as many as fit, and the
+--                                    letters are those of the published steps
+--   searchFileSays file text R T F   the same with the limit that there is
 --
 -- 01, 'The file on disk' and 'When the library says no'; demands 1 to 3.
 use mathlib.Core.Bool.{cond}
@@ -44,8 +45,8 @@ afterLoad (done m) text R T F =
     outcome (done (found word text)) R T (filled (occurrences word text) F)
 
 abbrev pub searchFileWithin : ℕ → List ℕ → Word → List ℕ → List ℕ → List Place → Outcome
-searchFileWithin most file text R T F =
-    let o = loadWithin most file R T in
+searchFileWithin n file text R T F =
+    let o = loadWithin n file R T in
     cond (ltb longestText (length text)) (outcome (refused longText) R T F) (afterLoad (o .answer) text (o .word) (o .tables) F)
 
 unfoldable pub searchFileSays : List ℕ → Word → List ℕ → List ℕ → List Place → Outcome

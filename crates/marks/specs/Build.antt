@@ -1,10 +1,10 @@
 -- WHAT BUILD SAYS: the whole outcome as a function of what is lent.
 --
---   Outcome                   the answer, and the room as it is left
---   built r T                 the outcome of code that answers r and leaves T
---   buildWithin most word T   what it must be where a word may have so many letters: 1, 2, 3 in that order, else the word's table, and the
---                             rest of the room as it was
---   buildSays word T          the same with the limit that there is
+--   Outcome              the answer, and the room as it is left
+--   built r T            the outcome of code that answers r and leaves T
+--   buildWithin n word T what it must be where a word may have n letters: 1, 2, 3 in that order, else the word's table, and the rest of
+--                        the room as it was
+--   buildSays word T     the same with the limit that there is
 --
 -- 01, 'When the library says no'; demands 1 and 2.
 use mathlib.Core.Bool.{cond}
@@ -29,10 +29,10 @@ abbrev pub built : SizeAnswer → List ℕ → Outcome
 built r T = outcome (sizeAnswer r) T
 
 abbrev pub buildWithin : ℕ → Word → List ℕ → Outcome
-buildWithin most word T =
+buildWithin n word T =
     let m = length word in
     cond (ltb m 1) (outcome (refused emptyWord) T)
-    (cond (ltb most m) (outcome (refused longWord) T)
+    (cond (ltb n m) (outcome (refused longWord) T)
     (cond (ltb (length T) (room m)) (outcome (refused shortRoom) T)
     (outcome (done m) (tableOf word ++ drop (room m) T))))
 

@@ -1,13 +1,13 @@
 -- WHAT SEARCH SAYS: the whole outcome as a function of what is lent.
 --
---   found word text                   how often the word stands in the text, and the letters that the published steps read
---   Outcome                           the answer, and the room and the list as they are left
---   searched r T F                    the outcome of code that answers r and leaves T and F
---   searchWithin most word text T F   what it must be where a word may have so many letters: 1, 2, 4, 3 in that order; else every
---                                     occurrence is counted and the first of them are listed, as many as fit, the letters are those of the
---                                     published steps, the mirrored word's table stands in the room, and the rest of the room and of the
---                                     list is as it was
---   searchSays word text T F          the same with the limit that there is
+--   found word text            how often the word stands in the text, and the letters that the published steps read
+--   Outcome                    the answer, and the room and the list as they are left
+--   searched r T F             the outcome of code that answers r and leaves T and F
+--   searchWithin n word text T F
+--                              what it must be where a word may have n letters: 1, 2, 4, 3 in that order; else every occurrence is
+--                              counted and the first of them are listed, as many as fit, the letters are those of the published steps,
+--                              the mirrored word's table stands in the room, and the rest of the room and of the list is as it was
+--   searchSays word text T F   the same with the limit that there is
 --
 -- 01, 'The backward search' and 'When the library says no'; demands 1 and 2.
 use mathlib.Core.Bool.{cond}
@@ -39,10 +39,10 @@ abbrev pub searched : TallyAnswer → List ℕ → List Place → Outcome
 searched r T F = outcome (tallyAnswer r) T F
 
 abbrev pub searchWithin : ℕ → Word → Word → List ℕ → List Place → Outcome
-searchWithin most word text T F =
+searchWithin n word text T F =
     let m = length word in
     cond (ltb m 1) (outcome (refused emptyWord) T F)
-    (cond (ltb most m) (outcome (refused longWord) T F)
+    (cond (ltb n m) (outcome (refused longWord) T F)
     (cond (ltb longestText (length text)) (outcome (refused longText) T F)
     (cond (ltb (length T) (room m)) (outcome (refused shortRoom) T F)
     (outcome (done (found word text)) (tableOf (mirror word) ++ drop (room m) T) (filled (occurrences word text) F)))))
