@@ -123,7 +123,7 @@ static void lay(struct zone *z, size_t width, const uint8_t *content, size_t len
 
 static void print_bytes(const char *name, const uint8_t *bytes, size_t len)
 {
-    size_t shown = len < 16384 ? len : 64;
+    size_t shown = len <= MOST_FILE ? len : 64;
     printf("  %s, %zu bytes:", name, len);
     for (size_t i = 0; i < shown; i++)
         printf(" %02X", bytes[i]);
@@ -473,30 +473,60 @@ static void example_arrows(const char *word, const uint16_t *pairs, size_t arrow
         expect(t[n + i] == supplies[i - 1], word);
 }
 
-/* a file that declares some number of letters and has as many as the longest word, all the same, and the bytes behind; of it all but the
-   last so many, in rooms for m letters */
-static void example_long(uint32_t declared, const char *behind, size_t cut, size_t m, uint32_t number)
+/* loading, and searching with, a file: its first bytes, so many letters, each an a, and the bytes behind; in rooms for m letters */
+static void example_long(const char *front, size_t letters, const char *behind, size_t m, uint32_t number)
 {
-    uint8_t file[MOST_FILE] = {1};
-    size_t front = 1 + spell_in(declared, groups_of(declared), file + 1), len = front + MOST_LETTERS;
-    memset(file + front, 'a', MOST_LETTERS);
-    len += from_hex(behind, file + len) - cut;
-    expect(run_plain(LOAD, file, len, m).number == number, "a file of the longest word, or one that declares a longer or a shorter one");
+    uint8_t file[MOST_FILE];
+    size_t len = from_hex(front, file);
+    memset(file + len, 'a', letters);
+    len += letters;
+    len += from_hex(behind, file + len);
+    expect(run_plain(LOAD, file, len, m).number == number, front);
+    expect(run_search(SEARCH_FILE, file, len, m, NULL, 0, 0).number == number, front);
+}
+
+/* a declared length, m, that is let through to the fields behind it */
+static void example_goes_on(const char *front, size_t m)
+{
+    example_long(front, 0, "", m, 5);
+    example_long(front, m - 1, "", m, 5);
+    example_long(front, m - 1, "", m - 1, 5);
+    example_long(front, m, "", m - 1, 3);
+    example_long(front, m, "", m, 5);
+    example_long(front, m, "00", m, 0);
+    example_long(front, m, "00 61", m, 11);
+    example_long(front, m, "01", m, 5);
+    example_long(front, m, "01 00 00", m, 10);
+    example_long(front, m + 1, "00", m, 5);
+}
+
+/* a word of so many letters, each an a, built, saved and searched for */
+static void example_word(size_t m, uint32_t number)
+{
+    static uint8_t text[MOST_LETTERS + 8];
+    memset(text, 'a', sizeof text);
+    struct outcome built = run_plain(BUILD, text, m, m), saved = run_save(text, m, ALWAYS_ENOUGH);
+    struct outcome sought = run_search(SEARCH, text, m, m, text, m + 2, 3);
+    expect(built.number == number && saved.number == number && sought.number == number, "a word of many letters");
+    expect(number != 0 || (built.answer[0] == m && saved.answer[0] == m + 4), "a word of many letters");
+    expect(number != 0 || (sought.answer[0] == 3 && sought.answer[1] == 3 * m), "a word of many letters");
 }
 
 static void examples_at_the_limit(void)
 {
-    example_long(MOST_LETTERS, "", 0, MOST_LETTERS, 5);
-    example_long(MOST_LETTERS, "", 0, MOST_LETTERS - 1, 3);
-    example_long(MOST_LETTERS, "", 1, MOST_LETTERS, 5);
-    example_long(MOST_LETTERS, "", MOST_LETTERS, MOST_LETTERS, 5);
-    example_long(MOST_LETTERS, "00", 0, MOST_LETTERS, 0);
-    example_long(MOST_LETTERS, "00 61", 0, MOST_LETTERS, 11);
-    example_long(MOST_LETTERS, "01", 0, MOST_LETTERS, 5);
-    example_long(MOST_LETTERS, "01 00 00", 0, MOST_LETTERS, 10);
-    example_long(MOST_LETTERS + 1, "", 0, MOST_LETTERS, 8);
-    example_long(MOST_LETTERS + 1, "61 00", 0, MOST_LETTERS, 8);
-    example_long(MOST_LETTERS - 1, "00", 0, MOST_LETTERS, 5);
+    example_goes_on("01 FF 07", 1023);
+    example_goes_on("01 80 08", 1024);
+    example_goes_on("01 81 08", 1025);
+    example_goes_on("01 FF 1F", 4095);
+    example_goes_on("01 80 20", 4096);
+    example_long("01 81 20", 0, "", MOST_LETTERS + 1, 8);
+    example_long("01 81 20", 4096, "", MOST_LETTERS, 8);
+    example_long("01 81 20", 4097, "00", MOST_LETTERS + 1, 8);
+    example_word(1024, 0);
+    example_word(1025, 0);
+    example_word(4095, 0);
+    example_word(4096, 0);
+    example_word(4097, 2);
 }
 
 static void examples_of_loading(void)
@@ -566,8 +596,9 @@ static void short_words(void)
 
 static void longer_words(void)
 {
-    static const size_t lengths[] = {
-        9, 16, 31, 32, 33, 100, 127, 128, 129, 254, 255, 256, 257, 511, 512, 513, 1000, MOST_LETTERS - 1, MOST_LETTERS};
+    static const size_t lengths[] = {9,           16,  31,  32,  33,   100,  127,  128,  129,  254,  255,  256,
+                                     257,         511, 512, 513, 1000, 1023, 1024, 1025, 2047, 2048, 2049, MOST_LETTERS - 1,
+                                     MOST_LETTERS};
     static const unsigned alphabets[] = {2, 4, 256};
     static uint8_t word[MOST_LETTERS], text[4 * MOST_LETTERS], file[MOST_FILE];
     for (size_t l = 0; l < sizeof lengths / sizeof *lengths; l++)
@@ -580,7 +611,7 @@ static void longer_words(void)
                 run_save(word, m, ALWAYS_ENOUGH);
                 make_text(text, n, word, m, (unsigned)chance());
                 both_searches(word, m, text, n);
-                for (size_t cut = 0; m == MOST_LETTERS && cut < size; cut += 1 + size / 20)
+                for (size_t cut = 0; m > 1000 && cut < size; cut += 1 + size / 20)
                     try_file(file, cut, m);
             }
 }
@@ -614,20 +645,28 @@ static void short_lists(void)
     every_list((const uint8_t *)"\xFF\0\xFF", 3, (const uint8_t *)"\0\xFF\0\xFF\0\xFF", 6);
 }
 
-/* the longest words: where the text begins, inside it, all of it, more than it; and the text's last letter */
-static void lists(void)
+/* long words: where the text begins, inside it, all of it, more than it; and the text's last letter */
+static void long_lists(size_t m)
 {
-    static uint8_t text[3 * MOST_LETTERS];
-    short_lists();
+    static uint8_t text[2 * MOST_LETTERS + 100];
+    size_t n = 2 * m + 100;
     for (int kind = 0; kind < KINDS; kind++) {
         choose_palette(kind % 2 ? 4 : 2);
-        make_word(text, sizeof text, (enum kind)kind);
-        every_list(text, MOST_LETTERS, text, sizeof text);
-        every_list(text + MOST_LETTERS - 20, MOST_LETTERS, text, sizeof text);
-        every_list(text, MOST_LETTERS, text, MOST_LETTERS);
-        every_list(text, MOST_LETTERS, text, MOST_LETTERS - 1);
-        every_list(text + sizeof text - 1, 1, text, sizeof text);
+        make_word(text, n, (enum kind)kind);
+        every_list(text, m, text, n);
+        every_list(text + m - 20, m, text, n);
+        every_list(text, m, text, m);
+        every_list(text, m, text, m - 1);
+        every_list(text + n - 1, 1, text, n);
     }
+}
+
+static void lists(void)
+{
+    static const size_t lengths[] = {1023, 1024, 1025, 2048, MOST_LETTERS - 1, MOST_LETTERS};
+    short_lists();
+    for (size_t l = 0; l < sizeof lengths / sizeof *lengths; l++)
+        long_lists(lengths[l]);
 }
 
 /* ---- rooms: one short, exact, one long, for every buffer; every refusal with what stands in them before ---- */
@@ -639,12 +678,15 @@ static size_t room_choice(size_t need, size_t choice)
     return choice == 0 ? 0 : choice == 1 ? (need > 0 ? need - 1 : 0) : choice == 2 ? need : need + 1 + (below(2) ? 0 : below(40));
 }
 
-static void rooms_for(enum entry entry, const uint8_t *input, size_t input_len, size_t m, size_t file_size, size_t n)
+enum { PAST_16_BITS = 65536, LONGEST_TRIED = PAST_16_BITS + MOST_LETTERS };
+
+/* the text has fewer than 300 bytes, or so many more than the word */
+static void rooms_for(enum entry entry, const uint8_t *input, size_t input_len, size_t m, size_t file_size, const uint8_t *sought)
 {
-    static uint8_t text[4096];
-    size_t all = room_choices * room_choices * room_choices * FILLS;
+    static uint8_t text[LONGEST_TRIED + 300];
+    size_t all = room_choices * room_choices * room_choices * FILLS, n = below(300);
     choose_palette(2);
-    make_text(text, n, input, entry == SEARCH ? m : 0, RANDOM + KINDS);
+    make_text(text, m + n, sought, sought != NULL ? m : 0, RANDOM + KINDS);
     for (size_t c = 0; c < all; c++) {
         struct asked a = ask(entry, input, input_len, m);
         a.len[TABLES] = room_choice(entries(m), c % room_choices);
@@ -653,7 +695,7 @@ static void rooms_for(enum entry entry, const uint8_t *input, size_t input_len, 
         a.len[FINDS] = room_choice(3, c / room_choices / room_choices % room_choices);
         a.fill = (enum fill)(c / room_choices / room_choices / room_choices);
         a.text = text;
-        a.len[TEXT] = n;
+        a.len[TEXT] = below(2) ? n : m + n;
         compare(&a);
     }
 }
@@ -661,24 +703,37 @@ static void rooms_for(enum entry entry, const uint8_t *input, size_t input_len, 
 /* a word at the limit or past it, or an empty one, over all rooms */
 static void rooms_of_word(const uint8_t *word, size_t m)
 {
-    static uint8_t file[MOST_FILE];
-    size_t size = m >= 1 && m <= MOST_LETTERS ? file_of(word, m, file) : 40;
-    rooms_for(BUILD, word, m, m, 0, 0);
-    rooms_for(SAVE, word, m, m, size, 0);
-    rooms_for(SEARCH, word, m, m, 0, below(300));
-    if (m >= 1 && m <= MOST_LETTERS) {
-        rooms_for(LOAD, file, size, m, 0, 0);
-        rooms_for(SEARCH_FILE, file, size, m, 0, below(300));
-        rooms_for(LOAD, file, size - 1, m, 0, 0);
+    static uint8_t file[MOST_FILE], mirrored[MOST_LETTERS];
+    bool good = m >= 1 && m <= MOST_LETTERS;
+    size_t size = good ? file_of(word, m, file) : 40;
+    rooms_for(BUILD, word, m, m, 0, NULL);
+    rooms_for(SAVE, word, m, m, size, NULL);
+    rooms_for(SEARCH, word, m, m, 0, word);
+    if (good) {
+        mirror(word, m, mirrored);
+        rooms_for(LOAD, file, size, m, 0, NULL);
+        rooms_for(SEARCH_FILE, file, size, m, 0, mirrored);
+        rooms_for(LOAD, file, size - 1, m, 0, NULL);
         file[size] = 0;
-        rooms_for(LOAD, file, size + 1, m, 0, 0);
-        rooms_for(SEARCH_FILE, file, size + 1, m, 0, below(300));
+        rooms_for(LOAD, file, size + 1, m, 0, NULL);
+        rooms_for(SEARCH_FILE, file, size + 1, m, 0, mirrored);
     }
+}
+
+/* a file that declares a word past the limit, and has it */
+static void rooms_of_long_file(const uint8_t *word, size_t m)
+{
+    static uint8_t file[MOST_FILE] = {1};
+    size_t size = 1 + spell_in((uint32_t)m, groups_of((uint32_t)m), file + 1);
+    memcpy(file + size, word, m);
+    size += m;
+    file[size++] = 0;
+    rooms_for(LOAD, file, size, m, 0, NULL);
+    rooms_for(SEARCH_FILE, file, size, m, 0, NULL);
 }
 
 static void rooms(void)
 {
-    enum { PAST_16_BITS = 65536 };
     static const size_t lengths[] = {0,
                                      1,
                                      2,
@@ -687,6 +742,12 @@ static void rooms(void)
                                      9,
                                      30,
                                      128,
+                                     1023,
+                                     1024,
+                                     1025,
+                                     2047,
+                                     2048,
+                                     2049,
                                      MOST_LETTERS - 1,
                                      MOST_LETTERS,
                                      MOST_LETTERS + 1,
@@ -694,13 +755,15 @@ static void rooms(void)
                                      2 * MOST_LETTERS,
                                      PAST_16_BITS,
                                      PAST_16_BITS + 1,
-                                     PAST_16_BITS + MOST_LETTERS};
-    static uint8_t word[PAST_16_BITS + MOST_LETTERS];
+                                     LONGEST_TRIED};
+    static uint8_t word[LONGEST_TRIED];
     for (size_t l = 0; l < sizeof lengths / sizeof *lengths; l++)
         for (int turn = 0; turn < (lengths[l] < 100 ? 4 : 1); turn++) {
             choose_palette(turn % 2 ? 4 : 2);
             make_word(word, lengths[l], turn < 2 ? RANDOM : BROKEN);
             rooms_of_word(word, lengths[l]);
+            if (lengths[l] > MOST_LETTERS && lengths[l] < PAST_16_BITS)
+                rooms_of_long_file(word, lengths[l]);
         }
 }
 
@@ -714,10 +777,22 @@ static size_t spliced(const uint8_t *file, size_t len, size_t from, size_t to, c
     return from + put_len + (len - to);
 }
 
+/* of a long file only some places are damaged: one letter in so many, as another letter makes another oracle, and one other byte in so
+   many; but always those where a field begins or ends, and the last ones */
+static size_t one_letter_in = 1, one_byte_in = 1;
+
+static bool chosen(size_t at, size_t len, size_t m, size_t letter_in)
+{
+    size_t letters = 1 + groups_of((uint32_t)m), behind = letters + m;
+    bool inside = at > letters && at + 1 < behind;
+    return inside ? below(letter_in) == 0 : at < behind + 4 || at + 8 > len || below(one_byte_in) == 0;
+}
+
 static void cut_file(const uint8_t *file, size_t len, size_t m)
 {
     for (size_t cut = 0; cut <= len; cut++)
-        try_file(file, cut, m);
+        if (chosen(cut, len, m, one_byte_in))
+            try_file(file, cut, m);
 }
 
 static void change_bytes(const uint8_t *file, size_t len, size_t m, bool every)
@@ -726,6 +801,8 @@ static void change_bytes(const uint8_t *file, size_t len, size_t m, bool every)
     static const uint8_t puts[] = {0, 1, 0x0F, 0x10, 0x7F, 0x80, 0x81, 0xFF};
     memcpy(other, file, len);
     for (size_t at = 0; at < len; at++) {
+        if (!chosen(at, len, m, one_letter_in))
+            continue;
         for (unsigned value = 0; every && value < 256; value++) {
             other[at] = (uint8_t)value;
             try_file(other, len, m);
@@ -747,6 +824,8 @@ static void move_bytes(const uint8_t *file, size_t len, size_t m)
     static uint8_t other[2 * MOST_FILE];
     static const uint8_t puts[] = {0, 1, 0x80, 0xFF, 0x61};
     for (size_t at = 0; at <= len; at++) {
+        if (!chosen(at, len, m, one_letter_in))
+            continue;
         uint8_t put = below(2) ? puts[below(sizeof puts)] : (uint8_t)chance();
         try_file(other, spliced(file, len, at, at, &put, 1, other), m);
         size_t from = below(at);
@@ -787,6 +866,12 @@ static void replace_number(const uint8_t *file, size_t len, size_t m, size_t fro
                                         4294967040u,
                                         4294967294u,
                                         4294967295u,
+                                        1023,
+                                        1024,
+                                        1025,
+                                        2047,
+                                        2048,
+                                        2049,
                                         MOST_LETTERS - 1,
                                         MOST_LETTERS,
                                         MOST_LETTERS + 1};
@@ -829,10 +914,12 @@ static void replace_numbers(const uint8_t *file, size_t len, size_t m)
     }
 }
 
-static void damage(const uint8_t *word, size_t m, bool every_value)
+static void damage(const uint8_t *word, size_t m, bool every_value, size_t letter_in, size_t byte_in)
 {
     static uint8_t file[MOST_FILE];
     size_t len = file_of(word, m, file);
+    one_letter_in = letter_in;
+    one_byte_in = byte_in;
     cut_file(file, len, m);
     change_bytes(file, len, m, every_value);
     move_bytes(file, len, m);
@@ -851,16 +938,29 @@ static void damage_longer(const uint8_t *word, size_t m)
 static void damaged_files(void)
 {
     static const char *const short_ones[] = {"a", "ab", "aaa", "abbbaab", "abcacdace"};
-    static const size_t lengths[] = {12, 20, 60, 127, 128, 130, 200};
+    static const struct {
+        size_t m, letter_in, byte_in;
+    } longer[] = {{12, 1, 1},
+                  {20, 1, 1},
+                  {60, 1, 1},
+                  {127, 1, 1},
+                  {128, 1, 1},
+                  {130, 1, 1},
+                  {200, 1, 1},
+                  {1023, 256, 16},
+                  {1024, 64, 4},
+                  {1025, 64, 4},
+                  {MOST_LETTERS - 1, 4096, 64},
+                  {MOST_LETTERS, 2048, 64}};
     static uint8_t word[MOST_LETTERS];
     for (size_t i = 0; i < sizeof short_ones / sizeof *short_ones; i++) {
-        damage((const uint8_t *)short_ones[i], strlen(short_ones[i]), true);
+        damage((const uint8_t *)short_ones[i], strlen(short_ones[i]), true, 1, 1);
         damage_longer((const uint8_t *)short_ones[i], strlen(short_ones[i]));
     }
-    for (size_t i = 0; i < sizeof lengths / sizeof *lengths; i++) {
+    for (size_t i = 0; i < sizeof longer / sizeof *longer; i++) {
         choose_palette(i % 2 ? 4 : 2);
-        make_word(word, lengths[i], i == 4 ? PERIODIC : RANDOM);
-        damage(word, lengths[i], false);
+        make_word(word, longer[i].m, i == 4 ? PERIODIC : RANDOM);
+        damage(word, longer[i].m, false, longer[i].letter_in, longer[i].byte_in);
     }
 }
 
@@ -911,18 +1011,30 @@ static void texts_at_the_limit(void)
         run_search(SEARCH, word, 0, m, text, MOST_TEXT + past, 10);
         run_search(SEARCH, text, MOST_LETTERS + 1, m, text, MOST_TEXT + past, 10);
     }
+    both_searches(text + MOST_TEXT - 1025, 1025, text, MOST_TEXT);
+    both_searches(text + MOST_TEXT - MOST_LETTERS, MOST_LETTERS, text, MOST_TEXT);
     memset(text, 'a', MOST_TEXT);
     run_search(SEARCH, text, 4, 4, text, MOST_TEXT, 1000);
     free(text);
 }
 
-/* 300 a's in the longest text, of a's alone: the letters read pass 32 bits; every find has its entry */
-static void hostile_at_the_limit(void)
+/* a's in a text of a's alone: the letters read pass 32 bits; every find has its entry */
+static void hostile(size_t m, size_t n, uint64_t letters)
 {
-    uint8_t *text = reserve(NULL, MOST_TEXT);
-    memset(text, 'a', MOST_TEXT);
-    run_search(SEARCH, text, 300, 300, text, MOST_TEXT, MOST_TEXT);
+    uint8_t *text = reserve(NULL, n);
+    memset(text, 'a', n);
+    expect(run_search(SEARCH, text, m, m, text, n, n).answer[1] == letters, "letters read past 32 bits");
     free(text);
+}
+
+static void hostile_text(void)
+{
+    hostile(300, MOST_TEXT, UINT64_C(5033075100));
+}
+
+static void hostile_word(void)
+{
+    hostile(4096, 2097152, UINT64_C(8573161472));
 }
 
 /* ---- lengths past 32 bits, over memory that is asked for and hardly touched ---- */
@@ -1028,11 +1140,22 @@ static size_t damage_some(uint8_t *file, size_t len)
     return below(10) == 0 ? below(len + 1) : len;
 }
 
+/* mostly short, sometimes long, now and then at the limit or around a power of two */
+static size_t some_word_length(void)
+{
+    static const size_t edges[] = {127, 128, 1023, 1024, 1025, 2047, 2048, 2049, MOST_LETTERS - 1, MOST_LETTERS};
+    if (below(2000) == 0)
+        return edges[below(sizeof edges / sizeof *edges)];
+    return 1 + some_length(below(40) ? 200 : below(2) ? 1023 : MOST_LETTERS - 1);
+}
+
 static void mixed_case(void)
 {
-    static uint8_t word[MOST_LETTERS + 8], mirrored[MOST_LETTERS], file[MOST_FILE], text[8192];
+    static uint8_t word[MOST_LETTERS + 8], mirrored[MOST_LETTERS], file[MOST_FILE], text[4 * MOST_LETTERS];
     static const unsigned alphabets[] = {2, 2, 3, 4, 256};
-    size_t m = 1 + some_length(below(40) ? 200 : MOST_LETTERS - 1), n = some_length(below(8) ? 600 : sizeof text);
+    size_t m = some_word_length(), n = some_length(below(8) ? 600 : sizeof text);
+    if (m > 600 && below(2))
+        n = m + some_length(sizeof text - m);
     enum entry entry = (enum entry)below(ENTRIES);
     choose_palette(alphabets[below(5)]);
     make_word(word, m, (enum kind)below(KINDS));
@@ -1095,11 +1218,13 @@ static void more_mixed_cases(void)
 static void long_damaged_files(void)
 {
     static uint8_t word[MOST_LETTERS];
-    for (int turn = 0; turn < 2; turn++) {
-        choose_palette(turn ? 4 : 2);
-        make_word(word, MOST_LETTERS >> turn, RANDOM);
-        damage(word, MOST_LETTERS >> turn, false);
-    }
+    choose_palette(2);
+    make_word(word, MOST_LETTERS, RANDOM);
+    damage(word, MOST_LETTERS, false, 32, 1);
+    damage(word, 1025, false, 1, 1);
+    choose_palette(4);
+    make_word(word, MOST_LETTERS / 2, RANDOM);
+    damage(word, MOST_LETTERS / 2, false, 8, 1);
 }
 
 /* how often each entry gave each number; whether one that it can give is missing */
@@ -1140,8 +1265,9 @@ static void all_parts(bool costly)
     part("slices of more than 4,294,967,296 elements", vast_slices);
     part("all of it mixed", mixed_cases);
     if (costly) {
-        part("damaged files of the most letters, and of half as many", long_damaged_files);
-        part("300 a's in the longest text, of a's alone", hostile_at_the_limit);
+        part("damaged files of the most letters, of half as many, and of 1,025", long_damaged_files);
+        part("300 a's in the longest text, of a's alone", hostile_text);
+        part("4,096 a's in a text of 2,097,152 a's", hostile_word);
     }
     if (until > 0)
         part("more of it mixed", more_mixed_cases);

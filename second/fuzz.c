@@ -267,9 +267,13 @@ static unsigned seeds;
 
 static void seed(unsigned call, uint8_t flags, const uint8_t *input, size_t input_len, const uint8_t *tail, size_t tail_len)
 {
-    static uint8_t bytes[4 * MOST_INPUT];
+    static uint8_t bytes[MOST_INPUT];
     char path[4096];
     uint8_t head[HEAD] = {(uint8_t)call, flags, 0, 0, 0, 4, (uint8_t)(input_len % 256), (uint8_t)(input_len / 256)};
+    if (HEAD + input_len + tail_len > MOST_INPUT) {
+        fprintf(stderr, "fuzz: a seed of %zu bytes would not be run\n", HEAD + input_len + tail_len);
+        exit(2);
+    }
     memcpy(bytes, head, HEAD);
     memcpy(bytes + HEAD, input, input_len);
     if (tail_len > 0)
@@ -280,25 +284,74 @@ static void seed(unsigned call, uint8_t flags, const uint8_t *input, size_t inpu
     fclose(f);
 }
 
+/* the text of a seed: the word and its mirror */
+static size_t seed_text(const uint8_t *word, size_t m, uint8_t *text)
+{
+    for (size_t i = 0; i < 2 * m; i++)
+        text[i] = i < m ? word[i] : word[2 * m - 1 - i];
+    return 2 * m;
+}
+
 static void seed_word(const uint8_t *word, size_t m)
 {
     uint8_t file[MOST_FILE], text[2 * (MOST_LETTERS + 1)];
-    size_t size = m >= 1 && m <= MOST_LETTERS ? file_of(word, m, file) : 0;
-    for (size_t i = 0; i < 2 * m; i++)
-        text[i] = i < m ? word[i] : word[2 * m - 1 - i];
+    size_t size = m >= 1 && m <= MOST_LETTERS ? file_of(word, m, file) : 0, n = seed_text(word, m, text);
     static const uint8_t changes[] = {2, 0, 0, 3, 'b', 1, 255, 255, 0};
     seed(BUILD, 0, word, m, text, 0);
     seed(SAVE, 1, word, m, text, 0);
-    seed(SEARCH, 0, word, m, text, 2 * m);
+    seed(SEARCH, 0, word, m, text, n);
     seed(SEARCH, 0xF0, word, m, text, 0);
     if (size == 0)
         return;
     seed(LOAD, 0, file, size, text, 0);
-    seed(SEARCH_FILE, 1, file, size, text, 2 * m);
+    seed(SEARCH_FILE, 1, file, size, text, n);
     seed(SEARCH_FILE, 0xF1, file, size, text, 0);
     seed(LOAD_CHANGED, 0, word, m, changes, sizeof changes);
     text[0] = 0;
-    seed(SEARCH_FILE_CHANGED, 0, word, m, text, 2 * m);
+    seed(SEARCH_FILE_CHANGED, 0, word, m, text, n);
+}
+
+/* one change of a word's file, as change() understands it */
+static void seed_change(const uint8_t *word, size_t m, uint8_t what, size_t at, uint8_t value)
+{
+    uint8_t tail[5 + 2 * MOST_LETTERS] = {1, what, (uint8_t)(at / 256), (uint8_t)(at % 256), value};
+    seed(LOAD_CHANGED, 1, word, m, tail, 5);
+    seed(SEARCH_FILE_CHANGED, 0, word, m, tail, 5 + seed_text(word, m, tail + 5));
+}
+
+/* a file that declares m letters in two groups, has them, and no arrow behind; and the same with one letter fewer */
+static void seed_declared(const uint8_t *word, size_t m)
+{
+    uint8_t file[MOST_FILE] = {1, (uint8_t)(128 + m % 128), (uint8_t)(m / 128)}, text[2 * (MOST_LETTERS + 1)];
+    size_t n = seed_text(word, m, text), behind = 3 + m;
+    memcpy(file + 3, word, m);
+    seed(LOAD, 0, file, behind + 1, text, 0);
+    seed(SEARCH_FILE, 0, file, behind + 1, text, n);
+    seed(LOAD, 1, file, behind - 1, text, 0);
+}
+
+/* a word of 128 letters or more, and with arrows: its file, cut before, inside and behind each field, and each field changed */
+static void seed_long(const uint8_t *word, size_t m)
+{
+    uint8_t file[MOST_FILE];
+    seed_declared(word, m);
+    if (m > MOST_LETTERS)
+        return;
+    size_t size = file_of(word, m, file), behind = 3 + m, middle = (behind + size) / 2;
+    const size_t cuts[] = {1, 2, 3, behind - 1, behind, behind + 1, behind + 3, middle, size - 1};
+    for (size_t i = 0; i < sizeof cuts / sizeof *cuts; i++)
+        seed(LOAD, 0, file, cuts[i], file, 0);
+    for (int more = -1; more <= 1; more += 2) {
+        seed_change(word, m, 0, 1, (uint8_t)(file[1] + more) | 128);
+        seed_change(word, m, 0, 2, (uint8_t)(file[2] + more));
+        seed_change(word, m, 0, behind, (uint8_t)(file[behind] + more));
+        seed_change(word, m, 0, middle, (uint8_t)(file[middle] + more));
+    }
+    seed_change(word, m, 0, behind - 1, (uint8_t)(word[m - 1] + 1));
+    seed_change(word, m, 1, behind, 0);
+    seed_change(word, m, 1, size, 0);
+    seed_change(word, m, 2, behind - 1, 0);
+    seed_change(word, m, 3, size - 2, 0);
 }
 
 static void seed_hex(const char *hex)
@@ -354,6 +407,9 @@ static void write_seeds(void)
                                         "FFFFFFFF0F",
                                         "018008",
                                         "018108",
+                                        "01FF1F",
+                                        "018020",
+                                        "018120",
                                         "01830061616100",
                                         "010361616103",
                                         "0103616161",
@@ -361,7 +417,7 @@ static void write_seeds(void)
                                         "01036161610000",
                                         "0102616200",
                                         "01026162010000"};
-    static const size_t lengths[] = {16, 64, 127, 128, 129, 300, MOST_LETTERS, MOST_LETTERS + 1};
+    static const size_t lengths[] = {16, 64, 127, 128, 129, 300, 1024, 1025, MOST_LETTERS - 1, MOST_LETTERS, MOST_LETTERS + 1};
     uint8_t word[MOST_LETTERS + 1];
     uint32_t state = 1;
     for (size_t i = 0; i < sizeof words / sizeof *words; i++)
@@ -370,7 +426,7 @@ static void write_seeds(void)
         seed_hex(files[i]);
     seed_spellings((const uint8_t *)"abbbaab", 7);
     for (size_t l = 0; l < sizeof lengths / sizeof *lengths; l++)
-        for (unsigned kind = 0; kind < (lengths[l] > 300 ? 1 : 4); kind++) {
+        for (unsigned kind = 0; kind < (lengths[l] <= 300 || lengths[l] == MOST_LETTERS ? 4 : 1); kind++) {
             for (size_t i = 0; i < lengths[l]; i++) {
                 state = state * 1664525 + 1013904223;
                 word[i] = kind == 1             ? 'a'
@@ -379,6 +435,8 @@ static void write_seeds(void)
                                                 : (uint8_t)('a' + (state >> 24) % 2);
             }
             seed_word(word, lengths[l]);
+            if (lengths[l] > 300 && kind == 0)
+                seed_long(word, lengths[l]);
         }
 }
 

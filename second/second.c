@@ -45,9 +45,13 @@
 
 enum { STATES = MOST_LETTERS + 1 + (SLIP == 11), LONGEST_TEXT = MOST_TEXT + (SLIP == 15) };
 
-/* ---- the oracle: one at a time, as a full matrix ---- */
+/* ---- the oracle at hand: one at a time ---- */
 
-/* where the arrow of a state on a letter leads; 0 for none, as no arrow leads to 0 */
+/* its word: the arrow of the spine from i to i+1 carries spine[i] */
+static uint8_t spine[STATES];
+static size_t spine_len;
+
+/* where the extra arrow of a state on a letter leads; 0 for none, as no arrow leads to 0 */
 static uint16_t leads[STATES][256];
 
 /* supply[i] for i from 1 to m */
@@ -59,49 +63,59 @@ static struct {
 } extra[STATES];
 static size_t extras;
 
+/* where the arrow of a state on a letter leads, the spine's or an extra one; 0 for none */
+static unsigned arrow(unsigned state, uint8_t letter)
+{
+    return state < spine_len && spine[state] == letter ? state + 1 : leads[state][letter];
+}
+
 /* walks the letters p[from] .. p[to-1] from state 0 as far as arrows go; says where it ends, *stop is the place of the first letter not
    spelled */
 static unsigned walk(const uint8_t *p, size_t from, size_t to, size_t *stop)
 {
-    unsigned state = 0;
+    unsigned state = 0, next;
     size_t at = from;
-    while (at < to && leads[state][p[at]] != 0)
-        state = leads[state][p[at++]];
+    while (at < to && (next = arrow(state, p[at])) != 0) {
+        state = next;
+        at++;
+    }
     *stop = at;
     return state;
+}
+
+/* adds an extra arrow, which carries its target's letter, and lists it at its place */
+static void add_arrow(unsigned source, size_t target)
+{
+    size_t at = extras++;
+    leads[source][spine[target - 1]] = (uint16_t)target;
+    for (; at > 0 && (extra[at - 1].source > source || (extra[at - 1].source == source && extra[at - 1].target > target)); at--)
+        extra[at] = extra[at - 1];
+    extra[at].source = (uint16_t)source;
+    extra[at].target = (uint16_t)target;
 }
 
 /* the suffix rule: the spine, then a walk of every suffix, from the second letter's to the last's */
 static void make_arrows(const uint8_t *p, size_t m)
 {
+    memcpy(spine, p, m);
+    spine_len = m;
     memset(leads, 0, (m + 1) * sizeof leads[0]);
-    for (size_t i = 0; i < m; i++)
-        leads[i][p[i]] = (uint16_t)(i + 1);
+    extras = 0;
     for (size_t i = 1; i < m; i++) {
         size_t k;
         unsigned j = walk(p, i, m, &k);
-        if (k < m)
-            leads[j][p[k]] = (uint16_t)(k + 1);
+        if (k == m)
+            continue;
+        size_t target = k + 1;
 #if SLIP == 18
-        for (size_t near = j; k < m && near < k; near++)
+        for (size_t near = j; near < k; near++)
             if (p[near] == p[k]) {
-                leads[j][p[k]] = (uint16_t)(near + 1);
+                target = near + 1;
                 break;
             }
 #endif
+        add_arrow(j, target);
     }
-}
-
-static void list_extras(const uint8_t *p, size_t m)
-{
-    extras = 0;
-    for (size_t s = 0; s <= m; s++)
-        for (size_t t = s + 2; t <= m; t++)
-            if (leads[s][p[t - 1]] == t) {
-                extra[extras].source = (uint16_t)s;
-                extra[extras].target = (uint16_t)t;
-                extras++;
-            }
 }
 
 /* common[e] is the length of the longest common end of p1..pe and p1..pi, so the longest end of p1..pi that stands there twice is as
@@ -123,10 +137,12 @@ static void find_supplies(const uint8_t *p, size_t m)
         supply[m]--;
 }
 
+/* it depends on the word alone, so the one at hand is kept where it is of this word already */
 static void make_oracle(const uint8_t *p, size_t m)
 {
+    if (m == spine_len && memcmp(p, spine, m) == 0)
+        return;
     make_arrows(p, m);
-    list_extras(p, m);
     find_supplies(p, m);
 }
 
@@ -267,7 +283,7 @@ static uint64_t letters_read(const uint8_t *text, size_t n, size_t m)
         size_t unread = m; /* the letter to read next stands at s + unread - 1 */
         while (unread > 0) {
             letters++;
-            state = leads[state][text[s + unread - 1]];
+            state = arrow(state, text[s + unread - 1]);
             if (state == 0)
                 break;
             unread--;

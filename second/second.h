@@ -9,7 +9,7 @@
 #include <stddef.h>
 #include <stdint.h>
 
-/* The scope document's limits. Nothing else in second/ rests on their values. */
+/* The scope document's limits. Nothing else in second/ rests on their values, but for some examples and seeds. */
 enum {
     MOST_LETTERS = 4096,         /* of a word */
     MOST_TEXT = 16777216,        /* bytes of a text */
