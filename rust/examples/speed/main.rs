@@ -44,33 +44,47 @@ fn best(mut run: impl FnMut()) -> f64 {
 /// The words that are built and loaded, each twice as long as the one before.
 const LENGTHS: [usize; 6] = [128, 256, 512, 1024, 2048, LONGEST_WORD];
 
-/// The head of a table with a column for each of them, behind the columns that are named.
+/// So many random words of each length, each built or loaded so often in a run.
+const WORDS: u64 = 64;
+const TURNS: usize = 4;
+
+/// The head of a table with a column for each length, behind the columns that are named.
 fn lengths_head(before: &str) -> String {
     let lengths = LENGTHS.map(|m| m.to_string()).join(" | ");
     let columns = before.matches('|').count() - 1 + LENGTHS.len();
     format!("{before} m = {lengths} |\n|{}", "---|".repeat(columns))
 }
 
+/// Microseconds for one word of each length, from the fastest of twelve runs. The lengths take turns, so that a slow moment of the machine falls on all of them.
+fn by_length(mut run: impl FnMut(usize)) -> [f64; LENGTHS.len()] {
+    let mut fastest = [f64::INFINITY; LENGTHS.len()];
+    for _ in 0..12 {
+        for (i, best) in fastest.iter_mut().enumerate() {
+            let start = Instant::now();
+            for _ in 0..TURNS {
+                run(i);
+            }
+            *best = start.elapsed().as_secs_f64().min(*best);
+        }
+    }
+    fastest.map(|seconds| seconds * 1e6 / (TURNS * WORDS as usize) as f64)
+}
+
 fn build_times() {
     println!("<!-- begin build -->\n{}", lengths_head("| Alphabet |"));
     for letters in [2, 4, 256] {
-        let mut line = format!("| {letters} |");
-        let mut before = 0.0;
-        for m in LENGTHS {
-            let words: Vec<Vec<u8>> = (0..64).map(|i| Random(88172645463325252 + i).bytes(m, letters)).collect();
-            let mut tables = vec![0u16; 6 * (m + 1)];
-            let took = best(|| {
-                for _ in 0..4 {
-                    for word in &words {
-                        build(word, &mut tables).expect("a word within the limit");
-                    }
-                }
-            }) / 256.0
-                * 1e6;
-            line += &if before > 0.0 { format!(" {took:.1} ({:.2}) |", took / before) } else { format!(" {took:.1} |") };
-            before = took;
+        let words = LENGTHS.map(|m| (0..WORDS).map(|i| Random(88172645463325252 + i).bytes(m, letters)).collect::<Vec<_>>());
+        let mut tables = vec![0u16; table_room(LONGEST_WORD)];
+        let times = by_length(|i| {
+            for word in &words[i] {
+                build(word, &mut tables[..table_room(word.len())]).expect("a word within the limit");
+            }
+        });
+        print!("| {letters} | {:.1} |", times[0]);
+        for pair in times.windows(2) {
+            print!(" {:.1} ({:.2}) |", pair[1], pair[1] / pair[0]);
         }
-        println!("{line}");
+        println!();
     }
     println!("<!-- end build -->");
 }
@@ -86,40 +100,38 @@ fn damaged(file: &[u8], how: &str) -> Vec<u8> {
     }
 }
 
+/// The files of random words of m letters, each damaged.
+fn files(m: usize, letters: u64, how: &str) -> Vec<Vec<u8>> {
+    let (mut tables, mut out) = (vec![0; table_room(m)], vec![0; LONGEST_FILE]);
+    let mut file = |i| {
+        let word = Random(88172645463325252 + i).bytes(m, letters);
+        let length = save(&word, &mut tables, &mut out).expect("a word within the limit");
+        damaged(&out[..length as usize], how)
+    };
+    (0..WORDS).map(&mut file).collect()
+}
+
 fn load_times() {
     println!("<!-- begin load -->\n{}", lengths_head("| Alphabet | File |"));
+    let (mut tables, mut room) = (vec![0u16; table_room(LONGEST_WORD)], vec![0u8; LONGEST_WORD]);
     for letters in [2, 4, 256] {
         for how in ["good", "last arrow differs (10)", "one byte more (11)", "one byte less (5)"] {
-            let mut line = format!("| {letters} | {how} |");
-            let mut before = 0.0;
-            for m in LENGTHS {
-                let (mut tables, mut room) = (vec![0u16; table_room(m)], vec![0u8; m]);
-                let files: Vec<Vec<u8>> = (0..64)
-                    .map(|i| {
-                        let mut out = vec![0; LONGEST_FILE];
-                        let word = Random(88172645463325252 + i).bytes(m, letters);
-                        let length = save(&word, &mut tables, &mut out).expect("a word within the limit");
-                        damaged(&out[..length as usize], how)
-                    })
-                    .collect();
-                assert!(files.iter().all(|file| load(file, &mut room, &mut tables).is_ok() == (how == "good")));
-                let took = best(|| {
-                    for _ in 0..4 {
-                        for file in &files {
-                            let _ = std::hint::black_box(load(file, &mut room, &mut tables));
-                        }
-                    }
-                }) / 256.0
-                    * 1e6;
-                let bytes = files.iter().map(Vec::len).sum::<usize>() as f64 / files.len() as f64;
-                let ratio = if before > 0.0 { format!("{:.2}, ", took / before) } else { String::new() };
-                line += &format!(" {took:.1} ({ratio}{:.0}) |", took * 1e3 / bytes);
-                before = took;
+            let files = LENGTHS.map(|m| files(m, letters, how));
+            assert!(files.iter().flatten().all(|file| load(file, &mut room, &mut tables).is_ok() == (how == "good")));
+            let times = by_length(|i| {
+                for file in &files[i] {
+                    let _ = std::hint::black_box(load(file, &mut room[..LENGTHS[i]], &mut tables[..table_room(LENGTHS[i])]));
+                }
+            });
+            print!("| {letters} | {how} |");
+            for (i, took) in times.iter().enumerate() {
+                let bytes = files[i].iter().map(Vec::len).sum::<usize>() as f64 / WORDS as f64;
+                let ratio = if i > 0 { format!("{:.2}, ", took / times[i - 1]) } else { String::new() };
+                print!(" {took:.1} ({ratio}{:.0}) |", took * 1e3 / bytes);
             }
-            println!("{line}");
+            println!();
         }
     }
-    let (mut tables, mut room) = (vec![0u16; table_room(LONGEST_WORD)], vec![0u8; LONGEST_WORD]);
     let took = best(|| {
         for _ in 0..1_000_000 {
             let _ = std::hint::black_box(load(&[0x01, 0xFF, 0xFF, 0xFF, 0xFF, 0x0F], &mut room, &mut tables));
