@@ -25,6 +25,9 @@
 
 enum { NUMBERS = 13, GUARD = 256, NOISE = 1 << 16 };
 
+/* lengths of long words: around two powers of two, and up to the limit */
+#define LONG_EDGES 1023, 1024, 1025, 2047, 2048, 2049, MOST_LETTERS - 1, MOST_LETTERS
+
 /* ---- numbers by chance, the same for the same seed ---- */
 
 static uint64_t chance_state = 1;
@@ -596,9 +599,7 @@ static void short_words(void)
 
 static void longer_words(void)
 {
-    static const size_t lengths[] = {9,           16,  31,  32,  33,   100,  127,  128,  129,  254,  255,  256,
-                                     257,         511, 512, 513, 1000, 1023, 1024, 1025, 2047, 2048, 2049, MOST_LETTERS - 1,
-                                     MOST_LETTERS};
+    static const size_t lengths[] = {9, 16, 31, 32, 33, 100, 127, 128, 129, 254, 255, 256, 257, 511, 512, 513, 1000, LONG_EDGES};
     static const unsigned alphabets[] = {2, 4, 256};
     static uint8_t word[MOST_LETTERS], text[4 * MOST_LETTERS], file[MOST_FILE];
     for (size_t l = 0; l < sizeof lengths / sizeof *lengths; l++)
@@ -734,28 +735,8 @@ static void rooms_of_long_file(const uint8_t *word, size_t m)
 
 static void rooms(void)
 {
-    static const size_t lengths[] = {0,
-                                     1,
-                                     2,
-                                     3,
-                                     5,
-                                     9,
-                                     30,
-                                     128,
-                                     1023,
-                                     1024,
-                                     1025,
-                                     2047,
-                                     2048,
-                                     2049,
-                                     MOST_LETTERS - 1,
-                                     MOST_LETTERS,
-                                     MOST_LETTERS + 1,
-                                     MOST_LETTERS + 2,
-                                     2 * MOST_LETTERS,
-                                     PAST_16_BITS,
-                                     PAST_16_BITS + 1,
-                                     LONGEST_TRIED};
+    static const size_t lengths[] = {0, 1, 2, 3, 5, 9, 30, 128, LONG_EDGES, MOST_LETTERS + 1, MOST_LETTERS + 2, 2 * MOST_LETTERS,
+                                     PAST_16_BITS, PAST_16_BITS + 1, LONGEST_TRIED};
     static uint8_t word[LONGEST_TRIED];
     for (size_t l = 0; l < sizeof lengths / sizeof *lengths; l++)
         for (int turn = 0; turn < (lengths[l] < 100 ? 4 : 1); turn++) {
@@ -866,14 +847,7 @@ static void replace_number(const uint8_t *file, size_t len, size_t m, size_t fro
                                         4294967040u,
                                         4294967294u,
                                         4294967295u,
-                                        1023,
-                                        1024,
-                                        1025,
-                                        2047,
-                                        2048,
-                                        2049,
-                                        MOST_LETTERS - 1,
-                                        MOST_LETTERS,
+                                        LONG_EDGES,
                                         MOST_LETTERS + 1};
     static const char *const raw[] = {"80",           "8080",         "808080",     "80808080",     "8000",
                                       "808000",       "80808000",     "8080808000", "8080808080",   "8080808010",
@@ -1143,7 +1117,7 @@ static size_t damage_some(uint8_t *file, size_t len)
 /* mostly short, sometimes long, now and then at the limit or around a power of two */
 static size_t some_word_length(void)
 {
-    static const size_t edges[] = {127, 128, 1023, 1024, 1025, 2047, 2048, 2049, MOST_LETTERS - 1, MOST_LETTERS};
+    static const size_t edges[] = {127, 128, LONG_EDGES};
     if (below(2000) == 0)
         return edges[below(sizeof edges / sizeof *edges)];
     return 1 + some_length(below(40) ? 200 : below(2) ? 1023 : MOST_LETTERS - 1);
