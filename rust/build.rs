@@ -7,8 +7,12 @@ fn main() {
     let out = PathBuf::from(env::var("OUT_DIR").unwrap());
     let archive = out.join("libmarks_c.a");
     let machine = env::var("CARGO_CFG_TARGET_ARCH").unwrap();
-    let made =
-        Command::new(top.join("tools/native-archive")).arg("marks_c").arg(&archive).env("MACHINE", &machine).current_dir(&top).status();
+    let made = Command::new(top.join("tools/native-archive"))
+        .arg("marks_c")
+        .arg(&archive)
+        .env("MARKS_MACHINE", &machine)
+        .current_dir(&top)
+        .status();
     assert!(made.map(|s| s.success()).unwrap_or(false), "tools/native-archive marks_c failed: is `rt` on the path?");
     println!("cargo:rustc-link-search=native={}", out.display());
     println!("cargo:rustc-link-lib=static=marks_c");
