@@ -46,9 +46,9 @@ fn the_letters_pass_32_bits() {
     assert_eq!(one_letter_over_and_over(2_097_152), Tally { count: 2_093_057, letters: 8_573_161_472 });
 }
 
-/// It takes a minute: `cargo test --release --test limits -- --ignored`.
+/// It takes a minute or two: `cargo test --release --test limits -- --ignored`.
 #[test]
-#[ignore = "takes a minute"]
+#[ignore = "takes a minute or two"]
 fn the_most_letters_that_a_search_can_read() {
     assert_eq!(one_letter_over_and_over(LONGEST_TEXT), Tally { count: 16_773_121, letters: 68_702_703_616 });
 }

@@ -1,21 +1,31 @@
 -- LONGER MARKS, the first request of 02, sentence by sentence: each is quoted, and under it stands what says just that.
 use mathlib.Core.Path.{_≡_, refl}
+use mathlib.Core.Bool.{true, false}
 use mathlib.Core.Logic.{_⊎_}
 use mathlib.Core.List.{List, [], _∷_}
 use Prim.Native.Nat.{ℕ, _+_, _*_, _≤_, _<_}
+use native.Mathlib.Omega.{arith}
 use lib.ListN.{length}
+use lib.Dec.{ltb}
+use borrow.Author.Tests.{lt-ltb, le-ltb}
 use Rattle.words.specs.Words.{Word, Place}
-use Rattle.words.specs.Limits.{longestWord}
+use Rattle.words.specs.Limits.{longestWord, longestText, leastSaved}
 use Rattle.words.proofs.Limits.{word-limit, greatest-file, limits-agree}
 use Rattle.table.specs.Table.{room}
 use Rattle.number.specs.Number.{groups, spellNumber}
 use Rattle.saved.specs.File.{edition, Saved}
 use Rattle.loaded.specs.Cases.{Reads}
-use Rattle.loaded.proofs.Within.{front-unmoved}
+use Rattle.loaded.proofs.Within.{front-unmoved, front-refused}
+use Rattle.answers.specs.Answers.{refused, longWord}
+use Rattle.marks.specs.Build
 use Rattle.marks.specs.Build.{buildWithin, buildSays}
+use Rattle.marks.specs.Search
 use Rattle.marks.specs.Search.{searchWithin, searchSays}
+use Rattle.mark_files.specs.Save
 use Rattle.mark_files.specs.Save.{saveWithin, saveSays}
+use Rattle.mark_files.specs.Load
 use Rattle.mark_files.specs.Load.{loadWithin, loadSays}
+use Rattle.mark_files.specs.SearchFile
 use Rattle.mark_files.specs.SearchFile.{searchFileWithin, searchFileSays}
 use Rattle.demands.proofs.Demand3.{file-sizes}
 
@@ -52,17 +62,20 @@ spelling-of-4097 = refl
 -- under both
 module _ (low : ℕ) (rises : low ≤ longestWord) where
   module _ (word : Word) (agree : (length word ≤ low) ⊎ (longestWord < length word)) (T : List ℕ) where
+    same-test : ltb low (length word) ≡ ltb longestWord (length word)
+    same-test = limits-agree low longestWord (length word) rises agree
+
     pub build-stays : buildWithin low word T ≡ buildSays word T
     unfolding buildSays
-    build-stays = rw (limits-agree low longestWord (length word) rises agree)
+    build-stays = rw same-test
 
     pub search-stays : (text : Word) (F : List Place) → searchWithin low word text T F ≡ searchSays word text T F
     unfolding searchSays
-    search-stays text F = rw (limits-agree low longestWord (length word) rises agree)
+    search-stays text F = rw same-test
 
     pub save-stays : (O : List ℕ) → saveWithin low word T O ≡ saveSays word T O
     unfolding saveSays
-    save-stays O = rw (limits-agree low longestWord (length word) rises agree)
+    save-stays O = rw same-test
 
   -- a file from which no length of a word can be read, or one of those
   module _ (file : List ℕ) (agree : (i : Place) (m : ℕ) (j : Place) → Reads file 0 edition i → Reads file i m j
@@ -74,3 +87,31 @@ module _ (low : ℕ) (rises : low ≤ longestWord) where
     pub search-file-stays : (text : Word) (F : List Place) → searchFileWithin low file text R T F ≡ searchFileSays file text R T F
     unfolding searchFileSays
     search-file-stays text F = rw load-stays
+
+-- and it is indeed the outcome under that limit: what is longer was refused with 2, or 8, and nothing was changed
+module _ (low : ℕ) where
+  module _ (word : Word) (longer : low < length word) (T : List ℕ) where
+    some-letter : ltb (length word) 1 ≡ false
+    some-letter = le-ltb (length word) 1 (omega (arith, longer))
+
+    too-long : ltb low (length word) ≡ true
+    too-long = lt-ltb low (length word) longer
+
+    pub build-refused : buildWithin low word T ≡ Build.outcome (refused longWord) T
+    build-refused = rw (some-letter, too-long)
+
+    pub search-refused : (text : Word) (F : List Place) → searchWithin low word text T F ≡ Search.outcome (refused longWord) T F
+    search-refused text F = rw (some-letter, too-long)
+
+    pub save-refused : (O : List ℕ) → saveWithin low word T O ≡ Save.outcome (refused longWord) T O
+    save-refused O = rw (some-letter, too-long)
+
+  module _ (least : leastSaved ≤ low) (file : List ℕ) {i : Place} {m : ℕ} {j : Place} (first : Reads file 0 edition i)
+      (second : Reads file i m j) (longer : low < m) (R T : List ℕ) where
+    pub load-refused : loadWithin low file R T ≡ Load.outcome (refused 8) R T
+    unfolding loadWithin
+    load-refused = rw (front-refused low least file 0 first second longer)
+
+    pub search-file-refused : (text : Word) (F : List Place) → length text ≤ longestText
+        → searchFileWithin low file text R T F ≡ SearchFile.outcome (refused 8) R T F
+    search-file-refused text F h = rw (le-ltb longestText (length text) h, load-refused)
