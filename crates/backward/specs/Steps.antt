@@ -1,5 +1,5 @@
--- THE BACKWARD SEARCH, step by step as 01 states it. The window starts at place s; its letters are read from the last to the first, walking
--- the oracle of the mirrored word from state 0.
+-- THE BACKWARD SEARCH, step by step as 01 states it, with 02's step after a find. The window starts at place s; its letters are read from
+-- the last to the first, walking the oracle of the mirrored word from state 0.
 --
 --   Reading              where a window's reading failed, if it did, and the letters it read
 --   readAll              no letter is left
@@ -7,7 +7,7 @@
 --   oneMore r            one letter is read, and then the others as r says
 --   readDown δ t s k x   reads the letters at s + k - 1 down to s, from state x
 --   readWindow δ w t s   reads the window of w's length that starts at s, from state 0
---   afterFind w          how far the window moves after an occurrence of w
+--   afterFind w          how far the window moves after an occurrence of w: m less the longest border
 --   nextWindow w s f     where the window goes from s, f the place of the failing letter if there is one
 --   Sweep                the starts of the occurrences, rising, and all letters read
 --   nothing              the sweep of no window
@@ -16,14 +16,15 @@
 --   steps δ w t          all windows, with the arrows δ
 --   backward w t         the search: with the oracle of the mirrored word
 --
--- 01, 'The backward search'; demand 2.
+-- 01, 'The backward search'; 02, 'The step after a find'; demand 2.
 use mathlib.Core.Bool.{cond}
 use mathlib.Core.Option.{Option, none, some}
 use mathlib.Core.List.{List, [], _∷_}
-use Prim.Native.Nat.{ℕ, zero, suc, _+_}
+use Prim.Native.Nat.{ℕ, zero, suc, _+_, _-_}
 use lib.ListN.{length}
 use lib.Dec.{leb}
 use Rattle.words.specs.Words.{Word, Place, letter, mirror}
+use Rattle.border.specs.Borders.{longestBorder}
 use Rattle.oracle.specs.Arrows.{State, Delta}
 use Rattle.oracle.specs.SuffixRule.{oracle}
 
@@ -47,8 +48,10 @@ readDown δ t s (suc k) x = elim (δ x (letter t (s + k))) [ none ↦ failsAt (s
 abbrev pub readWindow : Delta → Word → Word → Place → Reading
 readWindow δ w t s = readDown δ t s (length w) 0
 
+-- the empty word, which no entry takes, moves on by one
 unfoldable pub afterFind : Word → ℕ
-afterFind w = 1
+afterFind [] = 1
+afterFind (c ∷ w) = length (c ∷ w) - longestBorder (c ∷ w)
 
 abbrev pub nextWindow : Word → Place → Option Place → Place
 nextWindow w s none = s + afterFind w

@@ -3,3 +3,4 @@ pub mod Demand2
 pub mod TwoTables
 pub mod Demand3
 pub mod LongerMarks
+pub mod StepAfterFind

@@ -8,6 +8,7 @@ use Rattle.oracle.specs.SuffixRule.{far, mend, missing, extrasAfter, extraArrow
 use Rattle.oracle.specs.LetterRule.{climb, addLetter, builtUpTo, letterRule}
 use Rattle.oracle.specs.Supply.{ends, twice, repeated, supply}
 use Rattle.oracle.specs.FileOrder.{leadsTo, extraTargets, extrasBefore, fileArrows}
+use Rattle.border.specs.Borders.{longest, closes, longestBorder}
 use Rattle.backward.specs.Steps.{readDown, afterFind, windows, steps, backward}
 use Rattle.number.specs.Number.{groups, spellNumber, refuses, see, seeNumber, numberAt}
 use Rattle.saved.specs.File.{edition, stepsFrom, spellSteps, ownSteps, body, spell}
@@ -20,7 +21,7 @@ pub examples-hold : T (allHold table)
 unfolding from only first same stands occurrences longestWord leastSaved
     target walk spine far mend missing extrasAfter extraArrows suffixRule climb addLetter builtUpTo letterRule
     ends twice repeated supply leadsTo extraTargets extrasBefore fileArrows
-    readDown afterFind windows steps backward
+    longest closes longestBorder readDown afterFind windows steps backward
     groups spellNumber refuses see seeNumber numberAt edition stepsFrom spellSteps ownSteps body spell frontWithin loadWithin
     is isNone walked empty has gives isRefused refusedWith refusedInRooms shows holds allHold word digit bytes table
 examples-hold = tt

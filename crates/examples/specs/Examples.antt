@@ -151,7 +151,8 @@ table =
     ∷ acceptsNoFactor (word "abcacdace") (word "cace")
     ∷ search (word "aa") (word "aaaa") (0 ∷ 1 ∷ 2 ∷ []) 6
     ∷ search (word "ab") (word "aab") (1 ∷ []) 4
-    ∷ search (word "aba") (word "ababa") (0 ∷ 2 ∷ []) 9
+    ∷ search (word "aba") (word "ababa") (0 ∷ 2 ∷ []) 6
+    ∷ search (word "ab") (word "abxa") (0 ∷ []) 4
     ∷ search (word "abc") (word "xxxxxx") [] 2
     ∷ search (word "abc") (word "ab") [] 0
     ∷ loadRefused (bytes "01 FF FF FF FF 0F") 8

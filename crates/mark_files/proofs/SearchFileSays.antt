@@ -6,7 +6,7 @@ use mathlib.Core.List.{List, _++_, reverse-reverse}
 use Prim.Native.Nat.{ℕ, _≤_, _<_}
 use native.Mathlib.Decide.{decLt}
 use native.Mathlib.Omega.{arith}
-use lib.ListN.{length, take, drop}
+use lib.ListN.{length, take, drop, take-append-drop}
 use lib.Seq.{take-at, length-take-le}
 use borrow.Author.Tests.{lt-ltb, le-ltb}
 use Rattle.words.specs.Words.{Word, Place, mirror, occurrences}
@@ -18,8 +18,10 @@ use Rattle.backward.proofs.Windows.{steps-same, steps-mirror}
 use Rattle.backward.proofs.Theorems.{search-lists-occurrences}
 use Rattle.table.specs.Table.{room, tableOf, readArrow}
 use Rattle.table.specs.Formed.{Formed}
+use Rattle.table.specs.Spare.{Spare}
 use Rattle.table.proofs.Theorems.{table-arrow}
 use Rattle.table.proofs.Formed.{table-formed}
+use Rattle.table.proofs.Spare.{table-spare}
 use Rattle.finds.specs.declared.Tally.{Tally}
 use Rattle.search.specs.Answers.{tallyOf}
 use Rattle.finds.specs.Finds.{filled}
@@ -52,11 +54,14 @@ own-table-steps w text =
 
 -- what stands in the rooms after loading can be searched with
 pub lent-sized : {m : ℕ} {R T : List ℕ} (text : Word) → Standing m R T → length text ≤ longestText
-    → ((1 ≤ length (take m R)) × (length text < 4294967295)) × Formed (take (room m) T) (length (take m R))
+    → ((1 ≤ length (take m R)) × (length text < 4294967295))
+    × (Formed (take (room m) T) (length (take m R)) × Spare (take (room m) T) (length (take m R)))
 lent-sized {m} {R} {T} text stood short =
     let size : length (take m R) ≡ m = length-take-le m R (stood .inside) in
-    let few : length (take m R) < 65535 = omega (arith, size, stood .most, words-fit) in
-    ((omega (arith, size, stood .least), omega (arith, texts-fit)), rw (stood .table) (table-formed (take m R) few))
+    let few : length (take m R) < 65535 = omega (arith, size, stood .most, words-fit) in (
+      (omega (arith, size, stood .least), omega (arith, texts-fit)),
+      (rw (stood .table) (table-formed (take m R) few), rw (stood .table) (table-spare (take m R))),
+    )
 
 module _ (file : List ℕ) (text : Word) (R T : List ℕ) (F : List Place) where
   -- ── Its cases, in the order of the tests ─────────────────────────────────
@@ -135,12 +140,22 @@ module _ (file : List ℕ) (text : Word) (R T : List ℕ) (F : List Place) where
       stood : Standing m R′ T′
       stood = told-stands file R T told e
 
-      pub scan-counts : {t : Tally} {F′ : List Place}
+      -- Q is what the scan leaves of the tables that it was lent
+      pub scan-counts : {t : Tally} {F′ : List Place} {Q : List ℕ}
           → t ≡ tallyOf (steps (readArrow (length (take m R′)) (take (room m) T′)) (take m R′) text)
           → F′ ≡ filled (steps (readArrow (length (take m R′)) (take (room m) T′)) (take m R′) text .starts) F
-          → outcome (done t) R′ T′ F′ ≡ searchFileSays file text R T F
-      scan-counts t f =
-          rw (t, f, stood .table, own-table-steps (take m R′) text, search-lists-occurrences (mirror (take m R′)) text)
+          → Q ≡ take (room m) T′
+          → outcome (done t) R′ (Q ++ drop (room m) T′) F′ ≡ searchFileSays file text R T F
+      scan-counts t f q =
+          rw (
+            t,
+            f,
+            q,
+            take-append-drop (room m) T′,
+            stood .table,
+            own-table-steps (take m R′) text,
+            search-lists-occurrences (mirror (take m R′)) text,
+          )
           (sym (says-loaded ∙ ap (λ (s : SizeAnswer). afterLoad (sizeAnswer s) text R′ T′ F) e))
 
   -- ── What is found with a word's file ─────────────────────────────────────

@@ -109,7 +109,7 @@ pub fn search_file(
         SizeAnswer::Refused(why) => TallyAnswer::Refused(why),
         SizeAnswer::Done(m) => {
             let need = 6 * (m + 1);
-            TallyAnswer::Done(search::scan(&room[..m], &tables[..need], text, finds))
+            TallyAnswer::Done(search::scan(&room[..m], &mut tables[..need], text, finds))
         }
     }
 }

@@ -7,7 +7,7 @@ use mathlib.Core.List.{List, _++_, List·Memᴰ}
 use Prim.Native.Nat.{ℕ, _+_, _*_, _-_, _≤_, _<_}
 use native.Mathlib.Decide.{decLt}
 use native.Mathlib.Omega.{arith}
-use lib.ListN.{length, take, drop, length-reverse}
+use lib.ListN.{length, take, drop, length-reverse, take-append-drop}
 use lib.Seq.{take-at, drop-at}
 use borrow.Author.Tests.{lt-ltb, le-ltb}
 use Rattle.words.specs.Words.{Word, Place, mirror, stands, occurrences}
@@ -19,8 +19,10 @@ use Rattle.backward.proofs.Windows.{steps-same}
 use Rattle.backward.proofs.Theorems.{search-lists-occurrences, search-letters-most}
 use Rattle.table.specs.Table.{room, tableOf, readArrow}
 use Rattle.table.specs.Formed.{Formed}
+use Rattle.table.specs.Spare.{Spare}
 use Rattle.table.proofs.Theorems.{table-size, table-arrow}
 use Rattle.table.proofs.Formed.{table-formed}
+use Rattle.table.proofs.Spare.{table-spare}
 use Rattle.finds.specs.declared.Tally.{Tally}
 use Rattle.search.specs.Answers.{tallyOf}
 use Rattle.finds.specs.Finds.{filled}
@@ -164,11 +166,28 @@ module _ (word : Word) {P : List ℕ} (R : List ℕ) (filled-in : P ≡ tableOf 
   pub lent-formed : length word < 65535 → Formed lent (length word)
   lent-formed h = rw (lent-table, ← length-reverse word) (table-formed (mirror word) (rw (length-reverse word) h))
 
-  pub scan-counts : (text : Word) (T : List ℕ) (F : List Place) {t : Tally} {F′ : List Place}
+  -- its spare rows are zero
+  pub lent-spare : Spare lent (length word)
+  lent-spare = rw (lent-table, ← length-reverse word) (table-spare (mirror word))
+
+  -- the scan leaves Q there
+  pub scan-counts : (text : Word) (F : List Place) {t : Tally} {F′ : List Place} {Q : List ℕ}
       → t ≡ tallyOf (steps (readArrow (length word) lent) word text)
       → F′ ≡ filled (steps (readArrow (length word) lent) word text .starts) F
-      → outcome (done t) (P ++ drop (room (length word)) T) F′ ≡ counted word text T F
-  scan-counts text T F t f = rw (t, f, lent-table, filled-in, table-steps word text, search-lists-occurrences word text)
+      → Q ≡ lent
+      → outcome (done t) (Q ++ drop (room (length word)) (P ++ R)) F′
+      ≡ outcome (done (found word text)) (tableOf (mirror word) ++ R) (filled (occurrences word text) F)
+  scan-counts text F t f q =
+      rw (
+        t,
+        f,
+        q,
+        take-append-drop (room (length word)) (P ++ R),
+        lent-table,
+        filled-in,
+        table-steps word text,
+        search-lists-occurrences word text,
+      )
 
 -- ── One outcome ────────────────────────────────────────────────────────────
 

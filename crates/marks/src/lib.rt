@@ -45,5 +45,5 @@ pub fn search(word: &[u8], text: &[u8], tables: &mut [u16], finds: &mut [u32]) -
         return TallyAnswer::Refused(Refusal::Numbered(answers::SHORT_ROOM));
     }
     table::fill_mirror(word, &mut tables[..need]);
-    TallyAnswer::Done(search::scan(word, &tables[..need], text, finds))
+    TallyAnswer::Done(search::scan(word, &mut tables[..need], text, finds))
 }

@@ -2,8 +2,9 @@
 // entries.
 ghost use mathlib.Core.Path.{_≡_};
 ghost use Prim.Native.Nat.{_+_, _<_, _≤_};
-ghost use lib.ListN.{length};
+ghost use lib.ListN.{length, replicate};
 ghost use Rattle.table.specs.Formed.{Formed};
+ghost use Rattle.table.specs.Spare.{Spare};
 ghost use Rattle.table.specs.Table.{readArrow};
 ghost use Rattle.backward.specs.Steps.{readDown, afterFind, steps};
 ghost use Rattle.search.specs.Answers.{readingOf, tallyOf};
@@ -39,16 +40,20 @@ fn read_window(table: &[u16], m: usize, text: &[u8], s: words::Place) -> WindowR
     }
 }
 
-// How far the window moves after a find.
-fn step_after_find(word: &[u8]) -> usize
-    ensures { λ r. ⌜ r ≡ afterFind (now (word .entry)) ⌝ }
+// How far the window moves after a find. The row, as long as the word, is scratch and zero afterwards.
+pub fn step_after_find(word: &[u8], row: &mut [u16]) -> usize
+    requires { ⌜ (1 ≤ length (now word)) × (length (now word) < 65536) × (length (now row) ≡ length (now word)) ⌝ }
+    ensures { λ r. ⌜ (r ≡ afterFind (now (word .entry))) × (now (row .exit) ≡ replicate (length (now (word .entry))) 0) ⌝ }
 {
-    1
+    border::fill(word, row);
+    let longest = row[word.len() - 1] as usize;
+    table::clear(row);
+    word.len() - longest
 }
 
 // Moves the window over the text, with the arrows of the table.
-pub fn scan(word: &[u8], table: &[u16], text: &[u8], finds: &mut [u32]) -> finds::Tally
-    requires { ⌜ (1 ≤ length (now word)) × (length (now text) < 4294967295) ⌝ }
+fn sweep(word: &[u8], step: usize, table: &[u16], text: &[u8], finds: &mut [u32]) -> finds::Tally
+    requires { ⌜ (1 ≤ length (now word)) × (length (now text) < 4294967295) × (step ≡ afterFind (now word)) ⌝ }
     requires { ⌜ Formed (now table) (length (now word)) ⌝ }
     ensures { λ r. ⌜ (r ≡ tallyOf
         (steps (readArrow (length (now (word .entry))) (now (table .entry))) (now (word .entry)) (now (text .entry))))
@@ -58,7 +63,6 @@ pub fn scan(word: &[u8], table: &[u16], text: &[u8], finds: &mut [u32]) -> finds
 {
     let m = word.len();
     let n = text.len();
-    let step = step_after_find(word);
     let mut s = words::Place(0);
     let mut count: usize = 0;
     let mut letters: u64 = 0;
@@ -78,4 +82,21 @@ pub fn scan(word: &[u8], table: &[u16], text: &[u8], finds: &mut [u32]) -> finds
         count: count,
         letters: letters,
     }
+}
+
+// The same, with the step after a find found before the windows: row 4 of the table, which is zero, is scratch and zero again afterwards.
+pub fn scan(word: &[u8], table: &mut [u16], text: &[u8], finds: &mut [u32]) -> finds::Tally
+    requires { ⌜ (1 ≤ length (now word)) × (length (now text) < 4294967295) ⌝ }
+    requires { ⌜ Formed (now table) (length (now word)) × Spare (now table) (length (now word)) ⌝ }
+    ensures { λ r. ⌜ (r ≡ tallyOf
+        (steps (readArrow (length (now (word .entry))) (now (table .entry))) (now (word .entry)) (now (text .entry))))
+        × (now (finds .exit) ≡ filled
+        (steps (readArrow (length (now (word .entry))) (now (table .entry))) (now (word .entry)) (now (text .entry)) .starts)
+        (now (finds .entry)))
+        × (now (table .exit) ≡ now (table .entry)) ⌝ }
+{
+    let m = word.len();
+    let from = 4 * (m + 1);
+    let step = step_after_find(word, &mut table[from..from + m]);
+    sweep(word, step, table, text, finds)
 }

@@ -3,6 +3,7 @@ pub mod ReadBack
 pub mod Theorems
 pub mod Freedom
 pub mod Formed
+pub mod Spare
 pub mod Copying
 pub mod Unchaining
 pub mod Laying

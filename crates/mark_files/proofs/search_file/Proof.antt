@@ -37,8 +37,8 @@ slice-aggregate-scan c =
     let stands = told-stands _ _ _ (at-said .before .before .before .before .before .before .load .ensures) (at-said .said2 .given .1) in
     sym (length-take-le _ _ (stands .inside))
 
-slice-reshare-prefix-scan-2 : tie.Need-slice-reshare-prefix-scan-2
-slice-reshare-prefix-scan-2 c =
+slice-relend-prefix-scan : tie.Need-slice-relend-prefix-scan
+slice-relend-prefix-scan c =
     let at-said = c .before .before in
     let stands = told-stands _ _ _ (at-said .before .before .before .before .before .before .load .ensures) (at-said .said2 .given .1) in
     search (needs, stands .enough)
@@ -67,7 +67,7 @@ returns-2 c =
 
 returns-3 : tie.Need-returns-3
 returns-3 c =
-    let at-scan = c .before .before in
+    let at-scan = c .before .before .before .before in
     let at-said2 = at-scan .before .before .before .before .before in
     let at-load = at-said2 .before .before .before .before .before .before in
     let at-if1 = at-load .before .before .before in
@@ -75,10 +75,11 @@ returns-3 c =
     let scanned = at-scan .scan .ensures in
     let loaded = at-load .load .ensures in
     scan-counts _ _ _ _ _ (omega (arith, text-limit, short)) _ loaded (at-said2 .said2 .given .1) (scanned .0) (scanned .1)
+    (scanned .2)
 
 pub search-file-spec : {M : Type 1} → statement M
 search-file-spec =
     tie.close
     (tie.spec returns (λ c κs. search needs) (λ c. search needs) (λ c. search needs) add-need mul-need slice-reshare-prefix-scan
-    slice-aggregate-scan slice-reshare-prefix-scan-2 slice-aggregate-scan-2 scan-requires (λ c. search needs) (λ c. search needs)
+    slice-aggregate-scan slice-relend-prefix-scan slice-aggregate-scan-2 scan-requires (λ c. search needs) (λ c. search needs)
     returns-2 (λ c. search needs) (λ c. search needs) (λ c. search needs) returns-3)

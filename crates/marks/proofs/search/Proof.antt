@@ -4,7 +4,7 @@ use mathlib.Core.Path.{sym, _∙_}
 use lib.Seq.{length-take-le}
 use Rattle.words.proofs.Limits.{word-limit, text-limit}
 use Rattle.marks.proofs.SearchSays.{says-empty, says-long, says-long-text, says-short, says-done}
-use Rattle.marks.proofs.SearchSays.{lent-size, lent-formed, scan-counts}
+use Rattle.marks.proofs.SearchSays.{lent-size, lent-formed, lent-spare, scan-counts}
 use native.Mathlib.Omega.{arith}
 use borrow.Author.Needs.{needs}
 use Rattle.marks.proofs.search.Statement.{statement}
@@ -54,11 +54,14 @@ scan-requires c κs =
     let at-start = at-if2 .before .before .before .before .before .before in
     let word = at-start .args .word .now in
     let few = at-if2 .if2 .left in
-    ((at-if2 .before .if1 .left, omega (arith, at-if3 .if3 .left)), lent-formed word _ (at-fill .fill-mirror .ensures) (omega (arith, few)))
+    let filled = at-fill .fill-mirror .ensures in (
+      (at-if2 .before .if1 .left, omega (arith, at-if3 .if3 .left)),
+      (lent-formed word _ filled (omega (arith, few)), lent-spare word _ filled),
+    )
 
 returns-5 : tie.Need-returns-5
 returns-5 c =
-    let at-scan = c .before .before in
+    let at-scan = c .before .before .before .before in
     let scanned = at-scan .scan .ensures in
     let at-fill = at-scan .before .before .before .before .before in
     let at-if4 = at-fill .before .before in
@@ -67,7 +70,7 @@ returns-5 c =
     let least = at-if2 .before .if1 .left in
     let most = at-if2 .if2 .left in
     let short = at-if3 .if3 .left in
-    scan-counts _ _ (at-fill .fill-mirror .ensures) _ _ _ (scanned .0) (scanned .1)
+    scan-counts _ _ (at-fill .fill-mirror .ensures) _ _ (scanned .0) (scanned .1) (scanned .2)
     ∙ sym (says-done _ _ _ _ least (omega (arith, word-limit, most)) (omega (arith, text-limit, short)) (at-if4 .if4 .left))
 
 pub search-spec : {M : Type 1} → statement M
