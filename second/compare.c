@@ -314,17 +314,32 @@ static void make_word(uint8_t *out, size_t len, enum kind kind)
         out[below(len)] = palette[below(256)];
 }
 
-/* a text for a word: by itself, or with the word in it, whole, overlapping, or all but a letter */
+/* the word over and over, each overlapping the one before by the same border */
+static void overlap(uint8_t *out, size_t len, const uint8_t *word, size_t m)
+{
+    size_t border = below(m);
+    while (memcmp(word, word + m - border, border) != 0)
+        border--;
+    for (size_t i = 0; i < len; i++)
+        out[i] = i < m ? word[i] : out[i - (m - border)];
+}
+
+/* a text for a word: by itself, or with the word in it, whole, overlapping, or all but a letter, or overlapping by a border throughout */
 static void make_text(uint8_t *out, size_t len, const uint8_t *word, size_t m, unsigned kind)
 {
+    unsigned how = kind / KINDS % 4;
     make_word(out, len, (enum kind)(kind % KINDS));
     if (kind % 7 == 3 && m > 0)
         memset(out, word[m - 1], len);
-    if (kind / KINDS % 3 == 0 || m == 0 || m > len)
+    if (how == 0 || m == 0 || m > len)
         return;
+    if (how == 3) {
+        overlap(out, len, word, m);
+        return;
+    }
     for (size_t turns = 1 + below(2 + len / m), at = below(len - m + 1); turns > 0; turns--) {
         memcpy(out + at, word, m);
-        if (kind / KINDS % 3 == 2 && below(3) == 0)
+        if (how == 2 && below(3) == 0)
             out[at + below(m)] = palette[below(256)];
         size_t step = 1 + below(below(2) ? m : 2 * m);
         at = below(8) == 0 ? len - m : at + step <= len - m ? at + step : below(len - m + 1);
@@ -455,12 +470,22 @@ static void example_refused(const char *hex, uint32_t number)
     expect(run_plain(LOAD, file, from_hex(hex, file), MOST_LETTERS).number == number, hex);
 }
 
-static void example_search(const char *word, const char *text, uint64_t count, const uint32_t *places, uint64_t letters)
+static void expect_finds(struct outcome o, const char *word, uint64_t count, const uint32_t *places, uint64_t letters)
 {
-    size_t m = strlen(word), n = strlen(text);
-    struct outcome o = run_search(SEARCH, (const uint8_t *)word, m, m, (const uint8_t *)text, n, count);
     expect(o.number == 0 && o.answer[0] == count && o.answer[1] == letters, word);
     expect(memcmp(zones[FINDS].marks + zones[FINDS].at, places, count * sizeof *places) == 0, word);
+}
+
+/* by the word, and by the file of its mirror */
+static void example_search(const char *word, const char *text, uint64_t count, const uint32_t *places, uint64_t letters)
+{
+    uint8_t mirrored[MOST_LETTERS], file[MOST_FILE];
+    const uint8_t *w = (const uint8_t *)word, *t = (const uint8_t *)text;
+    size_t m = strlen(word), n = strlen(text);
+    mirror(w, m, mirrored);
+    size_t size = file_of(mirrored, m, file);
+    expect_finds(run_search(SEARCH, w, m, m, t, n, count), word, count, places, letters);
+    expect_finds(run_search(SEARCH_FILE, file, size, m, t, n, count), word, count, places, letters);
 }
 
 /* pairs: source and target of each extra arrow in the file's order */
@@ -560,7 +585,8 @@ static void examples(void)
     example_arrows("abcacdace", other, 8, NULL);
     example_search("aa", "aaaa", 3, (const uint32_t[]){0, 1, 2}, 6);
     example_search("ab", "aab", 1, (const uint32_t[]){1}, 4);
-    example_search("aba", "ababa", 2, (const uint32_t[]){0, 2}, 9);
+    example_search("aba", "ababa", 2, (const uint32_t[]){0, 2}, 6);
+    example_search("ab", "abxa", 1, (const uint32_t[]){0}, 4);
     example_search("abc", "xxxxxx", 0, (const uint32_t[]){0}, 2);
     example_search("abc", "ab", 0, (const uint32_t[]){0}, 0);
     examples_of_loading();
@@ -593,6 +619,71 @@ static void short_words(void)
                 word[i] = (uint8_t)('a' + rest % 3);
             short_word(word, m);
         }
+}
+
+/* ---- every word up to 6 letters over 2, in every text up to 10 ---- */
+
+/* a number's binary digits as letters */
+static void spell_digits(size_t number, size_t len, uint8_t *out)
+{
+    for (size_t i = 0; i < len; i++)
+        out[i] = (uint8_t)('a' + (number >> i) % 2);
+}
+
+static void every_text(const uint8_t *word, size_t m)
+{
+    uint8_t mirrored[6], file[MOST_FILE], text[10];
+    mirror(word, m, mirrored);
+    size_t size = file_of(mirrored, m, file);
+    for (size_t n = 0; n <= sizeof text; n++)
+        for (size_t number = 0; number < (size_t)1 << n; number++) {
+            spell_digits(number, n, text);
+            run_search(SEARCH, word, m, m, text, n, n);
+            run_search(SEARCH_FILE, file, size, m, text, n, n);
+        }
+}
+
+static void short_texts(void)
+{
+    uint8_t word[6];
+    for (size_t m = 1; m <= sizeof word; m++)
+        for (size_t number = 0; number < (size_t)1 << m; number++) {
+            spell_digits(number, m, word);
+            every_text(word, m);
+        }
+}
+
+/* ---- words in texts of the same period, where each find overlaps the one before by a border ---- */
+
+/* A word of m letters in a text of the same period, and there again with a letter of the text changed. Where the period's first letter
+   does not stand in it again, the word begins with it, and its longest border has m - period letters. */
+static void same_period(size_t m, size_t period, bool first_again)
+{
+    static uint8_t word[MOST_LETTERS], text[4 * MOST_LETTERS];
+    size_t n = m + 2 * period + below(period);
+    for (size_t i = 0; i < n; i++)
+        text[i] = i >= period ? text[i - period] : i == 0 && !first_again ? 'c' : (uint8_t)('a' + below(2));
+    memcpy(word, text + (first_again ? below(period) : 0), m);
+    both_searches(word, m, text, n);
+    text[below(n)] = (uint8_t)('a' + below(3));
+    both_searches(word, m, text, n);
+}
+
+static void same_periods(void)
+{
+    static const size_t lengths[] = {128, 257, LONG_EDGES};
+    for (size_t m = 1; m <= 64; m++)
+        for (size_t period = 1; period <= m; period++) {
+            same_period(m, period, false);
+            same_period(m, period, true);
+        }
+    for (size_t l = 0; l < sizeof lengths / sizeof *lengths; l++) {
+        size_t m = lengths[l], periods[] = {1, 2, 3, 1 + below(64), 1 + below(m), m / 2, m / 2 + 1, m - 1, m};
+        for (size_t p = 0; p < sizeof periods / sizeof *periods; p++) {
+            same_period(m, periods[p], false);
+            same_period(m, periods[p], true);
+        }
+    }
 }
 
 /* ---- longer words, of each kind over 2, 4 and 256 letters ---- */
@@ -1229,6 +1320,8 @@ static void all_parts(bool costly)
     if (SLIP == 31)
         return;
     part("every word of 1 to 8 letters over 3: build, save, load back, search", short_words);
+    part("every word of 1 to 6 letters over 2 in every text of up to 10", short_texts);
+    part("words of 1 to 64 letters, of every period, and longer ones, in texts of the same period", same_periods);
     part("null pointers with length 0", null_pointers);
     part("rooms too short, exact and too long; words empty and too long", rooms);
     part("damaged files", damaged_files);

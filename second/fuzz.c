@@ -354,6 +354,20 @@ static void seed_long(const uint8_t *word, size_t m)
     seed_change(word, m, 3, size - 2, 0);
 }
 
+/* a word whose longest border has m - period letters, in a text where it stands four times, each overlapping the one before by that
+   border; by itself and by the file of its mirror */
+static void seed_periodic(size_t m, size_t period)
+{
+    uint8_t text[4 * MOST_LETTERS], mirrored[MOST_LETTERS], file[MOST_FILE];
+    size_t n = m + 3 * period;
+    for (size_t i = 0; i < n; i++)
+        text[i] = i % period + 1 < period ? 'a' : 'b';
+    for (size_t i = 0; i < m; i++)
+        mirrored[i] = text[m - 1 - i];
+    seed(SEARCH, 0, text, m, text, n);
+    seed(SEARCH_FILE, 1, file, file_of(mirrored, m, file), text, n);
+}
+
 static void seed_hex(const char *hex)
 {
     uint8_t file[64];
@@ -418,6 +432,8 @@ static void write_seeds(void)
                                         "0102616200",
                                         "01026162010000"};
     static const size_t lengths[] = {16, 64, 127, 128, 129, 300, 1024, 1025, MOST_LETTERS - 1, MOST_LETTERS, MOST_LETTERS + 1};
+    static const size_t periodic[][2] = {{1, 1}, {3, 1}, {3, 2}, {4, 4}, {7, 3}, {8, 5}, {64, 8}, {256, 64}, {MOST_LETTERS, 2},
+                                         {MOST_LETTERS, MOST_LETTERS / 2}};
     uint8_t word[MOST_LETTERS + 1];
     uint32_t state = 1;
     for (size_t i = 0; i < sizeof words / sizeof *words; i++)
@@ -425,6 +441,8 @@ static void write_seeds(void)
     for (size_t i = 0; i < sizeof files / sizeof *files; i++)
         seed_hex(files[i]);
     seed_spellings((const uint8_t *)"abbbaab", 7);
+    for (size_t i = 0; i < sizeof periodic / sizeof *periodic; i++)
+        seed_periodic(periodic[i][0], periodic[i][1]);
     for (size_t l = 0; l < sizeof lengths / sizeof *lengths; l++)
         for (unsigned kind = 0; kind < (lengths[l] <= 300 || lengths[l] == MOST_LETTERS ? 4 : 1); kind++) {
             for (size_t i = 0; i < lengths[l]; i++) {

@@ -1,6 +1,6 @@
 /* The second implementation: what an oracle is by the suffix rule, a supply by 001's definition, an occurrence by comparing bytes at
-   each place, the letters read by going through the published steps. Nothing here is clever, so that it can be held against the scope
-   document line by line.
+   each place, a border by comparing the word's beginning with its end, the letters read by going through the published steps. Nothing
+   here is clever, so that it can be held against the scope document line by line.
 
    Compiled with -DSLIP=n it has one mistake on purpose, to show that the comparison finds it (tools/second-opinion --slips). The mistakes:
      slip 1: the letters of a file are asked for after the rooms (5 and 3 exchanged)
@@ -33,7 +33,13 @@
      slip 28: searching with a file looks for the file's word and not for its mirror
      slip 29: a short text is answered before the tables are filled
      slip 30: one arrow of the table is lost when it ends in the last state
-   slip 31 and slip 32 stand in compare.c. */
+     slip 35: the window moves one place after a find
+     slip 36: the window moves by m after a find
+     slip 37: the window moves by the longest border after a find, one place where that is empty
+     slip 38: the border is of the word without its last letter
+     slip 39: the shortest border that is not empty is taken for the longest
+     slip 40: a border is at most half of the word
+   slip 31 and slip 32 stand in compare.c, slip 33 and slip 34 in fuzz.c. */
 #include "second.h"
 
 #include <stdbool.h>
@@ -273,11 +279,43 @@ static uint32_t read_arrows(const uint8_t *file, size_t file_len, size_t at, siz
 
 /* ---- the search ---- */
 
-/* the letters that the published steps read, with the oracle at hand, which is of the mirror of a word of m letters */
-static uint64_t letters_read(const uint8_t *text, size_t n, size_t m)
+/* whether the first k letters of a word are its last k */
+static bool is_border(const uint8_t *word, size_t m, size_t k)
+{
+    return memcmp(word, word + m - k, k) == 0;
+}
+
+/* the longest k below m that is a border; the empty one always is */
+static size_t longest_border(const uint8_t *word, size_t m)
+{
+    size_t k = SLIP == 40 ? m / 2 : m - 1;
+#if SLIP == 39
+    for (size_t least = 1; least < m; least++)
+        if (is_border(word, m, least))
+            return least;
+#endif
+    while (!is_border(word, m, k))
+        k--;
+    return k;
+}
+
+static size_t step_after_find(const uint8_t *word, size_t m)
+{
+    size_t border = SLIP == 38 && m > 1 ? longest_border(word, m - 1) : longest_border(word, m);
+    if (SLIP == 35)
+        return 1;
+    if (SLIP == 36)
+        return m;
+    if (SLIP == 37)
+        return border > 0 ? border : 1;
+    return m - border;
+}
+
+/* the letters that the published steps read, with the oracle at hand, which is of the mirror of the word */
+static uint64_t letters_read(const uint8_t *word, size_t m, const uint8_t *text, size_t n)
 {
     uint64_t letters = 0;
-    size_t s = 0;
+    size_t s = 0, after_find = step_after_find(word, m);
     while (s + m <= n) {
         unsigned state = 0;
         size_t unread = m; /* the letter to read next stands at s + unread - 1 */
@@ -293,7 +331,7 @@ static uint64_t letters_read(const uint8_t *text, size_t n, size_t m)
         if (unread > 0)
             s = s + unread + (SLIP == 7 ? 1 : 0); /* f is s + unread - 1 */
         else
-            s = s + 1;
+            s = s + after_find;
     }
     return letters;
 }
@@ -411,7 +449,7 @@ uint32_t second_search(const uint8_t *word, size_t word_len, const uint8_t *text
     if (SLIP != 17 && !(SLIP == 29 && text_len < word_len))
         write_tables(mirrored, word_len, tables);
     *count = list_occurrences(word, word_len, text, text_len, finds, finds_len);
-    *letters = letters_read(text, text_len, word_len);
+    *letters = letters_read(word, word_len, text, text_len);
     return 0;
 }
 
@@ -427,6 +465,6 @@ uint32_t second_search_file(const uint8_t *file, size_t file_len, const uint8_t 
         return no;
     mirror(room, m, sought); /* the oracle at hand is of the file's word, so of the mirror of what is sought */
     *count = list_occurrences(SLIP == 28 ? room : sought, m, text, text_len, finds, finds_len);
-    *letters = letters_read(text, text_len, m);
+    *letters = letters_read(sought, m, text, text_len);
     return 0;
 }

@@ -10,9 +10,9 @@ fn a_text_at_the_limit_is_searched_to_its_last_letter() {
     let (mut tables, mut finds) = ([7u16; table_room(2) + 1], [9u32; 3]);
     let tally = search(b"xy", &text, &mut tables, &mut finds).unwrap();
     assert_eq!(tally.count, 2);
-    // The windows start at 0, then at 1, 3, 5 .. as an `a` fails each time at once, but for the last of these, which ends in the `x`, then at the last find.
-    let windows_between = (LONGEST_TEXT as u64 - 4) / 2 + 1;
-    assert_eq!(tally.letters, 2 + (windows_between + 1) + 2);
+    // The windows start at 0, then at 2, 4, 6 .. as an `a` fails each time at once, then at the last find.
+    let windows_between = (LONGEST_TEXT as u64 - 4) / 2;
+    assert_eq!(tally.letters, 2 + windows_between + 2);
     assert_eq!(finds, [0, LONGEST_TEXT as u32 - 2, 9]);
     assert_eq!(tables[18], 7);
 }

@@ -4,7 +4,7 @@
 mod plain;
 mod rivals;
 
-use marks::entries::{build, load, save, search};
+use marks::entries::{build, load, save, search, Tally};
 use marks::{table_room, LONGEST_FILE, LONGEST_WORD};
 use plain::Plain;
 use rivals::{memchr_count, memmem_count};
@@ -144,8 +144,8 @@ fn ms(seconds: Option<f64>) -> String {
     seconds.map_or("-".into(), |s| format!("{:.1}", s * 1e3))
 }
 
-/// Seconds of our search, of plain Rust, of memmem and of memchr, once all four have said the same.
-fn race(word: &[u8], text: &[u8]) -> ([Option<f64>; 4], u64) {
+/// Seconds of our search, of plain Rust, of memmem and of memchr, once all four have said the same; and what our search said.
+fn race(word: &[u8], text: &[u8]) -> ([Option<f64>; 4], Tally) {
     let (mut tables, mut finds) = (vec![0u16; table_room(word.len())], vec![0u32; 1024]);
     let said = search(word, text, &mut tables, &mut finds).expect("within the limits");
     assert_eq!(Plain::new(word).count(text), (said.count, said.letters));
@@ -166,16 +166,24 @@ fn race(word: &[u8], text: &[u8]) -> ([Option<f64>; 4], u64) {
             std::hint::black_box(memchr_count(word, text));
         })
     });
-    ([Some(ours), Some(plain), Some(library), crates], said.letters)
+    ([Some(ours), Some(plain), Some(library), crates], said)
 }
 
 const RACE: &str = "search, ms | plain Rust | memmem | memchr | search / plain |";
 
+fn ratio(times: &[Option<f64>; 4]) -> f64 {
+    times[0].zip(times[1]).map_or(0.0, |(ours, plain)| ours / plain)
+}
+
+/// Letters read for each letter of text.
+fn per_letter(letters: u64, text: &[u8]) -> f64 {
+    letters as f64 / text.len() as f64
+}
+
 fn race_line(start: String, word: &[u8], text: &[u8]) {
-    let (times, letters) = race(word, text);
-    let ratio = times[0].zip(times[1]).map_or(0.0, |(ours, plain)| ours / plain);
-    let per_letter = letters as f64 / text.len() as f64;
-    println!("{start} {} | {} | {} | {} | {ratio:.2} | {per_letter:.4} |", ms(times[0]), ms(times[1]), ms(times[2]), ms(times[3]));
+    let (times, said) = race(word, text);
+    let [ours, plain, memmem, memchr] = times.map(ms);
+    println!("{start} {ours} | {plain} | {memmem} | {memchr} | {:.2} | {:.4} |", ratio(&times), per_letter(said.letters, text));
 }
 
 fn search_times() {
@@ -197,7 +205,7 @@ fn letters_read() {
         for m in [4, 8, 16, 32, 64, 128, 256, 512, 1024, 2048, LONGEST_WORD] {
             let word = Random(2463534242 + m as u64).bytes(m, letters);
             let said = search(&word, &text, &mut vec![0; table_room(m)], &mut []).expect("within the limits");
-            let measured = said.letters as f64 / text.len() as f64;
+            let measured = per_letter(said.letters, &text);
             let conjectured = (m as f64).ln() / (letters as f64).ln() / m as f64;
             println!("| {letters} | {m} | {measured:.4} | {conjectured:.4} | {:.2} |", measured / conjectured);
         }
@@ -218,10 +226,44 @@ fn hostile_times() {
     println!("<!-- end hostile -->");
 }
 
+/// So many random letters that are not a shorter word over and over.
+fn primitive(random: &mut Random, n: usize) -> Vec<u8> {
+    loop {
+        let word = random.bytes(n, 256);
+        if (1..n).all(|turn| [&word[turn..], &word[..turn]].concat() != word) {
+            return word;
+        }
+    }
+}
+
+const PERIODIC: &str = "| Period | finds | letters read, steps of 01 | letters read \
+    | search, ms | plain Rust, steps of 01 | plain Rust | memmem | memchr | search / plain |";
+
+/// Words that stand often: word and text have one period. By the steps of 01 the window moves one place after a find.
+fn periodic_times() {
+    println!("<!-- begin periodic -->\n{PERIODIC}\n|{}", "---|".repeat(10));
+    let mut random = Random(777767777);
+    for period in [2, 8, 64] {
+        let text: Vec<u8> = primitive(&mut random, period).into_iter().cycle().take(1 << 20).collect();
+        let word = &text[..256];
+        let (times, said) = race(word, &text);
+        let (count, letters) = Plain::moving(word, 1).count(&text);
+        assert_eq!(count, said.count);
+        let steps_of_01 = best(|| {
+            std::hint::black_box(Plain::moving(word, 1).count(&text));
+        });
+        print!("| {period} | {count} | {:.4} | {:.4} |", per_letter(letters, &text), per_letter(said.letters, &text));
+        let [ours, plain, memmem, memchr] = times.map(ms);
+        println!(" {ours} | {} | {plain} | {memmem} | {memchr} | {:.2} |", ms(Some(steps_of_01)), ratio(&times));
+    }
+    println!("<!-- end periodic -->");
+}
+
 fn main() {
     build_times();
     load_times();
     search_times();
     letters_read();
     hostile_times();
+    periodic_times();
 }

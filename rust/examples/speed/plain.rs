@@ -3,10 +3,18 @@
 pub struct Plain {
     table: Vec<[u16; 256]>,
     m: usize,
+    /// How many places the window moves after a find.
+    after_find: usize,
 }
 
 impl Plain {
+    /// The search whose window moves by m less the word's longest border after a find.
     pub fn new(word: &[u8]) -> Self {
+        Self::moving(word, word.len() - longest_border(word))
+    }
+
+    /// The search whose window moves so many places after a find.
+    pub fn moving(word: &[u8], after_find: usize) -> Self {
         let m = word.len();
         let mut table = vec![[0u16; 256]; m + 1];
         let mut supply = vec![usize::MAX; m + 1];
@@ -20,7 +28,7 @@ impl Plain {
             }
             supply[t + 1] = if k == usize::MAX { 0 } else { table[k][c] as usize };
         }
-        Plain { table, m }
+        Plain { table, m, after_find }
     }
 
     /// How often the word stands in the text, and the letters read.
@@ -35,7 +43,7 @@ impl Plain {
                 if left == 0 {
                     count += 1;
                     letters += m as u64;
-                    break s + 1;
+                    break s + self.after_find;
                 }
                 left -= 1;
                 state = self.table[state][window[left] as usize] as usize;
@@ -48,4 +56,17 @@ impl Plain {
         }
         (count, letters)
     }
+}
+
+/// The length of the longest word, shorter than this one, that it begins and ends with.
+fn longest_border(word: &[u8]) -> usize {
+    let mut borders = vec![0; word.len()];
+    for i in 1..word.len() {
+        let mut k = borders[i - 1];
+        while k > 0 && word[k] != word[i] {
+            k = borders[k - 1];
+        }
+        borders[i] = if word[k] == word[i] { k + 1 } else { 0 };
+    }
+    borders[word.len() - 1]
 }
