@@ -3,6 +3,12 @@
 ghost use mathlib.Core.Path.{_≡_};
 ghost use Prim.Native.Nat.{_+_, _*_, _<_, _≤_};
 ghost use lib.ListN.{length, replicate};
+ghost use Rattle.table.specs.Table.{readArrow};
+ghost use Rattle.table.specs.Formed.{Formed};
+ghost use Rattle.table.specs.Spare.{Spare};
+ghost use Rattle.backward.specs.Steps.{steps};
+ghost use Rattle.finds.specs.Finds.{filled};
+ghost use Rattle.search.specs.Answers.{tallyOf};
 ghost use Rattle.mark_files.specs.Save.{savedAs, saveSays};
 ghost use Rattle.mark_files.specs.Load.{loadedAs, judgedAt, loadSays};
 ghost use Rattle.mark_files.specs.SearchFile.{fileSearched, searchFileSays};
@@ -90,6 +96,23 @@ pub fn load(file: &[u8], room: &mut [u8], tables: &mut [u16]) -> SizeAnswer
     }
 }
 
+// Moves the window over the text, with the arrows of the word's own table; the table is left as it was.
+fn scan_loaded(word: &[u8], table: &mut [u16], text: &[u8], finds: &mut [u32]) -> finds::Tally
+    requires { ⌜ (1 ≤ length (now word)) × (length (now text) < 4294967295) ⌝ }
+    requires { ⌜ Formed (now table) (length (now word)) × Spare (now table) (length (now word)) ⌝ }
+    ensures { λ r. ⌜ (r ≡ tallyOf
+        (steps (readArrow (length (now (word .entry))) (now (table .entry))) (now (word .entry)) (now (text .entry))))
+        × (now (finds .exit) ≡ filled
+        (steps (readArrow (length (now (word .entry))) (now (table .entry))) (now (word .entry)) (now (text .entry)) .starts)
+        (now (finds .entry)))
+        × (now (table .exit) ≡ now (table .entry)) ⌝ }
+{
+    let m = word.len();
+    let spare = 4 * (m + 1);
+    let step = search::step_after_find(word, &mut table[spare..spare + m]);
+    search::scan(word, step, table, text, finds)
+}
+
 // Every place where the mirror of the file's word stands in the text.
 pub fn search_file(
     file: &[u8],
@@ -109,7 +132,7 @@ pub fn search_file(
         SizeAnswer::Refused(why) => TallyAnswer::Refused(why),
         SizeAnswer::Done(m) => {
             let need = 6 * (m + 1);
-            TallyAnswer::Done(search::scan(&room[..m], &mut tables[..need], text, finds))
+            TallyAnswer::Done(scan_loaded(&room[..m], &mut tables[..need], text, finds))
         }
     }
 }

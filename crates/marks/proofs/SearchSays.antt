@@ -7,7 +7,7 @@ use mathlib.Core.List.{List, _++_, List·Memᴰ}
 use Prim.Native.Nat.{ℕ, _+_, _*_, _-_, _≤_, _<_}
 use native.Mathlib.Decide.{decLt}
 use native.Mathlib.Omega.{arith}
-use lib.ListN.{length, take, drop, length-reverse, take-append-drop}
+use lib.ListN.{length, take, drop, replicate, length-append, length-reverse}
 use lib.Seq.{take-at, drop-at}
 use borrow.Author.Tests.{lt-ltb, le-ltb}
 use Rattle.words.specs.Words.{Word, Place, mirror, stands, occurrences}
@@ -22,7 +22,7 @@ use Rattle.table.specs.Formed.{Formed}
 use Rattle.table.specs.Spare.{Spare}
 use Rattle.table.proofs.Theorems.{table-size, table-arrow}
 use Rattle.table.proofs.Formed.{table-formed}
-use Rattle.table.proofs.Spare.{table-spare}
+use Rattle.table.proofs.Spare.{table-spare, spare-more, with-row, spare-kept}
 use Rattle.finds.specs.declared.Tally.{Tally}
 use Rattle.search.specs.Answers.{tallyOf}
 use Rattle.finds.specs.Finds.{filled}
@@ -152,42 +152,43 @@ table-steps word text =
     steps-same (readArrow (length word) (tableOf (mirror word))) (oracle (mirror word)) word text
     (λ x c. rw (length-reverse word) at (table-arrow (mirror word) x c))
 
--- the part of the room that the scan is lent, P being what was filled and R what stands behind it
-module _ (word : Word) {P : List ℕ} (R : List ℕ) (filled-in : P ≡ tableOf (mirror word)) where
+-- the room that was filled with P, R being what stands behind it, once the step after a find has left its row r there
+module _ (word : Word) {P : List ℕ} (R : List ℕ) (filled-in : P ≡ tableOf (mirror word)) {r : List ℕ}
+    (zeros : r ≡ replicate (length word) 0) where
+  abbrev size : ℕ
+  size = length word
+
+  abbrev left : List ℕ
+  left = with-row size (P ++ R) r
+
+  -- the part that the scan is lent
   abbrev lent : List ℕ
-  lent = take (room (length word)) (P ++ R)
+  lent = take (room size) left
+
+  sized : length P ≡ room size
+  sized = ap length filled-in ∙ mirror-size word
+
+  filled-room : take (room size) (P ++ R) ≡ tableOf (mirror word)
+  filled-room = take-at P R (room size) sized ∙ filled-in
+
+  -- the row is zero again, as it was
+  left-is : left ≡ P ++ R
+  left-is =
+      let spare : Spare (take (room size) (P ++ R)) size = rw (filled-room, ← length-reverse word) (table-spare (mirror word)) in
+      spare-kept (spare-more spare) (omega (arith, length-append P R, sized)) zeros
 
   lent-table : lent ≡ tableOf (mirror word)
-  lent-table = take-at P R (room (length word)) (ap length filled-in ∙ mirror-size word) ∙ filled-in
+  lent-table = ap (take (room size)) left-is ∙ filled-room
 
-  pub lent-size : room (length word) ≡ length lent
-  lent-size = sym (ap length lent-table ∙ mirror-size word)
-
-  pub lent-formed : length word < 65535 → Formed lent (length word)
+  pub lent-formed : size < 65535 → Formed lent size
   lent-formed h = rw (lent-table, ← length-reverse word) (table-formed (mirror word) (rw (length-reverse word) h))
 
-  -- its spare rows are zero
-  pub lent-spare : Spare lent (length word)
-  lent-spare = rw (lent-table, ← length-reverse word) (table-spare (mirror word))
-
-  -- the scan leaves Q there
-  pub scan-counts : (text : Word) (F : List Place) {t : Tally} {F′ : List Place} {Q : List ℕ}
-      → t ≡ tallyOf (steps (readArrow (length word) lent) word text)
-      → F′ ≡ filled (steps (readArrow (length word) lent) word text .starts) F
-      → Q ≡ lent
-      → outcome (done t) (Q ++ drop (room (length word)) (P ++ R)) F′
-      ≡ outcome (done (found word text)) (tableOf (mirror word) ++ R) (filled (occurrences word text) F)
-  scan-counts text F t f q =
-      rw (
-        t,
-        f,
-        q,
-        take-append-drop (room (length word)) (P ++ R),
-        lent-table,
-        filled-in,
-        table-steps word text,
-        search-lists-occurrences word text,
-      )
+  pub scan-counts : (text : Word) (F : List Place) {t : Tally} {F′ : List Place}
+      → t ≡ tallyOf (steps (readArrow size lent) word text)
+      → F′ ≡ filled (steps (readArrow size lent) word text .starts) F
+      → outcome (done t) left F′ ≡ outcome (done (found word text)) (tableOf (mirror word) ++ R) (filled (occurrences word text) F)
+  scan-counts text F t f =
+      rw (t, f, lent-table, left-is, filled-in, table-steps word text, search-lists-occurrences word text)
 
 -- ── One outcome ────────────────────────────────────────────────────────────
 

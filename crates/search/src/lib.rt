@@ -4,7 +4,6 @@ ghost use mathlib.Core.Path.{_≡_};
 ghost use Prim.Native.Nat.{_+_, _<_, _≤_};
 ghost use lib.ListN.{length, replicate};
 ghost use Rattle.table.specs.Formed.{Formed};
-ghost use Rattle.table.specs.Spare.{Spare};
 ghost use Rattle.table.specs.Table.{readArrow};
 ghost use Rattle.backward.specs.Steps.{readDown, afterFind, steps};
 ghost use Rattle.search.specs.Answers.{readingOf, tallyOf};
@@ -52,7 +51,7 @@ pub fn step_after_find(word: &[u8], row: &mut [u16]) -> usize
 }
 
 // Moves the window over the text, with the arrows of the table.
-fn sweep(word: &[u8], step: usize, table: &[u16], text: &[u8], finds: &mut [u32]) -> finds::Tally
+pub fn scan(word: &[u8], step: usize, table: &[u16], text: &[u8], finds: &mut [u32]) -> finds::Tally
     requires { ⌜ (1 ≤ length (now word)) × (length (now text) < 4294967295) × (step ≡ afterFind (now word)) ⌝ }
     requires { ⌜ Formed (now table) (length (now word)) ⌝ }
     ensures { λ r. ⌜ (r ≡ tallyOf
@@ -82,21 +81,4 @@ fn sweep(word: &[u8], step: usize, table: &[u16], text: &[u8], finds: &mut [u32]
         count: count,
         letters: letters,
     }
-}
-
-// The same, with the step after a find found before the windows: row 4 of the table, which is zero, is scratch and zero again afterwards.
-pub fn scan(word: &[u8], table: &mut [u16], text: &[u8], finds: &mut [u32]) -> finds::Tally
-    requires { ⌜ (1 ≤ length (now word)) × (length (now text) < 4294967295) ⌝ }
-    requires { ⌜ Formed (now table) (length (now word)) × Spare (now table) (length (now word)) ⌝ }
-    ensures { λ r. ⌜ (r ≡ tallyOf
-        (steps (readArrow (length (now (word .entry))) (now (table .entry))) (now (word .entry)) (now (text .entry))))
-        × (now (finds .exit) ≡ filled
-        (steps (readArrow (length (now (word .entry))) (now (table .entry))) (now (word .entry)) (now (text .entry)) .starts)
-        (now (finds .entry)))
-        × (now (table .exit) ≡ now (table .entry)) ⌝ }
-{
-    let m = word.len();
-    let from = 4 * (m + 1);
-    let step = step_after_find(word, &mut table[from..from + m]);
-    sweep(word, step, table, text, finds)
 }

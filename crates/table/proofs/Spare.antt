@@ -1,11 +1,11 @@
--- SPARE ROWS: those of a word's table are zero, and zeros written over any of them leave a table as it was.
+-- SPARE ROWS: those of a word's table are zero, so a row of zeros in the place of the first leaves a table as it was.
 use mathlib.Core.Path.{_≡_, sym, ap, _∙_}
 use mathlib.Core.List.{List}
-use Prim.Native.Nat.{ℕ, _+_, _*_, _≤_, _<_}
+use Prim.Native.Nat.{ℕ, _+_, _*_, _-_, _≤_, _<_}
 use native.Mathlib.Numerals.{add-one}
 use native.Mathlib.Omega.{arith}
-use lib.ListN.{length, replicate, length-replicate}
-use lib.Seq.{ext-getD}
+use lib.ListN.{length, take, replicate, length-replicate}
+use lib.Seq.{getD-take, ext-getD}
 use borrow.Rule.Slice.PartMut.{putMid, put-same}
 use Rattle.words.specs.Lists.{at}
 use Rattle.words.specs.Words.{Word, part}
@@ -20,16 +20,25 @@ pub table-spare : (p : Word) → Spare (tableOf p) (length p)
 unfolding tableOf
 table-spare p = record { zeros = λ i h. rw (add-one (length p)) (row-4 p _ _ i (omega arith)) }
 
--- zeros over the first k entries of the spare rows change nothing
-pub spare-kept : {L : List ℕ} {m : ℕ} → Spare L m → room m ≤ length L → (k : ℕ) → k ≤ 2 * (m + 1) → {r : List ℕ} → r ≡ replicate k 0
-    → putMid (4 * (m + 1)) k L r ≡ L
-spare-kept {L} {m} S enough k few e = ap (putMid (4 * (m + 1)) k L) (e ∙ sym zeros) ∙ put-same (4 * (m + 1)) k L
-  where
-    size : length (part L (4 * (m + 1)) k) ≡ k
-    size = part-length L (4 * (m + 1)) k (omega arith)
+-- those of a room that starts with such a table
+pub spare-more : {T : List ℕ} {m : ℕ} → Spare (take (room m) T) m → Spare T m
+spare-more {T} {m} S = record { zeros = λ i h. sym (getD-take (room m) T (4 * (m + 1) + i) 0 (omega arith)) ∙ S .zeros i h }
 
-    zeros : part L (4 * (m + 1)) k ≡ replicate k 0
-    zeros = ext-getD 0 _ _ (size ∙ sym (length-replicate k 0)) (λ i l. zero i (rw size at l))
+-- the room T once r has the place of the first m entries of row 4
+abbrev pub with-row : ℕ → List ℕ → List ℕ → List ℕ
+with-row m T r = putMid (4 * (m + 1)) (4 * (m + 1) + m - 4 * (m + 1)) T r
+
+-- zeros there change nothing
+pub spare-kept : {T : List ℕ} {m : ℕ} → Spare T m → room m ≤ length T → {r : List ℕ} → r ≡ replicate m 0 → with-row m T r ≡ T
+spare-kept {T} {m} S enough e =
+    let few : 4 * (m + 1) + m - 4 * (m + 1) ≡ m = omega arith in
+    rw few (ap (putMid (4 * (m + 1)) m T) (e ∙ sym zeros) ∙ put-same (4 * (m + 1)) m T)
+  where
+    size : length (part T (4 * (m + 1)) m) ≡ m
+    size = part-length T (4 * (m + 1)) m (omega arith)
+
+    zeros : part T (4 * (m + 1)) m ≡ replicate m 0
+    zeros = ext-getD 0 _ _ (size ∙ sym (length-replicate m 0)) (λ i l. zero i (rw size at l))
       where
-        zero : (i : ℕ) → i < k → at (part L (4 * (m + 1)) k) i ≡ at (replicate k 0) i
-        zero i l = part-at L (4 * (m + 1)) k i l ∙ S .zeros i (omega arith) ∙ sym (zeros-at k i)
+        zero : (i : ℕ) → i < m → at (part T (4 * (m + 1)) m) i ≡ at (replicate m 0) i
+        zero i l = part-at T (4 * (m + 1)) m i l ∙ S .zeros i (omega arith) ∙ sym (zeros-at m i)

@@ -25,31 +25,31 @@ mul-need c =
     let stands = told-stands _ _ _ (at-said .before .before .before .before .before .before .load .ensures) (at-said .said2 .given .1) in
     record { fits = omega (arith, stands .most, words-fit) }
 
-slice-reshare-prefix-scan : tie.Need-slice-reshare-prefix-scan
+slice-reshare-prefix-scan : tie.Need-slice-reshare-prefix-scan-loaded
 slice-reshare-prefix-scan c =
     let at-said = c .before in
     let stands = told-stands _ _ _ (at-said .before .before .before .before .before .before .load .ensures) (at-said .said2 .given .1) in
     search (needs, stands .inside)
 
-slice-aggregate-scan : tie.Need-slice-aggregate-scan
+slice-aggregate-scan : tie.Need-slice-aggregate-scan-loaded
 slice-aggregate-scan c =
     let at-said = c .before .before in
     let stands = told-stands _ _ _ (at-said .before .before .before .before .before .before .load .ensures) (at-said .said2 .given .1) in
     sym (length-take-le _ _ (stands .inside))
 
-slice-relend-prefix-scan : tie.Need-slice-relend-prefix-scan
+slice-relend-prefix-scan : tie.Need-slice-relend-prefix-scan-loaded
 slice-relend-prefix-scan c =
     let at-said = c .before .before in
     let stands = told-stands _ _ _ (at-said .before .before .before .before .before .before .load .ensures) (at-said .said2 .given .1) in
     search (needs, stands .enough)
 
-slice-aggregate-scan-2 : tie.Need-slice-aggregate-scan-2
+slice-aggregate-scan-2 : tie.Need-slice-aggregate-scan-loaded-2
 slice-aggregate-scan-2 c =
     let at-said = c .before .before .before in
     let stands = told-stands _ _ _ (at-said .before .before .before .before .before .before .load .ensures) (at-said .said2 .given .1) in
     sym (length-take-le _ _ (stands .enough))
 
-scan-requires : tie.Need-scan-requires
+scan-requires : tie.Need-scan-loaded-requires
 scan-requires c κs =
     let at-said = c .before .before .before .before in
     let at-load = at-said .before .before .before .before .before .before in
@@ -72,7 +72,7 @@ returns-3 c =
     let at-load = at-said2 .before .before .before .before .before .before in
     let at-if1 = at-load .before .before .before in
     let short = at-if1 .if1 .left in
-    let scanned = at-scan .scan .ensures in
+    let scanned = at-scan .scan-loaded .ensures in
     let loaded = at-load .load .ensures in
     scan-counts _ _ _ _ _ (omega (arith, text-limit, short)) _ loaded (at-said2 .said2 .given .1) (scanned .0) (scanned .1)
     (scanned .2)

@@ -1,10 +1,11 @@
--- Each return is a case of `searchSays`: the tests on the way there are the case's premises. Behind them the room's part is lent, filled
--- with the mirrored word's table, and lent again to the scan, whose steps over it are the published ones (`scan-counts`).
+-- Each return is a case of `searchSays`: the tests on the way there are the case's premises. Behind them the room's part is lent and filled
+-- with the mirrored word's table, a spare row of it is scratch for the step after a find, and it is lent again to the scan, whose steps
+-- over it are the published ones (`scan-counts`).
 use mathlib.Core.Path.{sym, _∙_}
 use lib.Seq.{length-take-le}
 use Rattle.words.proofs.Limits.{word-limit, text-limit}
 use Rattle.marks.proofs.SearchSays.{says-empty, says-long, says-long-text, says-short, says-done}
-use Rattle.marks.proofs.SearchSays.{lent-size, lent-formed, lent-spare, scan-counts}
+use Rattle.marks.proofs.SearchSays.{lent-formed, scan-counts}
 use native.Mathlib.Omega.{arith}
 use borrow.Author.Needs.{needs}
 use Rattle.marks.proofs.search.Statement.{statement}
@@ -40,42 +41,41 @@ fill-mirror-requires c κs =
     (omega (arith, at-if4 .before .before .if2 .left), length-take-le _ _ (at-if4 .if4 .left))
 
 slice-aggregate-scan : tie.Need-slice-aggregate-scan
-slice-aggregate-scan c =
-    let at-fill = c .before .before .before in
-    let at-if1 = at-fill .before .before .before .before .before in
-    let at-start = at-if1 .before .before .before .before .before in
-    lent-size (at-start .args .word .now) _ (at-fill .fill-mirror .ensures)
+slice-aggregate-scan c = sym (length-take-le _ _ (search needs))
 
 scan-requires : tie.Need-scan-requires
 scan-requires c κs =
-    let at-fill = c .before .before .before .before in
+    let at-step = c .before .before .before .before in
+    let at-fill = at-step .before .before .before .before in
     let at-if3 = at-fill .before .before .before in
     let at-if2 = at-if3 .before in
     let at-start = at-if2 .before .before .before .before .before .before in
     let word = at-start .args .word .now in
     let few = at-if2 .if2 .left in
-    let filled = at-fill .fill-mirror .ensures in (
-      (at-if2 .before .if1 .left, omega (arith, at-if3 .if3 .left)),
-      (lent-formed word _ filled (omega (arith, few)), lent-spare word _ filled),
+    let step = at-step .step-after-find .ensures in (
+      (at-if2 .before .if1 .left, omega (arith, at-if3 .if3 .left), step .0),
+      lent-formed word _ (at-fill .fill-mirror .ensures) (step .1) (omega (arith, few)),
     )
 
 returns-5 : tie.Need-returns-5
 returns-5 c =
-    let at-scan = c .before .before .before .before in
+    let at-scan = c .before .before in
     let scanned = at-scan .scan .ensures in
-    let at-fill = at-scan .before .before .before .before .before in
+    let at-step = at-scan .before .before .before .before .before in
+    let at-fill = at-step .before .before .before .before in
     let at-if4 = at-fill .before .before in
     let at-if3 = at-if4 .before in
     let at-if2 = at-if3 .before in
     let least = at-if2 .before .if1 .left in
     let most = at-if2 .if2 .left in
     let short = at-if3 .if3 .left in
-    scan-counts _ _ (at-fill .fill-mirror .ensures) _ _ (scanned .0) (scanned .1) (scanned .2)
+    scan-counts _ _ (at-fill .fill-mirror .ensures) (at-step .step-after-find .ensures .1) _ _ (scanned .0) (scanned .1)
     ∙ sym (says-done _ _ _ _ least (omega (arith, word-limit, most)) (omega (arith, text-limit, short)) (at-if4 .if4 .left))
 
 pub search-spec : {M : Type 1} → statement M
 search-spec =
     tie.close
     (tie.spec returns returns-2 returns-3 (λ c. search needs) (λ c. search needs) returns-4 (λ c. search needs)
-    slice-aggregate-fill-mirror fill-mirror-requires (λ c. search needs) slice-aggregate-scan scan-requires (λ c. search needs)
-    (λ c. search needs) returns-5)
+    slice-aggregate-fill-mirror fill-mirror-requires (λ c. search needs) (λ c. search needs) (λ c. search needs) (λ c. search needs)
+    (λ c. search needs) (λ c. search needs) (λ c. search needs) (λ c κs. search needs) (λ c. search needs) slice-aggregate-scan
+    scan-requires (λ c. search needs) (λ c. search needs) returns-5)
