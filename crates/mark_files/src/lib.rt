@@ -96,7 +96,7 @@ pub fn load(file: &[u8], room: &mut [u8], tables: &mut [u16]) -> SizeAnswer
     }
 }
 
-// Moves the window over the text, with the arrows of the word's own table; the table is left as it was.
+// Moves the window over the text, with the arrows of the word's own table, whose row 4 is scratch before that and zero again afterwards.
 fn scan_loaded(word: &[u8], table: &mut [u16], text: &[u8], finds: &mut [u32]) -> finds::Tally
     requires { ⌜ (1 ≤ length (now word)) × (length (now text) < 4294967295) ⌝ }
     requires { ⌜ Formed (now table) (length (now word)) × Spare (now table) (length (now word)) ⌝ }

@@ -45,6 +45,7 @@ pub fn search(word: &[u8], text: &[u8], tables: &mut [u16], finds: &mut [u32]) -
         return TallyAnswer::Refused(Refusal::Numbered(answers::SHORT_ROOM));
     }
     table::fill_mirror(word, &mut tables[..need]);
+    // Row 4 of a table is zero: it is scratch here, and zero again afterwards.
     let spare = 4 * (m + 1);
     let step = search::step_after_find(word, &mut tables[spare..spare + m]);
     TallyAnswer::Done(search::scan(word, step, &tables[..need], text, finds))

@@ -25,11 +25,11 @@ fn lines(places: &[u64]) -> String {
 }
 
 #[test]
-fn a_find_across_the_border_of_each_part() {
-    let here = Folder::new("borders");
+fn a_find_across_the_seam_of_each_part() {
+    let here = Folder::new("seams");
     let word = b"123456789";
-    // at every multiple of 64 KiB up to 20 MiB, each border of parts among them: before it, over it in every way, behind it
-    let places: Vec<u64> = (1..320).map(|border| border * (MIB / 16) - border % 10).collect();
+    // at every multiple of 64 KiB up to 20 MiB, each seam of parts among them: before it, over it in every way, behind it
+    let places: Vec<u64> = (1..320).map(|seam| seam * (MIB / 16) - seam % 10).collect();
     sparse(&here, "file", 20 * MIB, word, &places);
     here.marks(&["find", "123456789", "file"]).is(0, &lines(&places));
     here.marks(&["find", "-c", "123456789", "file"]).is(0, "319\n");
