@@ -1,7 +1,7 @@
 -- THE ROW, as `fill` writes it: the first entries are there, and the next follows from the one before, as a border of one letter more is a
 -- border with the letter behind it.
 use mathlib.Core.Path.{_≡_, refl, sym, ap, _∙_}
-use mathlib.Core.List.{[], _∷_, _++_}
+use mathlib.Core.List.{List, [], _∷_, _++_}
 use Prim.Native.Nat.{ℕ, zero, suc, _+_, _-_, _≤_, _<_}
 use native.Mathlib.Decide.{ℕ-discrete}
 use native.Mathlib.Omega.{arith}
@@ -70,13 +70,13 @@ borders-last w h =
     ∙ ap longestBorder (part-whole w)
 
 -- the first k entries are there
-pub record Filling (w row : Word) (k : ℕ) : Type 0 where
+pub record Filling (w : Word) (row : List ℕ) (k : ℕ) : Type 0 where
   pub some-there : 0 < k
   pub inside : k ≤ length w
   pub size : length row ≡ length w
   pub known : Known w row k
 
-pub filling-start : {w : Word} (row : Word) → 1 ≤ length w → length row ≡ length w → Filling w (set row 0 0) 1
+pub filling-start : {w : Word} (row : List ℕ) → 1 ≤ length w → length row ≡ length w → Filling w (set row 0 0) 1
 filling-start {w} row h e = record { some-there = omega arith; inside = h; size = length-set row 0 0 ∙ e; known = record { entry = first } }
   where
     first : (j : ℕ) → j < 1 → at (set row 0 0) j ≡ longestBorder (part w 0 (suc j))
@@ -84,7 +84,7 @@ filling-start {w} row h e = record { some-there = omega arith; inside = h; size 
         let q : j ≡ 0 = omega arith in
         rw q (getD-set-same row 0 0 0 (omega arith) ∙ omega (arith, beginning-shorter w 1 h))
 
-module _ {w row : Word} {k : ℕ} (F : Filling w row k) where
+module _ {w : Word} {row : List ℕ} {k : ℕ} (F : Filling w row k) where
   last-is : at row (k - 1) ≡ longestBorder (part w 0 k)
   last-is =
       let some = F .some-there in

@@ -9,10 +9,10 @@ use native.Mathlib.Nat.{zero-add}
 use native.Mathlib.Decide.{decLt}
 use native.Mathlib.Omega.{arith}
 use lib.ListN.{length, length-append, length-reverse, List·getD-append}
-use lib.Seq.{ext-getD, getD-append-add}
+use lib.Seq.{getD-append-add}
 use Rattle.words.specs.Words.{Word, Place, letter, part, mirror, stands}
 use Rattle.words.proofs.Words.{same-true, same-refl, part-length, part-at, mirror-part}
-use Rattle.words.proofs.Occurrences.{stands-part, part-stands}
+use Rattle.words.proofs.Occurrences.{stands-letters, letters-stand}
 use Rattle.border.specs.Borders.{closes, longestBorder}
 use Rattle.border.proofs.Longest.{longest-below, longest-passes, none-longer}
 use Rattle.border.proofs.Closing.{Closing, closes-closing, closing-closes, nothing-closes}
@@ -33,16 +33,6 @@ module _ (w : Word) where
   border-longest k h e = none-longer (λ k. closes w k w) (length w) k h e
 
 -- ── Two occurrences ────────────────────────────────────────────────────────
-
--- a word stands where its letters do
-module _ (w t : Word) (s : Place) where
-  stands-letters : stands w t s ≡ true → (i : ℕ) → i < length w → letter t (s + i) ≡ letter w i
-  stands-letters e i l = sym (part-at t s (length w) i l) ∙ ap (λ (p : Word). letter p i) (stands-part w t s e)
-
-  letters-stand : s + length w ≤ length t → ((i : ℕ) → i < length w → letter t (s + i) ≡ letter w i) → stands w t s ≡ true
-  letters-stand h f =
-      let size = part-length t s (length w) h in
-      part-stands w t s (ext-getD 0 _ w size (λ i l. part-at t s (length w) i (rw size at l) ∙ f i (rw size at l)))
 
 -- two occurrences that overlap make a border of the letters that they share
 pub overlap-closes : (w t : Word) (s d : Place) → d ≤ length w → stands w t s ≡ true → stands w t (s + d) ≡ true

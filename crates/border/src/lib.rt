@@ -6,7 +6,8 @@ ghost use lib.ListN.{length};
 ghost use Rattle.words.specs.Words.{part};
 ghost use Rattle.border.specs.Borders.{borders, longestEnd, Known};
 
-// The length of the longest beginning of the word that ends with c, where the letters before c are the first `start` of the word.
+// The length of the longest beginning of the word that ends with c, where the letters before c are the first `start` of the word. The row
+// has the longest borders of the beginnings up to there.
 pub fn extend(word: &[u8], row: &[u16], start: usize, c: words::Letter) -> usize
     requires { ⌜ (start < length (now word)) × (start ≤ length (now row)) ⌝ }
     requires { ⌜ Known (now word) (now row) start ⌝ }

@@ -1,16 +1,17 @@
 -- Laws of `stands` and `occurrences`: the list of occurrences rises, and holds a place exactly where the word stands within the text. Both
 -- follow from what `only` keeps of `from`; so does what the list is from a place on.
-use mathlib.Core.Path.{_≡_, ap}
+use mathlib.Core.Path.{_≡_, sym, ap, _∙_}
 use mathlib.Core.Bool.{true, false, not-eq-not}
 use mathlib.Core.List.{List, [], _∷_, List·Memᴰ}
-use Prim.Native.Nat.{suc, _+_, _-_, _≤_, _<_}
+use Prim.Native.Nat.{ℕ, suc, _+_, _-_, _≤_, _<_}
 use native.Mathlib.Nat.{zero-add}
 use native.Mathlib.Omega.{arith}
 use lib.ListN.{length, length-take, length-drop}
+use lib.Seq.{ext-getD}
 use Rattle.words.specs.Lists.{from, only, Rising}
-use Rattle.words.specs.Words.{Word, Place, part, stands, occurrences}
+use Rattle.words.specs.Words.{Word, Place, letter, part, stands, occurrences}
 use Rattle.words.proofs.Lists.{only-yes, only-in, in-only, only-later, only-none, from-in, in-from, rising-from}
-use Rattle.words.proofs.Words.{same-true, same-refl}
+use Rattle.words.proofs.Words.{same-true, same-refl, part-length, part-at}
 
 -- ── stands ─────────────────────────────────────────────────────────────────
 
@@ -28,6 +29,15 @@ module _ (v t : Word) (s : Place) where
   stands-inside h e =
       let l : length (part t s (length v)) ≡ length v = ap length (stands-part e) in
       omega (arith, simp (length-take, length-drop) at l)
+
+  -- it stands where its letters do
+  pub stands-letters : stands v t s ≡ true → (i : ℕ) → i < length v → letter t (s + i) ≡ letter v i
+  stands-letters e i l = sym (part-at t s (length v) i l) ∙ ap (λ (p : Word). letter p i) (stands-part e)
+
+  pub letters-stand : s + length v ≤ length t → ((i : ℕ) → i < length v → letter t (s + i) ≡ letter v i) → stands v t s ≡ true
+  letters-stand h f =
+      let size = part-length t s (length v) h in
+      part-stands (ext-getD 0 _ v size (λ i l. part-at t s (length v) i (rw size at l) ∙ f i (rw size at l)))
 
 -- ── occurrences ────────────────────────────────────────────────────────────
 

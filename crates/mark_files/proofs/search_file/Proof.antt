@@ -25,32 +25,32 @@ mul-need c =
     let stands = told-stands _ _ _ (at-said .before .before .before .before .before .before .load .ensures) (at-said .said2 .given .1) in
     record { fits = omega (arith, stands .most, words-fit) }
 
-slice-reshare-prefix-scan : tie.Need-slice-reshare-prefix-scan-loaded
-slice-reshare-prefix-scan c =
+slice-reshare-prefix-scan-loaded : tie.Need-slice-reshare-prefix-scan-loaded
+slice-reshare-prefix-scan-loaded c =
     let at-said = c .before in
     let stands = told-stands _ _ _ (at-said .before .before .before .before .before .before .load .ensures) (at-said .said2 .given .1) in
     search (needs, stands .inside)
 
-slice-aggregate-scan : tie.Need-slice-aggregate-scan-loaded
-slice-aggregate-scan c =
+slice-aggregate-scan-loaded : tie.Need-slice-aggregate-scan-loaded
+slice-aggregate-scan-loaded c =
     let at-said = c .before .before in
     let stands = told-stands _ _ _ (at-said .before .before .before .before .before .before .load .ensures) (at-said .said2 .given .1) in
     sym (length-take-le _ _ (stands .inside))
 
-slice-relend-prefix-scan : tie.Need-slice-relend-prefix-scan-loaded
-slice-relend-prefix-scan c =
+slice-relend-prefix-scan-loaded : tie.Need-slice-relend-prefix-scan-loaded
+slice-relend-prefix-scan-loaded c =
     let at-said = c .before .before in
     let stands = told-stands _ _ _ (at-said .before .before .before .before .before .before .load .ensures) (at-said .said2 .given .1) in
     search (needs, stands .enough)
 
-slice-aggregate-scan-2 : tie.Need-slice-aggregate-scan-loaded-2
-slice-aggregate-scan-2 c =
+slice-aggregate-scan-loaded-2 : tie.Need-slice-aggregate-scan-loaded-2
+slice-aggregate-scan-loaded-2 c =
     let at-said = c .before .before .before in
     let stands = told-stands _ _ _ (at-said .before .before .before .before .before .before .load .ensures) (at-said .said2 .given .1) in
     sym (length-take-le _ _ (stands .enough))
 
-scan-requires : tie.Need-scan-loaded-requires
-scan-requires c κs =
+scan-loaded-requires : tie.Need-scan-loaded-requires
+scan-loaded-requires c κs =
     let at-said = c .before .before .before .before in
     let at-load = at-said .before .before .before .before .before .before in
     let at-if1 = at-load .before .before .before in
@@ -80,6 +80,7 @@ returns-3 c =
 pub search-file-spec : {M : Type 1} → statement M
 search-file-spec =
     tie.close
-    (tie.spec returns (λ c κs. search needs) (λ c. search needs) (λ c. search needs) add-need mul-need slice-reshare-prefix-scan
-    slice-aggregate-scan slice-relend-prefix-scan slice-aggregate-scan-2 scan-requires (λ c. search needs) (λ c. search needs)
-    returns-2 (λ c. search needs) (λ c. search needs) (λ c. search needs) returns-3)
+    (tie.spec returns (λ c κs. search needs) (λ c. search needs) (λ c. search needs) add-need mul-need
+    slice-reshare-prefix-scan-loaded slice-aggregate-scan-loaded slice-relend-prefix-scan-loaded slice-aggregate-scan-loaded-2
+    scan-loaded-requires (λ c. search needs) (λ c. search needs) returns-2 (λ c. search needs) (λ c. search needs) (λ c. search needs)
+    returns-3)
