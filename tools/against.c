@@ -15,7 +15,7 @@ uint32_t older_marks_search(const uint8_t *word, size_t word_len, const uint8_t 
 
 typedef uint32_t search_entry(const uint8_t *, size_t, const uint8_t *, size_t, uint16_t *, size_t, uint32_t *, size_t, uint64_t *, uint64_t *);
 
-enum { LONG_TEXT = 16 << 20, PERIODIC_TEXT = 1 << 20, LONGEST = 4096, ROUNDS = 10 };
+enum { LONG_TEXT = 16 << 20, PERIODIC_TEXT = 1 << 20, LONGEST = 4096, ROUNDS = 20 };
 
 static uint8_t text[LONG_TEXT], word[LONGEST];
 static uint16_t tables[MARKS_TABLES(LONGEST)];
@@ -69,7 +69,7 @@ static void race(const char *head, size_t m, size_t n)
     fflush(stdout);
 }
 
-/* random texts, a long one and its start, and words that stand in them */
+/* random texts, a long one, its start and none of it, and words that stand in the first two */
 static void random_texts(unsigned letters)
 {
     char head[32];
@@ -84,6 +84,10 @@ static void random_texts(unsigned letters)
     for (size_t i = 0; lengths[i] <= 64; i++) {
         memcpy(word, text + 100, lengths[i]);
         race(head, lengths[i], 1024);
+    }
+    for (size_t i = 0; i < sizeof lengths / sizeof lengths[0]; i++) {
+        memcpy(word, text + LONG_TEXT / 2, lengths[i]);
+        race(head, lengths[i], 0);
     }
 }
 
