@@ -69,52 +69,55 @@ borders-last w h =
     ∙ ap (λ (k : ℕ). longestBorder (part w 0 k)) q
     ∙ ap longestBorder (part-whole w)
 
--- the first k entries are there
-pub record Filling (w : Word) (row : List ℕ) (k : ℕ) : Type 0 where
+-- the first k entries are there, and b is the last of them
+pub record Filling (w : Word) (row : List ℕ) (b k : ℕ) : Type 0 where
   pub some-there : 0 < k
   pub inside : k ≤ length w
   pub size : length row ≡ length w
   pub known : Known w row k
+  pub last : b ≡ longestBorder (part w 0 k)
 
-pub filling-start : {w : Word} (row : List ℕ) → 1 ≤ length w → length row ≡ length w → Filling w (set row 0 0) 1
-filling-start {w} row h e = record { some-there = omega arith; inside = h; size = length-set row 0 0 ∙ e; known = record { entry = first } }
+pub filling-start : {w : Word} (row : List ℕ) → 1 ≤ length w → length row ≡ length w → Filling w (set row 0 0) 0 1
+filling-start {w} row h e = record {
+  some-there = omega arith;
+  inside = h;
+  size = length-set row 0 0 ∙ e;
+  known = record { entry = entry };
+  last = none;
+}
   where
-    first : (j : ℕ) → j < 1 → at (set row 0 0) j ≡ longestBorder (part w 0 (suc j))
-    first j l =
-        let q : j ≡ 0 = omega arith in
-        rw q (getD-set-same row 0 0 0 (omega arith) ∙ omega (arith, beginning-shorter w 1 h))
+    none : 0 ≡ longestBorder (part w 0 1)
+    none = omega (arith, beginning-shorter w 1 h)
 
-module _ {w : Word} {row : List ℕ} {k : ℕ} (F : Filling w row k) where
-  last-is : at row (k - 1) ≡ longestBorder (part w 0 k)
-  last-is =
-      let some = F .some-there in
-      let q : suc (k - 1) ≡ k = omega arith in
-      F .known .entry (k - 1) (omega arith) ∙ ap (λ (n : ℕ). longestBorder (part w 0 n)) q
+    entry : (j : ℕ) → j < 1 → at (set row 0 0) j ≡ longestBorder (part w 0 (suc j))
+    entry j l = let q : j ≡ 0 = omega arith in rw q (getD-set-same row 0 0 0 (omega arith) ∙ none)
 
-  pub last-shorter : at row (k - 1) < k
-  last-shorter = omega (arith, F .some-there, last-is, beginning-shorter w k (F .inside))
+module _ {w : Word} {row : List ℕ} {b k : ℕ} (F : Filling w row b k) where
+  pub last-shorter : b < k
+  last-shorter = omega (arith, F .some-there, F .last, beginning-shorter w k (F .inside))
 
-  pub last-known : Known w row (at row (k - 1))
+  pub last-known : Known w row b
   last-known = record { entry = λ j l. F .known .entry j (omega (arith, last-shorter)) }
 
-  module _ (more : k < length w) {b : ℕ} (found : b ≡ longestEnd w (part w 0 (at row (k - 1)) ++ (letter w k ∷ []))) where
-    next-is : b ≡ longestBorder (part w 0 (suc k))
-    next-is = found ∙ rw last-is (next-border w k (F .some-there) more)
+  module _ (more : k < length w) {c : ℕ} (found : c ≡ longestEnd w (part w 0 b ++ (letter w k ∷ []))) where
+    next-is : c ≡ longestBorder (part w 0 (suc k))
+    next-is = found ∙ rw (F .last) (next-border w k (F .some-there) more)
 
-    pub next-shorter : b ≤ k
+    pub next-shorter : c ≤ k
     next-shorter = omega (arith, next-is, beginning-shorter w (suc k) more)
 
-    pub filling-next : Filling w (set row k b) (k + 1)
+    pub filling-next : Filling w (set row k c) c (k + 1)
     filling-next = record {
       some-there = omega arith;
       inside = omega arith;
-      size = length-set row k b ∙ F .size;
+      size = length-set row k c ∙ F .size;
       known = record { entry = λ j l. by j l (ℕ-discrete j k) };
+      last = let one : suc k ≡ k + 1 = omega arith in next-is ∙ ap (λ (n : ℕ). longestBorder (part w 0 n)) one;
     }
       where
-        by : (j : ℕ) → j < k + 1 → Dec (j ≡ k) → at (set row k b) j ≡ longestBorder (part w 0 (suc j))
-        by j l (yes e) = rw e (getD-set-same row k b 0 (omega (arith, F .size)) ∙ next-is)
-        by j l (no e) = getD-set-other row k j b 0 e ∙ F .known .entry j (omega arith)
+        by : (j : ℕ) → j < k + 1 → Dec (j ≡ k) → at (set row k c) j ≡ longestBorder (part w 0 (suc j))
+        by j l (yes e) = rw e (getD-set-same row k c 0 (omega (arith, F .size)) ∙ next-is)
+        by j l (no e) = getD-set-other row k j c 0 e ∙ F .known .entry j (omega arith)
 
   pub filling-end : length w ≤ k → row ≡ borders w
   filling-end h = ext-getD 0 row (borders w) (F .size ∙ sym (borders-length w))

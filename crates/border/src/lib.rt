@@ -29,12 +29,12 @@ pub fn fill(word: &[u8], row: &mut [u16])
     ensures { λ _. ⌜ now (row .exit) ≡ borders (now (word .entry)) ⌝ }
 {
     row[0] = 0;
+    let mut border = 0;
     let mut k = 1;
     while k < word.len() {
-        let before = row[k - 1] as usize;
         let c = word[k];
-        let longer = extend(word, row, before, words::Letter(c));
-        row[k] = longer as u16;
+        border = extend(word, row, border, words::Letter(c));
+        row[k] = border as u16;
         k += 1;
     }
 }

@@ -9,51 +9,38 @@ use Rattle.border.proofs.fill.Statement.{statement}
 use Rattle.border.proofs.fill.Tie as tie
 
 abbrev Inv-loop : tie.InvT-loop
-Inv-loop word row₀ k₀ row k = Filling word row k
+Inv-loop word row₀ border₀ k₀ row border k = Filling word row border k
 
 abbrev μ-loop : tie.MeasureT-loop
-μ-loop word row₀ k₀ row k = length word - k
+μ-loop word row₀ border₀ k₀ row border k = length word - k
 
 loop-holds : tie.Need-loop-holds Inv-loop μ-loop
 loop-holds c =
     let at-start = c .before .before in
     filling-start (at-start .args .row .now) (at-start .pre .0) (at-start .pre .2)
 
-slice-read-before : tie.Need-slice-read-before Inv-loop μ-loop
-slice-read-before c =
-    let F = c .before .before .loop .inv in
-    omega (arith, F .some-there, F .inside, F .size)
-
-cast-before : tie.Need-cast-before Inv-loop μ-loop
-cast-before c = omega (arith, c .slice-known2 .given (c .before .before .loop .k - 1))
-
 extend-requires : tie.Need-extend-requires Inv-loop μ-loop
 extend-requires c κs =
-    let at-loop = c .before .before .before .before in
-    let F = at-loop .loop .inv in
+    let F = c .before .before .before .loop .inv in
     let short = last-shorter F in
     ((omega (arith, F .inside), omega (arith, F .inside, F .size)), last-known F)
 
 cast-row : tie.Need-cast-row Inv-loop μ-loop
 cast-row c =
-    let at-loop-test = c .before .before .before .before in
+    let at-loop-test = c .before .before .before in
     let at-loop = at-loop-test .before in
     let at-start = at-loop .before .before .before in
-    omega (
-      arith,
-      next-shorter (at-loop .loop .inv) (at-loop-test .loop-test .taken) (c .extend .ensures),
-      at-start .pre .1,
-      at-loop-test .loop-test .taken,
-    )
+    let next = next-shorter (at-loop .loop .inv) (at-loop-test .loop-test .taken) (c .extend .ensures) in
+    omega (arith, at-start .pre .1, at-loop-test .loop-test .taken)
 
 slice-write-row-2 : tie.Need-slice-write-row-2 Inv-loop μ-loop
 slice-write-row-2 c =
-    let at-loop-test = c .before .before .before .before in
+    let at-loop-test = c .before .before .before in
     omega (arith, at-loop-test .before .loop .inv .size, at-loop-test .loop-test .taken)
 
 loop-again : tie.Need-loop-again Inv-loop μ-loop
 loop-again c =
-    let at-loop-test = c .before .before .before .before in
+    let at-loop-test = c .before .before .before in
     filling-next (at-loop-test .before .loop .inv) (at-loop-test .loop-test .taken) (c .extend .ensures)
 
 same-length : tie.Need-same-length Inv-loop μ-loop
@@ -70,9 +57,6 @@ fill-spec = tie.close (tie.spec
     μ-loop
     (λ c. search needs)
     loop-holds
-    (λ c. search needs) (λ c. search needs)
-    slice-read-before
-    cast-before
     (λ c. search needs)
     extend-requires
     cast-row
