@@ -1,5 +1,5 @@
--- THE THEOREMS on longest borders, for every word: it is a border, shorter than the word, and none is longer; two occurrences that overlap
--- make a border, and a border a text in which two do; a word's mirror has the same.
+-- THE THEOREMS on longest borders, for every word: it is a border, none is longer, and it is shorter than the word; two occurrences that
+-- overlap make a border, and a border a text in which two do; a word's mirror has the same.
 use mathlib.Core.Path.{_≡_, sym, ap, _∙_}
 use mathlib.Core.Bool.{true}
 use mathlib.Core.List.{_++_, reverse-reverse}
@@ -20,17 +20,17 @@ use Rattle.border.proofs.Closing.{Closing, closes-closing, closing-clos
 -- ── The longest ────────────────────────────────────────────────────────────
 
 module _ (w : Word) where
-  pub border-shorter : longestBorder w ≤ length w - 1
-  unfolding longestBorder
-  border-shorter = longest-below _ (length w)
-
   pub border-closes : closes w (longestBorder w) w ≡ true
   unfolding longestBorder
-  border-closes = longest-passes (λ k. closes w k w) (nothing-closes w w) (length w)
+  border-closes = longest-passes (λ k. closes w k w) (nothing-closes w w) _
 
   pub border-longest : (k : ℕ) → k < length w → closes w k w ≡ true → k ≤ longestBorder w
   unfolding longestBorder
-  border-longest k h e = none-longer (λ k. closes w k w) (length w) k h e
+  border-longest k h e = none-longer (λ k. closes w k w) _ k (omega arith) e
+
+  pub border-shorter : longestBorder w ≤ length w - 1
+  unfolding longestBorder
+  border-shorter = longest-below (λ k. closes w k w) (length w)
 
 -- ── Two occurrences ────────────────────────────────────────────────────────
 

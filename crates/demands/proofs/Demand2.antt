@@ -95,6 +95,8 @@ module _ (word text : Word) (T : List ℕ) (least : 1 ≤ length word) (most : l
 
     -- ── 'and the number of letters read is the one that the published steps give.' ──
 
+    -- those of 01, with 02's step after a find (`StepAfterFind`)
+
     -- Shut out: a made-up letters-read number. Whatever number is answered, it is the steps' own count
     pub letters-of-the-steps : (f : Tally) → searchSays word text T F .answer ≡ done f → f .letters ≡ backward word text .letters
     letters-of-the-steps f e = ap (λ f. f .letters) (found-is f e)
