@@ -7,7 +7,6 @@
 #include <inttypes.h>
 #include <stdio.h>
 #include <stdlib.h>
-#include <string.h>
 #include <time.h>
 
 uint32_t older_marks_search(const uint8_t *word, size_t word_len, const uint8_t *text, size_t text_len, uint16_t *tables, size_t tables_len,
@@ -17,7 +16,8 @@ typedef uint32_t search_entry(const uint8_t *, size_t, const uint8_t *, size_t, 
 
 enum { LONG_TEXT = 16 << 20, PERIODIC_TEXT = 1 << 20, LONGEST = 4096, ROUNDS = 20 };
 
-static uint8_t text[LONG_TEXT], word[LONGEST];
+static uint8_t text[LONG_TEXT];
+static const uint8_t *word;
 static uint16_t tables[MARKS_TABLES(LONGEST)];
 
 struct told {
@@ -42,11 +42,18 @@ static uint64_t next_random(void)
     return random_state >> 20;
 }
 
+/* the word, or another one at each call where there is no text: a processor would learn the way through one */
+static const uint8_t *next_word(size_t n)
+{
+    static size_t calls;
+    return n > 0 ? word : text + calls++ * LONGEST % (LONG_TEXT - LONGEST);
+}
+
 static void run(search_entry *search, size_t m, size_t n, unsigned often, struct told *told)
 {
     double start = now();
     for (unsigned i = 0; i < often; i++)
-        if (search(word, m, text, n, tables, MARKS_TABLES(m), NULL, 0, &told->count, &told->letters) != 0)
+        if (search(next_word(n), m, text, n, tables, MARKS_TABLES(m), NULL, 0, &told->count, &told->letters) != 0)
             abort();
     double took = (now() - start) / often;
     if (took < told->seconds)
@@ -69,7 +76,7 @@ static void race(const char *head, size_t m, size_t n)
     fflush(stdout);
 }
 
-/* random texts, a long one, its start and none of it, and words that stand in the first two */
+/* random texts, a long one and its start, and words that stand in them; and no text */
 static void random_texts(unsigned letters)
 {
     char head[32];
@@ -78,17 +85,15 @@ static void random_texts(unsigned letters)
         text[i] = (uint8_t)(next_random() % letters);
     static const size_t lengths[] = {4, 12, 16, 64, 256, 1024, LONGEST};
     for (size_t i = 0; i < sizeof lengths / sizeof lengths[0]; i++) {
-        memcpy(word, text + LONG_TEXT / 2, lengths[i]);
+        word = text + LONG_TEXT / 2;
         race(head, lengths[i], LONG_TEXT);
     }
     for (size_t i = 0; lengths[i] <= 64; i++) {
-        memcpy(word, text + 100, lengths[i]);
+        word = text + 100;
         race(head, lengths[i], 1024);
     }
-    for (size_t i = 0; i < sizeof lengths / sizeof lengths[0]; i++) {
-        memcpy(word, text + LONG_TEXT / 2, lengths[i]);
+    for (size_t i = 0; i < sizeof lengths / sizeof lengths[0]; i++)
         race(head, lengths[i], 0);
-    }
 }
 
 /* word and text of one period: the word stands everywhere */
@@ -98,7 +103,7 @@ static void periodic_texts(size_t period)
     snprintf(head, sizeof head, "period %zu", period);
     for (size_t i = 0; i < PERIODIC_TEXT; i++)
         text[i] = (uint8_t)(i % period);
-    memcpy(word, text, 256);
+    word = text;
     race(head, 256, PERIODIC_TEXT);
 }
 
