@@ -1,0 +1,4 @@
+pub mod Kept
+pub mod OnlyKept
+pub mod OneLetter
+pub mod Reaching
