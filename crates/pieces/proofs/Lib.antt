@@ -2,3 +2,4 @@ pub mod Kept
 pub mod OnlyKept
 pub mod OneLetter
 pub mod Reaching
+pub mod Running
