@@ -40,7 +40,7 @@ bytes-one : (c : Letter) → c < 256 → Bytes (c ∷ [])
 bytes-one c h zero = h
 bytes-one c h (suc i) = omega arith
 
-bytes-take : (n : ℕ) (u : Word) → Bytes u → Bytes (take n u)
+pub bytes-take : (n : ℕ) (u : Word) → Bytes u → Bytes (take n u)
 bytes-take zero u b i = omega arith
 bytes-take (suc n) [] b i = omega arith
 bytes-take (suc n) (c ∷ u) b zero = b 0

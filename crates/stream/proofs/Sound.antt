@@ -1,22 +1,24 @@
--- WHAT THE TEST SAYS, part by part: a searcher passes exactly if it is sound. So code that answers false has found a part that fails.
+-- WHAT THE TEST SAYS, part by part: a searcher passes exactly if it is sound. So code that answers false has found a part that fails. What
+-- this tells of its rows, and that a piece leaves it sound.
 use mathlib.Core.Path.{_≡_, sym, ap, _∙_}
 use mathlib.Core.Bool.{Bool, true, false, not-eq-not}
 use mathlib.Core.List.{List}
-use Prim.Native.Nat.{ℕ, _≤_, _<_}
+use Prim.Native.Nat.{ℕ, _+_, _≤_, _<_}
 use native.Mathlib.Omega.{arith}
-use lib.ListN.{length, take, length-take}
+use lib.ListN.{length, take, length-take, length-append}
 use lib.Seq.{take-at, length-take-le}
 use lib.Dec.{leb, ltb}
 use borrow.Author.Tests.{leb-true, ltb-true, le-leb, lt-ltb}
 use Rattle.words.specs.Limits.{longestStreamed, longestText}
-use Rattle.words.specs.Words.{same}
+use Rattle.words.specs.Words.{Word, part, same}
 use Rattle.words.proofs.Limits.{streamed-limit}
 use Rattle.words.proofs.Lists.{and-true, test-cases}
-use Rattle.words.proofs.Words.{same-true, same-refl}
+use Rattle.words.proofs.Words.{same-true, same-refl, part-length}
 use Rattle.border.specs.Borders.{borders}
 use Rattle.border.proofs.Filling.{borders-length}
+use Rattle.pieces.proofs.Kept.{kept-shorter, kept-within}
 use Rattle.stream.specs.declared.Searcher.{Searcher}
-use Rattle.stream.specs.Searchers.{rowOf, wordOf, makeable}
+use Rattle.stream.specs.Searchers.{rowOf, wordOf, heardBy, after, makeable}
 use Rattle.stream.proofs.Rows.{row-length}
 
 pub record Sound (s : Searcher) : Type 0 where
@@ -89,3 +91,27 @@ module _ {s : Searcher} (S : Sound s) where
   -- its first entries are the borders of its word
   pub own-borders : take (s .size) (s .borders) ≡ borders (wordOf s)
   own-borders = ap (take (s .size)) (S .its) ∙ take-at (borders (wordOf s)) _ (s .size) (borders-length (wordOf s) ∙ word-length)
+
+-- ── After a piece ──────────────────────────────────────────────────────────
+
+-- it is sound again
+pub sound-after : {s : Searcher} → Sound s → (v : Word) → s .taken + length v ≤ longestText → Sound (after s v)
+unfolding after
+sound-after {s} S v fits = record {
+  some-letter = S .some-letter;
+  few = S .few;
+  short = omega (arith, kept-shorter w (heardBy s v) some-letter, word-length S);
+  heard = omega (arith, kept-within w (heardBy s v) some-letter, length-append (part w 0 (s .keep)) v, front, S .heard);
+  inside = fits;
+  own = S .own;
+  its = S .its;
+}
+  where
+    w : Word
+    w = wordOf s
+
+    some-letter : 1 ≤ length w
+    some-letter = omega (arith, word-length S, S .some-letter)
+
+    front : length (part w 0 (s .keep)) ≡ s .keep
+    front = part-length w 0 (s .keep) (omega (arith, word-length S, S .short))
