@@ -4,3 +4,4 @@ pub mod TwoTables
 pub mod Demand3
 pub mod LongerMarks
 pub mod StepAfterFind
+pub mod UploadsInPieces

@@ -10,7 +10,7 @@ use native.Mathlib.Nat.{zero-add, add-zero}
 use native.Mathlib.Decide.{decLe}
 use native.Mathlib.Omega.{arith}
 use lib.ListN.{length, take, drop, length-append, length-drop, List·getD-append}
-use lib.Seq.{length-take-le, take-length, take-add, take-append-le, drop-append-le, drop-append-add, getD-append-add}
+use lib.Seq.{length-take-le, take-length, take-add, take-append-le, drop-append-le, drop-append-add}
 use Rattle.words.specs.Lists.{from, only}
 use Rattle.words.specs.Words.{Word, Place, letter, part, stands, occurrences}
 use Rattle.words.proofs.Lists.{from-append, only-append, only-same, only-shift}
@@ -19,7 +19,7 @@ use Rattle.words.proofs.Occurrences.{stands-letters, since, since-later}
 use Rattle.border.specs.Borders.{closes}
 use Rattle.border.proofs.Closing.{Closing}
 use Rattle.pieces.specs.Kept.{kept, heard}
-use Rattle.pieces.proofs.Kept.{kept-closes, kept-shorter, kept-within, kept-closing, kept-longest, kept-one}
+use Rattle.pieces.proofs.Kept.{kept-closes, kept-shorter, kept-within, kept-longest, kept-behind}
 
 module _ (w t v : Word) (some-letter : 1 ≤ length w) where
   abbrev h : ℕ
@@ -60,12 +60,6 @@ module _ (w t v : Word) (some-letter : 1 ≤ length w) where
   whole-length : length (t ++ v) ≡ before + length late
   whole-length = length-append t v ∙ omega (arith, fits .1, late-length)
 
-  late-letter : (i : ℕ) → letter (t ++ v) (before + i) ≡ letter late i
-  late-letter i =
-      ap (λ (u : Word). letter u (before + i)) whole-is
-      ∙ ap (λ (n : ℕ). letter (take before t ++ late) (n + i)) (sym front-length)
-      ∙ getD-append-add (take before t) late i 0
-
   -- ── What the whole ends with ─────────────────────────────────────────────
 
   -- what the whole ends with, cut where t ends
@@ -86,32 +80,12 @@ module _ (w t v : Word) (some-letter : 1 ≤ length w) where
       by (yes more) = omega (arith, late-length, kept-longest w t (omega arith) (closing-cut more C))
       by (no less) = omega (arith, late-length)
 
-  whole-closing : {k : ℕ} → Closing w k late → Closing w k (t ++ v)
-  whole-closing {k} C = record { start = before + C .start; sum = omega (arith, C .sum, whole-length); same = same }
-    where
-      same : (i : ℕ) → i < k → letter (t ++ v) (before + C .start + i) ≡ letter w i
-      same i l =
-          let q : before + C .start + i ≡ before + (C .start + i) = omega arith in
-          ap (letter (t ++ v)) q
-          ∙ late-letter (C .start + i)
-          ∙ C .same i l
-
-  heard-closing : {k : ℕ} → k ≤ length late → Closing w k (t ++ v) → Closing w k late
-  heard-closing {k} fit C = record { start = C .start - before; sum = omega (arith, C .sum, whole-length); same = same }
-    where
-      same : (i : ℕ) → i < k → letter late (C .start - before + i) ≡ letter w i
-      same i l =
-          let q : before + (C .start - before + i) ≡ C .start + i = omega (arith, C .sum, whole-length) in
-          sym (late-letter (C .start - before + i))
-          ∙ ap (letter (t ++ v)) q
-          ∙ C .same i l
-
   -- ── What is kept ─────────────────────────────────────────────────────────
 
   pub kept-goes-on : kept w (t ++ v) ≡ kept w late
   kept-goes-on =
-      kept-one w (t ++ v) (kept w late) (kept-shorter w late some-letter) (whole-closing (kept-closing w late some-letter))
-      (λ j l C. kept-longest w late l (heard-closing (closing-late l C) C))
+      ap (kept w) whole-is
+      ∙ kept-behind w (take before t) late some-letter (λ k l C. closing-late l (rw whole-is C))
 
   -- ── What is found ────────────────────────────────────────────────────────
 

@@ -1,55 +1,85 @@
--- THE THEOREMS ON STREAMS: cut anywhere, a text's finds are those of the whole; what taking makes can be taken again; a piece, then another,
--- is both at once. Each is two or three of the equations of History, on the searcher of a word that has taken a text.
+-- THE THEOREMS ON STREAMS: what taking a piece says with the searcher of a word that has taken a text; so, cut anywhere, a text's finds are
+-- those of the whole; what taking makes can be taken again; a piece, then another, is both at once.
 use mathlib.Core.Path.{_≡_, sym, ap, _∙_}
 use mathlib.Core.Bool.{false}
 use mathlib.Core.List.{List, [], _∷_, _++_, append-assoc, append-nil}
-use Prim.Native.Nat.{ℕ, _+_, _≤_}
+use Prim.Native.Nat.{ℕ, _+_, _≤_, _<_}
 use native.Mathlib.Omega.{arith}
-use lib.ListN.{length, drop}
+use lib.ListN.{length, drop, length-append}
 use lib.Seq.{drop-append-seam}
-use Rattle.words.specs.Limits.{longestText}
+use Rattle.words.specs.Limits.{longestStreamed, longestText}
 use Rattle.words.specs.Words.{Word, Place, occurrences}
 use Rattle.words.proofs.Occurrences.{since-start, since-past}
+use Rattle.finds.specs.Finds.{filled}
 use Rattle.number.specs.Number.{Bytes}
+use Rattle.answers.specs.Answers.{done, refused, longText}
 use Rattle.stream.specs.declared.Searcher.{Searcher}
 use Rattle.stream.specs.Searchers.{searcherOf, after, finds, Made, makeable}
 use Rattle.stream.specs.Opening.{blank}
-use Rattle.stream.specs.Pieces.{joined, afterAll, together}
-use Rattle.stream.proofs.History.{after-is, finds-are}
-use Rattle.stream.proofs.Sound.{Sound, unsound}
-use Rattle.stream.proofs.Reached.{Took, took-more, made-took, took-made}
+use Rattle.stream.specs.Taking.{outcome, takeSays}
+use Rattle.stream.specs.Pieces.{joined, InTurn, none, next}
+use Rattle.stream.proofs.History.{holds-taken, after-is, finds-are}
+use Rattle.stream.proofs.Sound.{unsound}
+use Rattle.stream.proofs.Reached.{Took, took-more, made-took, took-made, searcher-sound}
+use Rattle.stream.proofs.TakeSays.{says-long-text, says-taken}
+
+same-front : (l a b : List ℕ) → l ++ a ≡ l ++ b → a ≡ b
+same-front l a b e = sym (drop-append-seam l a) ∙ ap (drop (length l)) e ∙ drop-append-seam l b
+
+-- ── A piece ────────────────────────────────────────────────────────────────
+
+-- the word w has taken the text t
+module _ (w t : Word) (some-letter : 1 ≤ length w) (few : length w ≤ longestStreamed) (v : Word) (F : List Place) where
+  -- a piece that fits is taken, and its finds are those that the text lacked
+  pub piece-taken : length (t ++ v) ≤ longestText → (f : List Place) → occurrences w (t ++ v) ≡ occurrences w t ++ f
+      → takeSays (searcherOf w t) v F ≡ outcome (done (length f)) (searcherOf w (t ++ v)) (filled f F)
+  piece-taken fits f e =
+      let sound = searcher-sound w t some-letter few (omega (arith, length-append t v)) in
+      let found : finds (searcherOf w t) v ≡ f = same-front (occurrences w t) _ f (sym (finds-are w t v some-letter) ∙ e) in
+      says-taken (searcherOf w t) v F sound (omega (arith, holds-taken w t, length-append t v))
+      ∙ rw (found, after-is w t v some-letter)
+
+  -- one that does not is refused
+  pub piece-refused : length t ≤ longestText → longestText < length (t ++ v)
+      → takeSays (searcherOf w t) v F ≡ outcome (refused longText) (searcherOf w t) F
+  piece-refused inside past =
+      let sound = searcher-sound w t some-letter few inside in
+      says-long-text (searcherOf w t) v F sound (omega (arith, holds-taken w t, length-append t v))
 
 -- ── Cut anywhere ───────────────────────────────────────────────────────────
 
-module _ (w : Word) (some-letter : 1 ≤ length w) where
-  pieces-find : (l : List Word) (t : Word) → occurrences w t ++ together (searcherOf w t) l ≡ occurrences w (t ++ joined l)
-  unfolding together joined
-  pieces-find [] t = append-nil (occurrences w t) ∙ ap (occurrences w) (sym (append-nil t))
-  pieces-find (v ∷ l) t =
-      let s = searcherOf w t in
-      sym (append-assoc (occurrences w t) (finds s v) (together (after s v) l))
-      ∙ ap (λ (x : List Place). x ++ together (after s v) l) (sym (finds-are w t v some-letter))
-      ∙ ap (λ (s : Searcher). occurrences w (t ++ v) ++ together s l) (after-is w t v some-letter)
-      ∙ pieces-find l (t ++ v)
+module _ (w : Word) (some-letter : 1 ≤ length w) (few : length w ≤ longestStreamed) where
+  rest : (t : Word) → List Word → List Place
+  rest t [] = []
+  rest t (v ∷ l) = finds (searcherOf w t) v ++ rest (t ++ v) l
+
+  rest-finds : (l : List Word) (t : Word) → occurrences w t ++ rest t l ≡ occurrences w (t ++ joined l)
+  unfolding rest joined
+  rest-finds [] t = append-nil (occurrences w t) ∙ ap (occurrences w) (sym (append-nil t))
+  rest-finds (v ∷ l) t =
+      sym (append-assoc (occurrences w t) (finds (searcherOf w t) v) (rest (t ++ v) l))
+      ∙ ap (λ (f : List Place). f ++ rest (t ++ v) l) (sym (finds-are w t v some-letter))
+      ∙ rest-finds l (t ++ v)
       ∙ ap (occurrences w) (append-assoc t v (joined l))
+
+  in-turn : (l : List Word) (t : Word) → length (t ++ joined l) ≤ longestText
+      → InTurn (searcherOf w t) l (rest t l) (searcherOf w (t ++ joined l))
+  unfolding rest joined
+  in-turn [] t fits = rw (append-nil t) none
+  in-turn (v ∷ l) t fits =
+      let inside : length (t ++ v) ≤ longestText =
+      omega (arith, length-append t (v ++ joined l), length-append v (joined l), length-append t v) in
+      let later = in-turn l (t ++ v) (rw (append-assoc t v (joined l)) fits) in
+      next (finds (searcherOf w t) v) (λ F. piece-taken w t some-letter few v F inside _ (finds-are w t v some-letter)) (rw (append-assoc t v (joined l)) at later)
 
   none-yet : occurrences w [] ≡ []
   none-yet = sym (since-start w []) ∙ since-past w [] 0 (omega arith)
 
-  pub cut-anywhere : (l : List Word) → together (searcherOf w []) l ≡ occurrences w (joined l)
-  cut-anywhere l = ap (λ (x : List Place). x ++ together (searcherOf w []) l) (sym none-yet) ∙ pieces-find l []
-
-  -- and the searcher is that of the whole
-  after-pieces : (l : List Word) (t : Word) → afterAll (searcherOf w t) l ≡ searcherOf w (t ++ joined l)
-  unfolding afterAll joined
-  after-pieces [] t = ap (searcherOf w) (sym (append-nil t))
-  after-pieces (v ∷ l) t =
-      ap (λ (s : Searcher). afterAll s l) (after-is w t v some-letter)
-      ∙ after-pieces l (t ++ v)
-      ∙ ap (searcherOf w) (append-assoc t v (joined l))
-
-  pub after-all-is : (l : List Word) → afterAll (searcherOf w []) l ≡ searcherOf w (joined l)
-  after-all-is l = after-pieces l []
+  pub cut-anywhere : (l : List Word) → length (joined l) ≤ longestText
+      → InTurn (searcherOf w []) l (occurrences w (joined l)) (searcherOf w (joined l))
+  cut-anywhere l fits =
+      let all : rest [] l ≡ occurrences w (joined l) = ap (λ (f : List Place). f ++ rest [] l) (sym none-yet) ∙ rest-finds l [] in
+      rw all at (in-turn l [] fits)
 
 -- ── What taking makes ──────────────────────────────────────────────────────
 
@@ -63,9 +93,6 @@ unfolding blank
 blank-unmade = unsound _ (λ S. omega (arith, S .some-letter))
 
 -- ── A piece, then another ──────────────────────────────────────────────────
-
-same-front : (l a b : List ℕ) → l ++ a ≡ l ++ b → a ≡ b
-same-front l a b e = sym (drop-append-seam l a) ∙ ap (drop (length l)) e ∙ drop-append-seam l b
 
 module _ (w t a b : Word) (some-letter : 1 ≤ length w) where
   abbrev s : Searcher
