@@ -131,6 +131,14 @@ module _ {A : Type 0} (P : A → Bool) where
   only-append [] r = refl
   only-append (a ∷ l) r = test-cases (P a) (λ e. rw (e, only-append l r)) (λ e. rw (e, only-append l r))
 
+  -- no more than were tried
+  pub only-few : (l : List A) → length (only P l) ≤ length l
+  unfolding only
+  only-few [] = omega arith
+  only-few (a ∷ l) = test-cases (P a)
+      (λ e. rw e (omega (arith, only-few l)))
+      (λ e. rw e (omega (arith, only-few l)))
+
   pub only-in : (l : List A) {a : A} → List·Memᴰ a (only P l) → List·Memᴰ a l × (P a ≡ true)
   unfolding only
   only-in [] m = absurd (elim m [ ])

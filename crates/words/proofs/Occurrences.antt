@@ -10,7 +10,7 @@ use lib.ListN.{length, length-take, length-drop}
 use lib.Seq.{ext-getD}
 use Rattle.words.specs.Lists.{from, only, Rising}
 use Rattle.words.specs.Words.{Word, Place, letter, part, stands, occurrences}
-use Rattle.words.proofs.Lists.{only-yes, only-in, in-only, only-later, only-none, from-in, in-from, rising-from}
+use Rattle.words.proofs.Lists.{only-yes, only-few, only-in, in-only, only-later, only-none, from-length, from-in, in-from, rising-from}
 use Rattle.words.proofs.Words.{same-true, same-refl, part-length, part-at}
 
 -- ── stands ─────────────────────────────────────────────────────────────────
@@ -56,6 +56,13 @@ module _ (v t : Word) where
   pub occurrences-rise : Rising 0 (occurrences v t)
   unfolding occurrences
   occurrences-rise = rising-from (stands v t) 0 _
+
+  -- each ends with a letter of its own
+  pub occurrences-few : 1 ≤ length v → length (occurrences v t) ≤ length t
+  unfolding occurrences
+  occurrences-few h =
+      let tried = suc (length t) - length v in
+      omega (arith, only-few (stands v t) (from 0 tried), from-length 0 tried)
 
 -- ── From a place on ────────────────────────────────────────────────────────
 
