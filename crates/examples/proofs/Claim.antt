@@ -1,27 +1,33 @@
--- Every example of the table holds: the checker computes both rules, the supplies, the searches, the files and the refusals, and compares.
+-- Every example of the table holds: the checker computes both rules, the supplies, the searches, the files, the refusals and the
+-- pieces, and compares.
 use lib.Dec.{T}
 use Rattle.words.specs.Lists.{from, only, first}
 use Rattle.words.specs.Words.{same, stands, occurrences}
-use Rattle.words.specs.Limits.{longestWord, leastSaved}
+use Rattle.words.specs.Limits.{longestWord, longestText, longestStreamed, leastSaved}
 use Rattle.oracle.specs.Arrows.{target, walk, spine}
 use Rattle.oracle.specs.SuffixRule.{far, mend, missing, extrasAfter, extraArrows, suffixRule}
 use Rattle.oracle.specs.LetterRule.{climb, addLetter, builtUpTo, letterRule}
 use Rattle.oracle.specs.Supply.{ends, twice, repeated, supply}
 use Rattle.oracle.specs.FileOrder.{leadsTo, extraTargets, extrasBefore, fileArrows}
-use Rattle.border.specs.Borders.{longest, closes, longestBorder}
+use Rattle.border.specs.Borders.{longest, closes, longestBorder, borders}
 use Rattle.backward.specs.Steps.{readDown, afterFind, windows, steps, backward}
 use Rattle.number.specs.Number.{groups, spellNumber, refuses, see, seeNumber, numberAt}
 use Rattle.saved.specs.File.{edition, stepsFrom, spellSteps, ownSteps, body, spell}
 use Rattle.loaded.specs.Load.{frontWithin}
 use Rattle.mark_files.specs.Load.{loadWithin}
+use Rattle.finds.specs.Finds.{filled}
+use Rattle.pieces.specs.Kept.{kept}
+use Rattle.stream.specs.Searchers.{searcherOf, after, finds, makeable}
+use Rattle.stream.specs.Opening.{openSays}
+use Rattle.stream.specs.Taking.{takeSays}
 use Rattle.examples.specs.Examples.{is, isNone, walked, empty, has, gives, isRefused, refusedWith, refusedInRooms, holds, allHold}
-use Rattle.examples.specs.Examples.{shows, word, digit, bytes, table}
+use Rattle.examples.specs.Examples.{shows, isDoneWith, takenInTurn, word, digit, bytes, table}
 
 pub examples-hold : T (allHold table)
-unfolding from only first same stands occurrences longestWord leastSaved
+unfolding from only first same stands occurrences longestWord longestText longestStreamed leastSaved
     target walk spine far mend missing extrasAfter extraArrows suffixRule climb addLetter builtUpTo letterRule
     ends twice repeated supply leadsTo extraTargets extrasBefore fileArrows
-    longest closes longestBorder readDown afterFind windows steps backward
+    longest closes longestBorder borders filled kept searcherOf after finds makeable openSays takeSays readDown afterFind windows steps backward
     groups spellNumber refuses see seeNumber numberAt edition stepsFrom spellSteps ownSteps body spell frontWithin loadWithin
-    is isNone walked empty has gives isRefused refusedWith refusedInRooms shows holds allHold word digit bytes table
+    is isNone walked empty has gives isRefused refusedWith refusedInRooms shows isDoneWith takenInTurn holds allHold word digit bytes table
 examples-hold = tt

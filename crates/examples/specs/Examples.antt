@@ -29,6 +29,10 @@ use Rattle.saved.specs.File.{spell}
 use Rattle.loaded.specs.Load.{Front, letters, stop, front}
 use Rattle.answers.specs.Answers.{Answer, done, refused, refusedAt}
 use Rattle.mark_files.specs.Load.{Outcome, loadSays}
+use Rattle.finds.specs.Finds.{filled}
+use Rattle.stream.specs.declared.Searcher.{Searcher}
+use Rattle.stream.specs.Opening.{openSays}
+use Rattle.stream.specs.Taking.{takeSays}
 
 -- an extra arrow as 01 writes it, 0-2: its letter is that of the state it leads to
 abbrev pub _to_ : State → State → Extra
@@ -48,6 +52,8 @@ pub data Example : Type 0 where
   loadRefused : (file : List ℕ) (number : ℕ) → Example
   -- the first bytes of a file which, with so many letters behind them, is let through to the next field
   letThrough : (start : List ℕ) (m : ℕ) → Example
+  -- a word and the pieces of a text, what is found in each of them, and how many letters are kept at the end
+  inPieces : (word : Word) (pieces : List Word) (found : List (List Place)) (keep : ℕ) → Example
 
 unfoldable pub is : Option ℕ → ℕ → Bool
 is none y = false
@@ -96,6 +102,20 @@ unfoldable pub shows : Front → ℕ → Place → Bool
 shows (letters n j) m i = eqb n m && eqb j i
 shows (stop n j) m i = false
 
+unfoldable pub isDoneWith : Answer ℕ → ℕ → Bool
+isDoneWith (done m) n = eqb m n
+isDoneWith (refused r) n = false
+isDoneWith (refusedAt r p) n = false
+
+-- the pieces are taken in turn from s on, with a list of three entries
+unfoldable pub takenInTurn : Searcher → List Word → List (List Place) → ℕ → Bool
+takenInTurn s [] [] k = eqb (s .keep) k
+takenInTurn s [] (f ∷ g) k = false
+takenInTurn s (v ∷ l) [] k = false
+takenInTurn s (v ∷ l) (f ∷ g) k =
+    let o = takeSays s v (9 ∷ 9 ∷ 9 ∷ []) in
+    isDoneWith (o .answer) (length f) && (same (o .list) (filled f (9 ∷ 9 ∷ 9 ∷ [])) && takenInTurn (o .next) l g k)
+
 unfoldable pub holds : Example → Bool
 holds (arrowsOf p extra n l) =
     let rule = letterRule p in
@@ -116,6 +136,7 @@ holds (fileOf p f) = same (spell p) f
 -- the rooms of no letter, too short for any word, and those of three letters: these refusals come before 3
 holds (loadRefused f n) = refusedInRooms f n 0 && refusedInRooms f n 3
 holds (letThrough start m) = shows (front (start ++ replicate m 97)) m (length start)
+holds (inPieces w l found k) = takenInTurn (openSays w .searcher) l found k
 
 unfoldable pub allHold : List Example → Bool
 allHold [] = true
@@ -161,4 +182,6 @@ table =
     ∷ letThrough (bytes "01 81 08") 1025
     ∷ letThrough (bytes "01 80 20") 4096
     ∷ loadRefused (bytes "01 81 20") 8
+    ∷ inPieces (word "aba") (word "ab" ∷ word "" ∷ word "ab" ∷ word "a" ∷ []) ([] ∷ [] ∷ (0 ∷ []) ∷ (2 ∷ []) ∷ []) 1
+    ∷ inPieces (word "aa") (word "a" ∷ word "aaaa" ∷ word "b" ∷ []) ([] ∷ (0 ∷ 1 ∷ 2 ∷ 3 ∷ []) ∷ [] ∷ []) 0
     ∷ []
