@@ -1,8 +1,8 @@
 -- UPLOADS IN PIECES, the third request of 02, sentence by sentence: each is quoted, and under it stands what says just that.
 --
--- Of the code, crates/stream/src/lib.rt and crates/searcher_bytes/src/lib.rt: an entry has no `requires`, and its one `ensures` says that its
--- answer, the searcher that it hands back and every lent buffer as it is left are `openSays`, `takeSays`, `openBytesSays` or `takeBytesSays`
--- of what is handed over.
+-- Of the code, crates/stream/src/lib.rt and crates/searcher_bytes/src/lib.rt: an entry has no `requires`, and its one `ensures` says that
+-- its answer, the searcher that it hands back and every lent buffer as it is left are `openSays`, `takeSays`, `openBytesSays` or
+-- `takeBytesSays` of what is handed over.
 use mathlib.Core.Path.{_≡_, refl, sym, ap, _∙_}
 use mathlib.Core.Bool.{true}
 use mathlib.Core.Logic.{_↔_}
@@ -136,7 +136,8 @@ module _ {s : Searcher} (made : Made s) (v : Word) (F : List Place) where
 pub empty-on-top : {s : Searcher} → Made s → (F : List Place) → s .taken ≡ longestText → takeSays s [] F ≡ Take.counted s [] F
 empty-on-top made F e = up-to-the-limit made [] F (omega arith)
 
--- ── 'A searcher that opening and taking bytes could never have made is refused with a new 16, checked before 4 and with the same effect.' ──
+-- ── 'A searcher that opening and taking bytes could never have made is refused with a new 16, checked before 4 and with the same
+--    effect.' ──
 
 -- `Made` says of a searcher that it was opened, and then fed one byte after another. The test is true of exactly these
 pub makeable-exactly : (s : Searcher) → Bytes (s .word) → (makeable s ≡ true) ↔ Made s

@@ -27,7 +27,8 @@ pub examples-hold : T (allHold table)
 unfolding from only first same stands occurrences longestWord longestText longestStreamed leastSaved
     target walk spine far mend missing extrasAfter extraArrows suffixRule climb addLetter builtUpTo letterRule
     ends twice repeated supply leadsTo extraTargets extrasBefore fileArrows
-    longest closes longestBorder borders filled kept searcherOf after finds makeable openSays takeSays readDown afterFind windows steps backward
+    longest closes longestBorder borders filled kept searcherOf after finds makeable openSays takeSays
+    readDown afterFind windows steps backward
     groups spellNumber refuses see seeNumber numberAt edition stepsFrom spellSteps ownSteps body spell frontWithin loadWithin
     is isNone walked empty has gives isRefused refusedWith refusedInRooms shows isDoneWith takenInTurn holds allHold word digit bytes table
 examples-hold = tt

@@ -1,5 +1,5 @@
--- A RUN OVER A PIECE, letter by letter: what is kept and found of what was heard so far, the list being filled with that. One letter more is
--- one letter behind what is kept, for only that matters; so `border::extend` decides.
+-- A RUN OVER A PIECE, letter by letter: what is kept and found of what was heard so far, the list being filled with that. One letter more
+-- is one letter behind what is kept, for only that matters; so `border::extend` decides.
 use mathlib.Core.Path.{_≡_, refl, sym, ap, _∙_}
 use mathlib.Core.List.{List, [], _∷_, _++_, map, append-assoc, append-nil}
 use Prim.Native.Nat.{ℕ, suc, _+_, _-_, _≤_, _<_}

@@ -1,5 +1,5 @@
--- COMPARING TWO LISTS, entry by entry from the first: `Alike a b i` is what holds before entry i is looked at. A loop's proof needs its start,
--- one step and its two ends: an entry that differs, and none.
+-- COMPARING TWO LISTS, entry by entry from the first: `Alike a b i` is what holds before entry i is looked at. A loop's proof needs its
+-- start, one step and its two ends: an entry that differs, and none.
 use mathlib.Core.Path.{_≡_, sym, ap}
 use mathlib.Core.Bool.{true, false, not-eq-not}
 use mathlib.Core.List.{List}

@@ -36,7 +36,8 @@ module _ {s : Searcher} (S : Sound s) where
     where
       small : (i : ℕ) → at (s .borders) i ≤ length (wordOf s)
       small i =
-          let entry = ap (λ (l : List ℕ). at l i) (S .its) ∙ padded (borders (wordOf s)) (longestStreamed - length (borders (wordOf s))) i in
+          let its = borders (wordOf s) in
+          let entry = ap (λ (l : List ℕ). at l i) (S .its) ∙ padded its (longestStreamed - length its) i in
           omega (arith, entry, border-small (wordOf s) i)
 
   pub sound-length : length (packed s) ≡ searcherBytes

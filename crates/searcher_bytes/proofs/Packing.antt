@@ -1,5 +1,5 @@
--- PACKING: how code writes a searcher's bytes, three parts one behind the other, and that packing and unpacking undo each other. Four digits
--- to the base 256 have one value below 256⁴, and bytes are their value's digits.
+-- PACKING: how code writes a searcher's bytes, three parts one behind the other, and that packing and unpacking undo each other. Four
+-- digits to the base 256 have one value below 256⁴, and bytes are their value's digits.
 use mathlib.Core.Path.{_≡_, refl, sym, ap, _∙_}
 use mathlib.Core.List.{List, [], _∷_, _++_, append-assoc, append-nil}
 use Prim.Native.Nat.{ℕ, suc, _+_, _*_, _-_, _/_, _%_, _≤_, _<_}

@@ -1,6 +1,6 @@
--- THE THEOREMS on `takeBytesSays`: each refusal exactly where it is tabled, 16 exactly for bytes that no opening and taking could have left,
--- what a refusal leaves, and that the promise allows one outcome. Packing and unpacking undo each other, so the cases of the bytes are those
--- of the searcher that has them.
+-- THE THEOREMS on `takeBytesSays`: each refusal exactly where it is tabled, 16 exactly for bytes that no opening and taking could have
+-- left, what a refusal leaves, and that the promise allows one outcome. Packing and unpacking undo each other, so the cases of the bytes
+-- are those of the searcher that has them.
 use mathlib.Core.Path.{_≡_, refl, sym, ap, _∙_}
 use mathlib.Core.Bool.{Bool, true, false}
 use mathlib.Core.Logic.{_↔_}
@@ -53,7 +53,8 @@ module _ (B : List ℕ) (v : Word) (F : List Place) where
     says-taking = rw (le-ltb _ _ enough)
 
     -- what code's own taking comes to, with the searcher that it unpacks
-    module _ {r : Searcher} (its : r ≡ unpacked (take 134 B)) (t : Taken) {G : List Place} (took-says : Taking.took t G ≡ takeSays r v F) where
+    module _ {r : Searcher} (its : r ≡ unpacked (take 134 B)) (t : Taken) {G : List Place}
+        (took-says : Taking.took t G ≡ takeSays r v F) where
       same-says : Taking.took t G ≡ takeSays s v F
       same-says = took-says ∙ ap (λ (x : Searcher). takeSays x v F) (its ∙ ap (λ (n : ℕ). unpacked (take n B)) (sym searcher-bytes))
 
@@ -79,7 +80,8 @@ module _ (B : List ℕ) (v : Word) (F : List Place) where
       long h e (yes l) =
           rw (says-taking h, says-long-text s v F (makeable-sound s e) l) (record { left = λ q. (refl, refl); numbers = refl })
       long h e (no l) =
-          rw (says-taking h, says-taken s v F (makeable-sound s e) (omega arith)) (record { left = λ q. done-not-refused q; numbers = refl })
+          rw (says-taking h, says-taken s v F (makeable-sound s e) (omega arith))
+          (record { left = λ q. done-not-refused q; numbers = refl })
 
       by : Dec (length B < searcherBytes) → Refusing (takeBytesSays B v F)
       by (yes h) = rw (says-few h) (record { left = λ q. (refl, refl); numbers = refl })
@@ -87,7 +89,8 @@ module _ (B : List ℕ) (v : Word) (F : List Place) where
           (λ e. long (omega arith) e (decLt longestText (s .taken + length v)))
           (λ e. rw (says-taking (omega arith), says-unmade s v F e) (record { left = λ q. (refl, refl); numbers = refl }))
 
-  pub refusal-leaves : {n : ℕ} → takeBytesSays B v F .answer ≡ refused n → (takeBytesSays B v F .bytes ≡ B) × (takeBytesSays B v F .list ≡ F)
+  pub refusal-leaves : {n : ℕ} → takeBytesSays B v F .answer ≡ refused n
+      → (takeBytesSays B v F .bytes ≡ B) × (takeBytesSays B v F .list ≡ F)
   refusal-leaves e = refusing .left e
 
   pub take-numbers : refusesOnly (16 ∷ 4 ∷ []) (takeBytesSays B v F .answer) ≡ true

@@ -1,5 +1,5 @@
-// Searchers as lent bytes: packed, unpacked, opened and handed a piece. Any bytes may be handed to `open` and `take`; their one promise fixes
-// the answer, every byte and every entry of the list, for refusals too.
+// Searchers as lent bytes: packed, unpacked, opened and handed a piece. Any bytes may be handed to `open` and `take`; their one promise
+// fixes the answer, every byte and every entry of the list, for refusals too.
 ghost use mathlib.Core.Path.{_≡_};
 ghost use Prim.Native.Nat.{ℕ, _<_};
 ghost use lib.ListN.{length};

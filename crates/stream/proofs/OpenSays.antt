@@ -1,5 +1,5 @@
--- THE THEOREMS on `openSays`: each refusal exactly where it is tabled, that nothing usable is handed out with one, and that the promise allows
--- one outcome.
+-- THE THEOREMS on `openSays`: each refusal exactly where it is tabled, that nothing usable is handed out with one, and that the promise
+-- allows one outcome.
 use mathlib.Core.Path.{_≡_, refl, sym, ap, _∙_}
 use mathlib.Core.Bool.{true}
 use mathlib.Core.Logic.{_↔_}

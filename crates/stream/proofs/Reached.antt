@@ -151,7 +151,8 @@ module _ (s : Searcher) (bytes : Bytes (s .word)) (S : Sound s) where
 
   text-bytes : Bytes text
   text-bytes =
-      bytes-append (replicate (s .taken - s .keep) (other .0)) (part w 0 (s .keep)) (bytes-replicate (s .taken - s .keep) (other .0) (other .1))
+      bytes-append (replicate (s .taken - s .keep) (other .0)) (part w 0 (s .keep))
+      (bytes-replicate (s .taken - s .keep) (other .0) (other .1))
       (bytes-take (s .keep) w own-bytes)
 
   pub sound-took : Took s

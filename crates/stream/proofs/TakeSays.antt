@@ -55,7 +55,9 @@ module _ (s : Searcher) (v : Word) (F : List Place) where
       → outcome (done count) (record { word = s .word; borders = s .borders; size = s .size; keep = keep; taken = s .taken + length v }) G
       ≡ takeSays s v F
   unfolding after finds
-  says-run S l r = rw (r .0, r .1, r .2, ← length-map (occurrences (wordOf s) (heardBy s v)) (λ q. s .taken - s .keep + q)) (sym (says-taken S l))
+  says-run S l r =
+      rw (r .0, r .1, r .2, ← length-map (occurrences (wordOf s) (heardBy s v)) (λ q. s .taken - s .keep + q))
+      (sym (says-taken S l))
 
   -- ── When each is given ───────────────────────────────────────────────────
 
@@ -110,8 +112,8 @@ module _ (s : Searcher) (v : Word) (F : List Place) where
 -- ── One outcome ────────────────────────────────────────────────────────────
 
 -- two outcomes that the promise of take allows are equal
-pub take-one : (s : Searcher) (v : Word) (F : List Place) (q r : Taken) (G H : List Place) → took q G ≡ takeSays s v F → took r H ≡ takeSays s v F
-    → (q ≡ r) × (G ≡ H)
+pub take-one : (s : Searcher) (v : Word) (F : List Place) (q r : Taken) (G H : List Place) → took q G ≡ takeSays s v F
+    → took r H ≡ takeSays s v F → (q ≡ r) × (G ≡ H)
 take-one s v F q r G H e f =
     let g : took q G ≡ took r H = e ∙ sym f in
     let a = size-answer-one (q .answer) (r .answer) (ap (λ o. o .answer) g) in

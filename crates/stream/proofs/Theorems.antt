@@ -70,7 +70,8 @@ module _ (w : Word) (some-letter : 1 ≤ length w) (few : length w ≤ longestSt
       let inside : length (t ++ v) ≤ longestText =
       omega (arith, length-append t (v ++ joined l), length-append v (joined l), length-append t v) in
       let later = in-turn l (t ++ v) (rw (append-assoc t v (joined l)) fits) in
-      next (finds (searcherOf w t) v) (λ F. piece-taken w t some-letter few v F inside _ (finds-are w t v some-letter)) (rw (append-assoc t v (joined l)) at later)
+      next (finds (searcherOf w t) v) (λ F. piece-taken w t some-letter few v F inside _ (finds-are w t v some-letter))
+      (rw (append-assoc t v (joined l)) at later)
 
   none-yet : occurrences w [] ≡ []
   none-yet = sym (since-start w []) ∙ since-past w [] 0 (omega arith)

@@ -1,8 +1,9 @@
 -- A TEXT IN PIECES, taken one after the other.
 --
 --   joined l           the text that the pieces make
---   InTurn s l f e     taken in turn from the searcher s on, whatever lists are lent, the pieces l find f together and leave the searcher e:
---                      each piece is taken with the searcher that the one before it left, says how many of f end in it, and lists those
+--   InTurn s l f e     taken in turn from the searcher s on, whatever lists are lent, the pieces l find f together and leave the
+--                      searcher e: each is taken with the searcher that the one before it left, says how many of f end in it, and lists
+--                      those, as many as fit
 --
 -- 02, 'Uploads in pieces'.
 use mathlib.Core.Path.{_≡_}

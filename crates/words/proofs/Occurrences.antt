@@ -10,7 +10,8 @@ use lib.ListN.{length, length-take, length-drop}
 use lib.Seq.{ext-getD}
 use Rattle.words.specs.Lists.{from, only, Rising}
 use Rattle.words.specs.Words.{Word, Place, letter, part, stands, occurrences}
-use Rattle.words.proofs.Lists.{only-yes, only-few, only-in, in-only, only-later, only-none, from-length, from-in, in-from, rising-from}
+use Rattle.words.proofs.Lists.{only-yes, only-in, in-only, only-later, only-none, from-in, in-from, rising-from}
+use Rattle.words.proofs.Lists.{only-few, from-length}
 use Rattle.words.proofs.Words.{same-true, same-refl, part-length, part-at}
 
 -- ── stands ─────────────────────────────────────────────────────────────────

@@ -28,7 +28,8 @@ returns-2 c = sym (says-long _ _ (c .before .if1 .left) (omega (arith, streamed-
 returns-3 : tie.Need-returns-3
 returns-3 c =
     let at-few = c .before in
-    sym (says-short _ _ (at-few .before .if1 .left) (omega (arith, streamed-limit, at-few .if2 .left)) (omega (arith, searcher-bytes, c .if3 .taken)))
+    sym (says-short _ _ (at-few .before .if1 .left) (omega (arith, streamed-limit, at-few .if2 .left))
+    (omega (arith, searcher-bytes, c .if3 .taken)))
 
 slice-aggregate-pack : tie.Need-slice-aggregate-pack
 slice-aggregate-pack c =
@@ -46,7 +47,8 @@ pack-requires c κs =
     let few : length word ≤ longestStreamed = omega (arith, streamed-limit, at-few .if2 .left) in
     let no-text : 0 ≤ longestText = omega arith in
     let made = opened-searcher word [] some few (at-open .«open» .result) (at-open .«open» .ensures) in
-    (length-take-le 134 (at-start .args .bytes .now) (at-room .if3 .left) ∙ sym searcher-bytes, rw made (packable (searcher-sound word [] some few no-text)))
+    let size = length-take-le 134 (at-start .args .bytes .now) (at-room .if3 .left) in
+    (size ∙ sym searcher-bytes, rw made (packable (searcher-sound word [] some few no-text)))
 
 returns-4 : tie.Need-returns-4
 returns-4 c =

@@ -53,7 +53,8 @@ returns c =
     let s = at-start .args .s in
     let own : length (s .word) ≡ 64 = search (needs, at-start .good) in
     let its = length-unmapped (u16-field .Value) (s .borders) 64 (at-start .good .0 .1 .1 .1 .0 .1 .0 .1) in
-    packed-parts s own its (at-start .args .out .now) (at-start .pre .0) (at-copy .copy .ensures) (at-narrow .narrow .ensures) (at-rest .copy2 .ensures)
+    packed-parts s own its (at-start .args .out .now) (at-start .pre .0) (at-copy .copy .ensures) (at-narrow .narrow .ensures)
+    (at-rest .copy2 .ensures)
 
 pub pack-spec : {M : Type 1} → statement M
 pack-spec =

@@ -1,5 +1,5 @@
--- `searcher_bytes::take` meets its contract: each return is a case of `takeBytesSays`. What taking hands back with an answer is sound, so it
--- can be packed.
+-- `searcher_bytes::take` meets its contract: each return is a case of `takeBytesSays`. What taking hands back with an answer is sound, so
+-- it can be packed.
 use mathlib.Core.Path.{sym, ap, _∙_}
 use native.Mathlib.Omega.{arith}
 use lib.ListN.{length}
@@ -65,6 +65,8 @@ returns-3 c =
     (at-pack .pack .ensures)
 
 pub take-spec : {M : Type 1} → statement M
-take-spec = tie.close (tie.spec returns (λ c. search needs) slice-aggregate-unpack unpack-requires (λ c κs. search needs) (λ c κs. search needs)
+take-spec =
+    tie.close
+    (tie.spec returns (λ c. search needs) slice-aggregate-unpack unpack-requires (λ c κs. search needs) (λ c κs. search needs)
     (λ c. search needs) (λ c. search needs) returns-2 (λ c. search needs) slice-aggregate-pack pack-requires (λ c. search needs)
     (λ c. search needs) returns-3)

@@ -21,13 +21,17 @@ part-widen-end : tie.Need-part-widen-end
 part-widen-end c = omega (arith, searcher-bytes, c .before .before .before .before .before .pre)
 
 shared-slice-read-low : tie.Need-shared-slice-read-low
-shared-slice-read-low c = omega (arith, searcher-bytes, c .before .before .before .before .before .before .before .before .before .before .pre)
+shared-slice-read-low c =
+    let at-rows = c .before in
+    omega (arith, searcher-bytes, at-rows .before .before .before .before .before .before .before .before .before .pre)
 
 cast-low : tie.Need-cast-low
 cast-low c = omega (arith, c .shared-slice-known2 .given 130)
 
 shared-slice-read-low-2 : tie.Need-shared-slice-read-low-2
-shared-slice-read-low-2 c = omega (arith, searcher-bytes, c .before .before .before .before .before .before .before .before .before .before .before .pre)
+shared-slice-read-low-2 c =
+    let at-rows = c .before .before in
+    omega (arith, searcher-bytes, at-rows .before .before .before .before .before .before .before .before .before .pre)
 
 cast-low-2 : tie.Need-cast-low-2
 cast-low-2 c = omega (arith, c .shared-slice-known3 .given 131)
@@ -39,13 +43,17 @@ add-low-3 : tie.Need-add-low-3
 add-low-3 c = omega (arith, c .shared-slice-known3 .given 130, c .shared-slice-known3 .given 131)
 
 shared-slice-read-high : tie.Need-shared-slice-read-high
-shared-slice-read-high c = omega (arith, searcher-bytes, c .before .before .before .before .before .before .before .before .before .before .before .before .pre)
+shared-slice-read-high c =
+    let at-rows = c .before .before .before in
+    omega (arith, searcher-bytes, at-rows .before .before .before .before .before .before .before .before .before .pre)
 
 cast-high : tie.Need-cast-high
 cast-high c = omega (arith, c .shared-slice-known4 .given 132)
 
 shared-slice-read-high-2 : tie.Need-shared-slice-read-high-2
-shared-slice-read-high-2 c = omega (arith, searcher-bytes, c .before .before .before .before .before .before .before .before .before .before .before .before .before .pre)
+shared-slice-read-high-2 c =
+    let at-rows = c .before .before .before .before in
+    omega (arith, searcher-bytes, at-rows .before .before .before .before .before .before .before .before .before .pre)
 
 cast-high-2 : tie.Need-cast-high-2
 cast-high-2 c = omega (arith, c .shared-slice-known5 .given 133)
@@ -57,13 +65,17 @@ add-high-3 : tie.Need-add-high-3
 add-high-3 c = omega (arith, c .shared-slice-known5 .given 132, c .shared-slice-known5 .given 133)
 
 shared-slice-read-t18 : tie.Need-shared-slice-read-t18
-shared-slice-read-t18 c = omega (arith, searcher-bytes, c .before .before .before .before .before .before .before .before .before .before .before .before .before .before .pre)
+shared-slice-read-t18 c =
+    let at-rows = c .before .before .before .before .before in
+    omega (arith, searcher-bytes, at-rows .before .before .before .before .before .before .before .before .before .pre)
 
 cast-t12 : tie.Need-cast-t12
 cast-t12 c = omega (arith, c .shared-slice-known6 .given 128)
 
 shared-slice-read-t22 : tie.Need-shared-slice-read-t22
-shared-slice-read-t22 c = omega (arith, searcher-bytes, c .before .before .before .before .before .before .before .before .before .before .before .before .before .before .before .pre)
+shared-slice-read-t22 c =
+    let at-rows = c .before .before .before .before .before .before in
+    omega (arith, searcher-bytes, at-rows .before .before .before .before .before .before .before .before .before .pre)
 
 cast-t23 : tie.Need-cast-t23
 cast-t23 c = omega (arith, c .shared-slice-known7 .given 129)
@@ -86,5 +98,5 @@ unpack-spec =
     (tie.spec slice-aggregate-copy (λ c. search needs) copy-requires (λ c. search needs) (λ c. search needs) part-widen-end
     (λ c. search needs) (λ c κs. search needs) (λ c. search needs) shared-slice-read-low cast-low (λ c. search needs)
     shared-slice-read-low-2 cast-low-2 mul-low add-low-3 (λ c. search needs) shared-slice-read-high cast-high (λ c. search needs)
-    shared-slice-read-high-2 cast-high-2 mul-high add-high-3 shared-slice-read-t18 cast-t12 (λ c. search needs) shared-slice-read-t22 cast-t23
-    mul-t24 add-t20 returns)
+    shared-slice-read-high-2 cast-high-2 mul-high add-high-3 shared-slice-read-t18 cast-t12 (λ c. search needs)
+    shared-slice-read-t22 cast-t23 mul-t24 add-t20 returns)

@@ -29,9 +29,9 @@ returns-5 c = sym (unsound _ (λ S. omega (arith, S .inside, text-limit, c .if5 
 
 array-share-prefix-word : tie.Need-array-share-prefix-word
 array-share-prefix-word c =
-    let few = c .before .before .before .before .before .before .before .before .if2 .left in
-    let row : length (c .before .before .before .before .before .before .before .before .before .before .args .s .word) ≡ 64 = search needs in
-    omega (arith, few, row)
+    let at-few = c .before .before .before .before .before .before .before .before in
+    let row : length (at-few .before .before .args .s .word) ≡ 64 = search needs in
+    omega (arith, at-few .if2 .left, row)
 
 slice-aggregate-fresh : tie.Need-slice-aggregate-fresh
 slice-aggregate-fresh c =
@@ -87,4 +87,5 @@ pub can-be-made-spec : {M : Type 1} → statement M
 can-be-made-spec =
     tie.close
     (tie.spec returns returns-2 returns-3 returns-4 returns-5 array-share-prefix-word slice-aggregate-fresh fresh-requires
-    (λ c. search needs) (λ c. search needs) same-bytes-requires returns-6 (λ c. search needs) (λ c. search needs) same-borders-requires returns-7)
+    (λ c. search needs) (λ c. search needs) same-bytes-requires returns-6 (λ c. search needs) (λ c. search needs)
+    same-borders-requires returns-7)
