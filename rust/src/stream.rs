@@ -114,9 +114,9 @@ impl Stream {
     pub(crate) fn take_listed(&mut self, bytes: &[u8]) -> (usize, usize) {
         let mut part = &bytes[..bytes.len().min(self.part)];
         self.make_room(part.len());
-        let before = self.searcher;
+        let before = (part.len() > LIST).then_some(self.searcher);
         let mut found = self.take_part(part, LIST) as usize;
-        if found > LIST {
+        if let Some(before) = before.filter(|_| found > LIST) {
             (self.searcher, self.part) = (before, LIST);
             part = &part[..LIST];
             found = self.take_part(part, LIST) as usize;

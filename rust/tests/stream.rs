@@ -90,6 +90,16 @@ fn crowds_of_finds_between_long_stretches_without_any() {
     }
 }
 
+#[test]
+fn pieces_of_which_every_byte_is_a_find() {
+    let text = [b'a'; 1_100];
+    for n in 0..=text.len() {
+        let mut stream = Stream::new(b"a").unwrap();
+        assert!(stream.take(&text[..n]).eq(0..n as u64));
+        assert!(stream.take(&text[n..]).eq(n as u64..text.len() as u64));
+    }
+}
+
 /// A stream for a word that has taken so many bytes of which none matters.
 fn stream_at(word: &[u8], taken: usize) -> Stream {
     let mut bytes = Stream::new(word).unwrap().to_bytes();

@@ -36,20 +36,18 @@ fn by_plain_stream(word: &[u8], text: &[u8], piece: usize) -> u64 {
     sum
 }
 
-/// Nanoseconds for each byte of the text, once both ways have said the same: of the fastest of nine runs, or of fewer where they take more than two seconds
-/// together. The two take turns, so that a slow moment of the machine falls on both.
+/// Nanoseconds for each byte of the text, once both ways have said the same: of the fastest of the runs of half a second, five at least. The two take turns, so
+/// that a slow moment of the machine falls on both.
 fn duel(ways: [Way; 2], word: &[u8], text: &[u8], piece: usize) -> [f64; 2] {
     assert_eq!(ways[0](word, text, piece), ways[1](word, text, piece));
-    let (mut fastest, started) = ([f64::INFINITY; 2], Instant::now());
-    for _ in 0..9 {
+    let (mut fastest, mut runs, started) = ([f64::INFINITY; 2], 0, Instant::now());
+    while runs < 5 || started.elapsed().as_secs_f64() < 0.5 {
         for (way, best) in ways.iter().zip(&mut fastest) {
             let start = Instant::now();
             black_box(way(black_box(word), black_box(text), piece));
             *best = start.elapsed().as_secs_f64().min(*best);
         }
-        if started.elapsed().as_secs_f64() > 2.0 {
-            break;
-        }
+        runs += 1;
     }
     fastest.map(|seconds| seconds * 1e9 / text.len() as f64)
 }
