@@ -1,7 +1,8 @@
 /* Finding marks in broken ride files, for C99 and C++.
  *
  * A mark is a word of 1 to 4,096 bytes. marks_search lists every place where it stands in a text. marks_save writes its index to a file of at most 20,481
- * bytes, marks_load reads such a file, and marks_search_file searches with one. c/find.c is a program to start from.
+ * bytes, marks_load reads such a file, and marks_search_file searches with one. c/find.c is a program to start from. For a text that comes in pieces there
+ * are marks_open and marks_take, for marks of 1 to 64 bytes, and c/pieces.c.
  *
  * Any bytes and any lengths may be handed to every entry. It returns MARKS_OK and writes its answers through the last pointers; or it refuses: it returns
  * the number of the first refusal in the order given below, and leaves those pointers alone. What is not named below keeps its value: the rest of every
@@ -27,9 +28,9 @@
 enum {
     MARKS_OK = 0,
     MARKS_EMPTY_WORD = 1,    /* the word is empty */
-    MARKS_LONG_WORD = 2,     /* the word is longer than 4,096 */
-    MARKS_SHORT_ROOM = 3,    /* fewer than 6(m+1) table entries; with a file also word room below m */
-    MARKS_LONG_TEXT = 4,     /* the text is longer than 16,777,216 */
+    MARKS_LONG_WORD = 2,     /* the word is longer than 4,096; that of a stream, than 64 */
+    MARKS_SHORT_ROOM = 3,    /* fewer than 6(m+1) table entries; with a file also word room below m; for a stream fewer than MARKS_SEARCHER bytes */
+    MARKS_LONG_TEXT = 4,     /* the text is longer than 16,777,216; or the piece would make the stream so */
     MARKS_CUT_FILE = 5,      /* the file ends before or inside a number, or before the last of the m letters */
     MARKS_BAD_NUMBER = 6,    /* a number's last of several groups is zero, or its fifth byte is above 15 */
     MARKS_OTHER_EDITION = 7, /* edition other than 1 */
@@ -37,7 +38,8 @@ enum {
     MARKS_BAD_COUNT = 9,     /* declared arrows exceed m-1 */
     MARKS_WRONG_ARROW = 10,  /* an arrow differs from the word's extra arrow at that place or none is left there, or arrows are missing */
     MARKS_LEFTOVERS = 11,    /* bytes remain after the last arrow */
-    MARKS_SHORT_OUTPUT = 12  /* output room is below the size of the file to be saved */
+    MARKS_SHORT_OUTPUT = 12, /* output room is below the size of the file to be saved */
+    MARKS_UNMADE = 16        /* the searcher is one that opening and taking bytes could never have made */
 };
 
 /* Room, in elements of the buffer that it is for. A text may be empty, and a list of finds may have any length, 0 too. */
@@ -46,6 +48,8 @@ enum {
 #define MARKS_TABLES(m) (6 * ((m) + 1))                     /* table entries for a word of m letters */
 #define MARKS_MOST_TABLES MARKS_TABLES(MARKS_LONGEST_WORD)  /* table entries for every word */
 #define MARKS_MOST_FILE (5 * MARKS_LONGEST_WORD + 1)        /* output for the file of every word */
+#define MARKS_LONGEST_STREAMED 64                           /* bytes of a word that a stream is opened for */
+#define MARKS_SEARCHER 134                                  /* bytes of a searcher */
 
 #ifdef __cplusplus
 extern "C" {
@@ -76,6 +80,17 @@ uint32_t marks_search(const uint8_t *word, size_t word_len, const uint8_t *text,
  * Refusals: 4, which changes nothing, then as marks_load, with what they leave there; finds are as they were. */
 uint32_t marks_search_file(const uint8_t *file, size_t file_len, const uint8_t *text, size_t text_len, uint8_t *room, size_t room_len,
                            uint16_t *tables, size_t tables_len, uint32_t *finds, size_t finds_len, uint64_t *count, uint64_t *letters);
+
+/* Opens a stream: a searcher for a word of 1 to 64 bytes that has taken nothing, in the first MARKS_SEARCHER bytes of searcher.
+ * Refusals: 1, 2 (longer than 64), 3 (fewer bytes lent). They change nothing. */
+uint32_t marks_open(const uint8_t *word, size_t word_len, uint8_t *searcher, size_t searcher_len);
+
+/* Takes the next piece of the stream, empty ones too: the first MARKS_SEARCHER bytes of searcher become the searcher after the piece. finds gets the starts
+ * of the finds that end in this piece, counted from the stream's first byte, rising, the first of them, as many as fit. The answer is how many end in it,
+ * fitting or not; a piece of k bytes has k at most. However a text is cut, the finds of its pieces together are those of the whole.
+ * The bytes of a searcher hold everything, and may be copied, kept and sent anywhere; docs/FILE.md has their layout.
+ * Refusals: 16 (also where fewer bytes are lent), then 4 where more than 16,777,216 bytes would be taken in all. They change nothing. */
+uint32_t marks_take(uint8_t *searcher, size_t searcher_len, const uint8_t *piece, size_t piece_len, uint32_t *finds, size_t finds_len, uint64_t *count);
 
 #ifdef __cplusplus
 }

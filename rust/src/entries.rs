@@ -1,5 +1,5 @@
 //! The exported entries over lent slices, as they are. Every one may be handed any slices: it answers, or refuses with its number of the table and leaves
-//! what its promise says. Nothing is allocated. [`Mark`](crate::Mark) is easier to use.
+//! what its promise says. Nothing is allocated. [`Mark`](crate::Mark) and [`Stream`](crate::Stream) are easier to use.
 
 use crate::Refusal;
 
@@ -48,6 +48,16 @@ extern "C" {
         finds_len: usize,
         count: *mut u64,
         letters: *mut u64,
+    ) -> u32;
+    fn marks_open(word: *const u8, word_len: usize, searcher: *mut u8, searcher_len: usize) -> u32;
+    fn marks_take(
+        searcher: *mut u8,
+        searcher_len: usize,
+        piece: *const u8,
+        piece_len: usize,
+        finds: *mut u32,
+        finds_len: usize,
+        count: *mut u64,
     ) -> u32;
 }
 
@@ -133,4 +143,22 @@ pub fn search_file(file: &[u8], text: &[u8], room: &mut [u8], tables: &mut [u16]
         )
     };
     told(said, tally)
+}
+
+/// A searcher for a word of 1 to 64 bytes that has taken nothing, in the first [`SEARCHER`](crate::SEARCHER) bytes of `searcher`.
+pub fn open(word: &[u8], searcher: &mut [u8]) -> Result<(), Refusal> {
+    // SAFETY: as above.
+    let said = unsafe { marks_open(word.as_ptr(), word.len(), searcher.as_mut_ptr(), searcher.len()) };
+    told(said, ())
+}
+
+/// Takes the next piece of a stream: the first [`SEARCHER`](crate::SEARCHER) bytes of `searcher` become the searcher after it. `finds` gets the starts of the
+/// finds that end in the piece, counted from the stream's first byte, the first of them, as many as fit; the answer is how many there are.
+pub fn take(searcher: &mut [u8], piece: &[u8], finds: &mut [u32]) -> Result<u64, Refusal> {
+    let mut count = 0;
+    // SAFETY: as above.
+    let said = unsafe {
+        marks_take(searcher.as_mut_ptr(), searcher.len(), piece.as_ptr(), piece.len(), finds.as_mut_ptr(), finds.len(), &mut count)
+    };
+    told(said, count)
 }

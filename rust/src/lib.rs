@@ -16,23 +16,49 @@
 //! # Ok::<(), marks::Refusal>(())
 //! ```
 //!
+//! A [`Stream`] is for a text that comes in pieces, as an upload does, and for words of up to 64 bytes. It takes one piece after the other and keeps none. It
+//! looks at every byte, going forward, so its time is linear whatever the text. A [`Mark`] has to have the whole text: it leaves most bytes of most texts
+//! unread, but reads those of a hostile one many times over.
+//!
+//! ```
+//! use marks::Stream;
+//!
+//! let mut stream = Stream::new(b"aba")?;
+//! let mut finds = Vec::new();
+//! for piece in [&b"ab"[..], b"ab", b"a"] {
+//!     finds.extend(stream.take(piece));
+//! }
+//! assert_eq!(finds, [0, 2]);
+//! # Ok::<(), marks::Refusal>(())
+//! ```
+//!
 //! What is refused is refused with a number of one table, [`Refusal`]; nothing panics, and no declared number is acted on before it is checked. [`entries`]
-//! has the five entries themselves, over slices that the caller lends.
+//! has the seven entries themselves, over slices that the caller lends.
 
 pub mod entries;
 mod finds;
 mod mark;
 mod refusal;
+mod stream;
+mod taken;
 
 pub use finds::Finds;
 pub use mark::Mark;
 pub use refusal::Refusal;
+pub use stream::{Each, Stream};
+pub use taken::Taken;
 
 /// The longest word, in bytes.
 pub const LONGEST_WORD: usize = 4_096;
 
-/// The longest text that one call of an entry takes, in bytes. [`Mark`] takes longer ones, in parts.
+/// The longest text that one call of an entry takes, in bytes, or one searcher in all. [`Mark`] and [`Stream`] take longer ones, in parts.
 pub const LONGEST_TEXT: usize = 16_777_216;
+
+/// The longest word of a [`Stream`], in bytes.
+pub const LONGEST_STREAMED: usize = 64;
+
+/// How many bytes a searcher has, which [`entries::open`] makes and [`entries::take`] takes pieces with.
+pub const SEARCHER: usize = 134;
 
 /// So many bytes are room enough for the file of any word.
 pub const LONGEST_FILE: usize = 5 * LONGEST_WORD + 1;

@@ -18,11 +18,11 @@ use std::{error::Error, fmt};
 pub enum Refusal {
     /// The word is empty.
     EmptyWord = 1,
-    /// The word is longer than 4,096 bytes.
+    /// The word is longer than 4,096 bytes; that of a stream, than 64.
     LongWord = 2,
-    /// Fewer than 6(m+1) table entries are lent, or, with a file, fewer than m bytes for its word.
+    /// Fewer than 6(m+1) table entries are lent, or, with a file, fewer than m bytes for its word; for a stream, fewer bytes than a searcher has.
     ShortRoom = 3,
-    /// The text is longer than 16,777,216 bytes.
+    /// The text is longer than 16,777,216 bytes, or the piece would make its stream so.
     LongText = 4,
     /// The file ends before or inside a number, or before its last letter.
     CutFile = 5,
@@ -40,10 +40,12 @@ pub enum Refusal {
     Leftovers = 11,
     /// The output room is below the size of the file to be saved.
     ShortOutput = 12,
+    /// The searcher is one that opening and taking bytes could never have made.
+    Unmade = 16,
 }
 
 impl Refusal {
-    const TABLE: [Refusal; 12] = [
+    const TABLE: [Refusal; 13] = [
         Refusal::EmptyWord,
         Refusal::LongWord,
         Refusal::ShortRoom,
@@ -56,24 +58,25 @@ impl Refusal {
         Refusal::WrongArrow,
         Refusal::Leftovers,
         Refusal::ShortOutput,
+        Refusal::Unmade,
     ];
 
-    /// Its number in the table, from 1 to 12.
+    /// Its number in the table, from 1 to 12 or 16.
     pub const fn number(self) -> u32 {
         self as u32
     }
 
     /// The refusal that has a number.
     pub(crate) fn of(number: u32) -> Refusal {
-        Refusal::TABLE[number as usize - 1]
+        Refusal::TABLE.into_iter().find(|refusal| refusal.number() == number).expect("an entry refuses with a number of the table")
     }
 
     fn meaning(self) -> &'static str {
         match self {
             Refusal::EmptyWord => "the word is empty",
-            Refusal::LongWord => "the word is longer than 4,096 bytes",
-            Refusal::ShortRoom => "the room lent for the table or for the word is too short",
-            Refusal::LongText => "the text is longer than 16,777,216 bytes",
+            Refusal::LongWord => "the word is longer than 4,096 bytes, or that of a stream than 64",
+            Refusal::ShortRoom => "the room lent for the table, the word or the searcher is too short",
+            Refusal::LongText => "the text is longer than 16,777,216 bytes, or would be with this piece",
             Refusal::CutFile => "the file ends before its last field does",
             Refusal::BadNumber => "a number in the file is not in its one spelling",
             Refusal::OtherEdition => "the file is of another edition than 1",
@@ -82,6 +85,7 @@ impl Refusal {
             Refusal::WrongArrow => "the file's arrows are not those of its word",
             Refusal::Leftovers => "bytes follow the file's last arrow",
             Refusal::ShortOutput => "the room lent for the file is too short",
+            Refusal::Unmade => "no opening and taking can have made this searcher: open one anew and take the text from its start",
         }
     }
 }
@@ -99,10 +103,18 @@ mod tests {
     use super::Refusal;
 
     #[test]
-    fn each_number_is_its_place_in_the_table() {
-        for (place, refusal) in Refusal::TABLE.into_iter().enumerate() {
-            assert_eq!(refusal.number() as usize, place + 1);
-            assert_eq!(Refusal::of(refusal.number()), refusal);
+    fn each_number_is_that_of_one_refusal() {
+        let numbers = Refusal::TABLE.map(Refusal::number);
+        assert_eq!(numbers, [1, 2, 3, 4, 5, 6, 7, 8, 9, 10, 11, 12, 16]);
+        assert_eq!(numbers.map(Refusal::of), Refusal::TABLE);
+    }
+
+    #[test]
+    fn each_is_told_by_a_text_of_its_own_and_its_number() {
+        let told = Refusal::TABLE.map(|refusal| refusal.to_string());
+        for (place, (text, refusal)) in told.iter().zip(Refusal::TABLE).enumerate() {
+            assert!(text.ends_with(&format!(" ({})", refusal.number())), "{text}");
+            assert!(!told[..place].contains(text), "{text}");
         }
     }
 }

@@ -1,5 +1,6 @@
-//! A header that declares four billion letters costs six bytes: the file goes on in memory that cannot be read, and the rooms cannot be touched at all.
-use marks::{table_room, LONGEST_WORD};
+//! A header that declares four billion letters costs six bytes: the file goes on in memory that cannot be read, and the rooms cannot be touched at all. So with
+//! a searcher that is refused: the piece and the list cannot be touched, and no byte behind it can.
+use marks::{entries, table_room, LONGEST_TEXT, LONGEST_WORD, SEARCHER};
 use std::{ffi::c_void, ptr};
 
 const PAGE: usize = 65_536;
@@ -15,6 +16,15 @@ extern "C" {
         tables: *mut u16,
         tables_len: usize,
         m: *mut u64,
+    ) -> u32;
+    fn marks_take(
+        searcher: *mut u8,
+        searcher_len: usize,
+        piece: *const u8,
+        piece_len: usize,
+        finds: *mut u32,
+        finds_len: usize,
+        count: *mut u64,
     ) -> u32;
 }
 
@@ -55,4 +65,38 @@ fn a_declared_length_is_not_acted_on_before_it_is_checked() {
     assert_eq!(load_with_forbidden_rest(&[0x02]), 7);
     assert_eq!(load_with_forbidden_rest(&[0x01, 0x83, 0x00]), 6);
     assert_eq!(load_with_forbidden_rest(&[0x01, 0xFF, 0xFF, 0xFF, 0xFF, 0x10]), 6);
+}
+
+/// Takes a piece with a searcher behind which nothing can be touched. The piece, of so many bytes, and the list cannot be touched at all.
+fn take_with_forbidden_rest(searcher: &[u8], piece_len: usize) -> u32 {
+    let (lent, piece, finds) = (forbidden_behind_a_page(1), forbidden_behind_a_page(1), forbidden_behind_a_page(1));
+    let mut count = 99;
+    // SAFETY: as above.
+    let refused = unsafe {
+        let start = lent.sub(searcher.len());
+        ptr::copy_nonoverlapping(searcher.as_ptr(), start, searcher.len());
+        let refused = marks_take(start, searcher.len(), piece, piece_len, finds.cast(), 1 << 10, &mut count);
+        assert_eq!(std::slice::from_raw_parts(start, searcher.len()), searcher);
+        refused
+    };
+    assert_eq!(count, if refused == 0 { 0 } else { 99 });
+    refused
+}
+
+#[test]
+fn a_refused_piece_is_not_looked_at_nor_anything_behind_the_searcher() {
+    let mut searcher = [0; SEARCHER];
+    entries::open(&[b'a'; 64], &mut searcher).unwrap();
+    assert_eq!(take_with_forbidden_rest(&searcher, 0), 0);
+    assert_eq!(take_with_forbidden_rest(&searcher, LONGEST_TEXT + 1), 4);
+    assert_eq!(take_with_forbidden_rest(&searcher, usize::MAX >> 1), 4);
+    for short in 0..SEARCHER {
+        assert_eq!(take_with_forbidden_rest(&searcher[..short], 100), 16);
+    }
+    // a word's length, a kept one, and numbers of bytes taken
+    for (place, refusal) in [(128, 16), (129, 16), (130, 4), (131, 4), (132, 4), (133, 16)] {
+        let mut forged = searcher;
+        forged[place] = 255;
+        assert_eq!(take_with_forbidden_rest(&forged, LONGEST_TEXT), refusal);
+    }
 }

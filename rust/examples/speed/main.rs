@@ -1,7 +1,9 @@
-//! speed: measures `build`, `load` and `search` on this machine, and prints the tables of docs/SPEED.md, each between two lines that name it. Run it by
+//! speed: measures `build`, `load`, `search` and `take` on this machine, and prints the tables of docs/SPEED.md, each between two lines that name it. Run it by
 //! `tools/speed`.
 
+mod pieces;
 mod plain;
+mod plain_stream;
 mod rivals;
 
 use marks::entries::{build, load, save, search, Tally};
@@ -266,4 +268,5 @@ fn main() {
     letters_read();
     hostile_times();
     periodic_times();
+    pieces::piece_times();
 }

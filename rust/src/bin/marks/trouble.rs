@@ -67,7 +67,7 @@ pub fn advice(refusal: Refusal) -> &'static str {
         Refusal::OtherEdition => "it is no mark file, or of a later edition: save the mark again",
         Refusal::BadLength | Refusal::BadCount | Refusal::WrongArrow => "it is damaged or no mark file: save the mark again",
         Refusal::Leftovers => "something was added to it: save the mark again",
-        // the program lends room enough for every word and every file, and texts in parts
-        Refusal::ShortRoom | Refusal::LongText | Refusal::ShortOutput => "this is a fault of the program: report it",
+        // the program lends room enough for every word and every file, and texts in parts; it opens no stream
+        Refusal::ShortRoom | Refusal::LongText | Refusal::ShortOutput | Refusal::Unmade => "this is a fault of the program: report it",
     }
 }
