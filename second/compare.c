@@ -1092,16 +1092,19 @@ static void forge_length(const uint8_t *made)
 /* every length of what is kept, with every number of bytes taken at which something changes */
 static void forge_counts(const uint8_t *made)
 {
+    static const uint64_t takens[] = {0, 1, 64, 255, 256, 65535, 65536, MOST_TEXT - 64, MOST_TEXT - 1, MOST_TEXT, MOST_TEXT + 1,
+                                      MOST_TEXT + 256, 2 * MOST_TEXT, UINT32_MAX - MOST_TEXT, UINT32_MAX - 1, UINT32_MAX};
     uint8_t forged[SEARCHER_BYTES];
     size_t m = made[AT_LENGTH];
     memcpy(forged, made, SEARCHER_BYTES);
     for (size_t kept = 0; kept < 256; kept += kept < m + 2 || kept > 250 ? 1 : 1 + below(40)) {
-        uint64_t takens[] = {0, 1, kept - (kept > 0), kept, kept + 1, m, 255, 256, 65535, 65536, MOST_TEXT - 64, MOST_TEXT - 1, MOST_TEXT,
-                             MOST_TEXT + 1, MOST_TEXT + 256, 2 * MOST_TEXT, UINT32_MAX - MOST_TEXT, UINT32_MAX - 1, UINT32_MAX,
-                             (uint32_t)chance()};
         forged[AT_KEPT] = (uint8_t)kept;
         for (size_t i = 0; i < sizeof takens / sizeof *takens; i++) {
             set_taken(forged, takens[i]);
+            try_searcher(forged);
+        }
+        for (uint64_t taken = kept > 0 ? kept - 1 : 0; taken <= kept + 1; taken++) {
+            set_taken(forged, taken);
             try_searcher(forged);
         }
     }

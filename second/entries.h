@@ -81,9 +81,7 @@ struct outcome {
                                           l->len[FINDS], a, b);                                                                            \
             break;                                                                                                                         \
         case OPEN: o.number = SIDE##_open(input, input_len, l->at[SEARCHER], l->len[SEARCHER]); break;                                     \
-        case TAKE:                                                                                                                         \
-            o.number = SIDE##_take(l->at[SEARCHER], l->len[SEARCHER], text, text_len, l->at[FINDS], l->len[FINDS], a);                     \
-            break;                                                                                                                         \
+        case TAKE: o.number = SIDE##_take(l->at[SEARCHER], l->len[SEARCHER], text, text_len, l->at[FINDS], l->len[FINDS], a); break;       \
         case ENTRIES: break;                                                                                                               \
         }                                                                                                                                  \
         return o;                                                                                                                          \

@@ -468,7 +468,8 @@ static uint64_t take_piece(uint8_t *searcher, const uint8_t *piece, size_t piece
 {
     static uint8_t heard[MOST_STREAMED + MOST_TEXT];
     const uint8_t *word = searcher + AT_LETTERS;
-    size_t m = searcher[AT_LENGTH], kept = SLIP == 44 || (SLIP == 62 && piece_len == 0) ? 0 : searcher[AT_KEPT], heard_len = kept + piece_len;
+    bool forgets = SLIP == 44 || (SLIP == 62 && piece_len == 0);
+    size_t m = searcher[AT_LENGTH], kept = forgets ? 0 : searcher[AT_KEPT], heard_len = kept + piece_len;
     uint64_t taken = bytes_taken(searcher), first = SLIP == 46 ? 0 : taken - kept;
     memcpy(heard, word, kept);
     if (piece_len > 0)
