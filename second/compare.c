@@ -888,7 +888,7 @@ static void every_cutting(const uint8_t *word, size_t m, const uint8_t *text, si
     cut_every_way(&w, searcher, 0);
 }
 
-/* A cutting of a text begins with one of each shorter text that it begins with, so texts of n letters are enough. */
+/* The beginnings of a text are cut in every way with it, so texts of n letters are enough. */
 static void every_text_cut(size_t longest_word, size_t n)
 {
     uint8_t word[MOST_CUT], text[MOST_CUT];
@@ -928,7 +928,7 @@ static void every_text_of_12_cut(void)
 
 /* ---- streams: long texts, cut by chance ---- */
 
-/* pieces of up to so many bytes; none has a byte now and then */
+/* pieces of up to so many bytes, an empty one now and then */
 static void cut_by_chance(struct whole *w, size_t longest)
 {
     uint8_t searcher[SEARCHER_BYTES];
@@ -959,7 +959,7 @@ static void cut_long_text(size_t m, unsigned letters, enum kind kind)
     }
 }
 
-/* a word of one period in a text of the same, which it never leaves; each byte from the word's last on ends a find where the period is 1 */
+/* a word in a text of the same period, so that it stands there once in each period */
 static void cut_hostile_text(size_t m, size_t period)
 {
     enum { HOSTILE_TEXT = 200000 };
@@ -1171,7 +1171,7 @@ static void forge_random(void)
     }
 }
 
-/* a searcher that took a text with the word in it, and then a beginning of the word */
+/* a searcher just opened, or more often one that took a text and then a beginning of the word */
 static void make_searcher(size_t m, enum kind kind, uint8_t *searcher)
 {
     uint8_t word[MOST_STREAMED], text[300];
@@ -1827,8 +1827,9 @@ static void mixed_stream(void)
         make_noise(forged, sizeof forged);
         memcpy(forged, searcher, SEARCHER_BYTES);
         forge_some(forged);
+        size_t lent = some_room(SEARCHER_BYTES);
         if (below(4) == 0)
-            run_take(forged, some_room(a.len[SEARCHER]) % sizeof forged, text + at, piece, below(4));
+            run_take(forged, lent, text + at, piece, below(4));
         run_take(searcher, a.len[SEARCHER], text + at, piece, some_list(piece));
     }
 }
