@@ -8,10 +8,10 @@
 --   refusesOnly l a  whether a is done, or refused with one of the numbers l and nothing but the number
 --   numberOf r       the number of the code's refusal r
 --   refusedAs r      what it means
---   sizeAnswer r     what the code's answer r means: the letters of a word, or the bytes of a file
+--   sizeAnswer r     what the code's answer r means: the letters of a word, the bytes of a file, or a number of finds
 --   tallyAnswer r    the same of a search: finds and letters read
 --
--- 01, 'When the library says no'.
+-- 01, 'When the library says no'; 02, 'Uploads in pieces'.
 use mathlib.Core.Path.{_≡_}
 use mathlib.Core.Bool.{Bool, true, false, _||_}
 use mathlib.Core.List.{List, [], _∷_}
@@ -45,6 +45,9 @@ longText = 4
 abbrev pub shortOutput : ℕ
 shortOutput = 12
 
+abbrev pub unmade : ℕ
+unmade = 16
+
 pub record Line : Type 0 where
   pub number : ℕ
   pub given-when : String
@@ -54,10 +57,10 @@ line n s = record { number = n; given-when = s }
 
 unfoldable pub refusals : List Line
 refusals =
-    line emptyWord "the word is empty (build, save, search)"
-    ∷ line longWord "the word is longer than 4,096 (the same)"
-    ∷ line shortRoom "fewer than 6(m+1) table entries, or, when loading or searching with a file, word room below m"
-    ∷ line longText "the text is longer than 16,777,216"
+    line emptyWord "the word is empty (build, save, search, open)"
+    ∷ line longWord "the word is longer than 4,096 (build, save, search), or than 64 (open)"
+    ∷ line shortRoom "fewer than 6(m+1) table entries, or, when loading or searching with a file, word room below m; fewer bytes than a searcher has"
+    ∷ line longText "the text is longer than 16,777,216, or with the piece the stream would be"
     ∷ line 5 "the file ends before or inside a number, or before the last of the m letters"
     ∷ line 6 "a number's last of several groups is zero, or its fifth byte is above 15"
     ∷ line 7 "edition other than 1"
@@ -66,6 +69,7 @@ refusals =
     ∷ line 10 "an arrow differs from the word's extra arrow at that place or none is left there, or arrows are missing"
     ∷ line 11 "bytes remain after the last arrow"
     ∷ line shortOutput "output room is below the size of the file to be saved"
+    ∷ line unmade "opening and taking bytes could never have made the searcher"
     ∷ []
 
 -- ── Answers ────────────────────────────────────────────────────────────────

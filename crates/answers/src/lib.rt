@@ -14,13 +14,15 @@ pub const LONG_TEXT: u8 = 4;
 
 pub const SHORT_OUTPUT: u8 = 12;
 
+pub const UNMADE: u8 = 16;
+
 // A number, alone or with the place of the file where it shows.
 pub enum Refusal {
     Numbered(u8),
     Placed(u8, usize),
 }
 
-// The letters of a word, or the bytes of a file.
+// The letters of a word, the bytes of a file, or a number of finds.
 pub enum SizeAnswer {
     Done(usize),
     Refused(Refusal),

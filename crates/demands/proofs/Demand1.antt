@@ -48,7 +48,7 @@ use Rattle.mark_files.proofs.SearchFileSays
 -- number.
 
 -- the numbers of the written table
-pub table-numbers : map (λ r. r .number) refusals ≡ 1 ∷ 2 ∷ 3 ∷ 4 ∷ 5 ∷ 6 ∷ 7 ∷ 8 ∷ 9 ∷ 10 ∷ 11 ∷ 12 ∷ []
+pub table-numbers : map (λ r. r .number) refusals ≡ 1 ∷ 2 ∷ 3 ∷ 4 ∷ 5 ∷ 6 ∷ 7 ∷ 8 ∷ 9 ∷ 10 ∷ 11 ∷ 12 ∷ 16 ∷ []
 unfolding refusals
 table-numbers = refl
 

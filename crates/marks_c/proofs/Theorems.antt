@@ -17,6 +17,11 @@ use Rattle.mark_files.specs.Load.{loadSays}
 use Rattle.mark_files.specs.SearchFile.{searchFileSays}
 use Rattle.marks.proofs.Numbers.{build-numbers, search-numbers}
 use Rattle.mark_files.proofs.Numbers.{save-numbers, loading, load-numbers, searching, search-file-numbers}
+use Rattle.searcher_bytes.specs.OpenBytes.{openBytesSays}
+use Rattle.searcher_bytes.specs.TakeBytes.{takeBytesSays}
+use Rattle.searcher_bytes.proofs.OpenBytesSays.{open-numbers}
+use Rattle.searcher_bytes.proofs.TakeBytesSays.{take-numbers}
+use Rattle.marks_c.specs.Streams.{openCallSays, takeCallSays}
 use Rattle.marks_c.specs.Calls.{resultOf, buildCallSays, saveCallSays, loadCallSays, searchCallSays, searchFileCallSays}
 
 -- two outcomes that a call's promise allows are equal, whichever call it is
@@ -55,3 +60,12 @@ pub search-file-done : (file : List ℕ) (text : Word) (R T : List ℕ) (F : Lis
     → (searchFileCallSays file text R T F c l .result ≡ 0) ↔ Succeeds (searchFileSays file text R T F .answer)
 unfolding oneOf
 search-file-done file text R T F c l = done-exactly searching refl _ (search-file-numbers file text R T F)
+
+pub open-done : (word : Word) (B : List ℕ) → (openCallSays word B .result ≡ 0) ↔ Succeeds (openBytesSays word B .answer)
+unfolding oneOf
+open-done word B = done-exactly (1 ∷ 2 ∷ 3 ∷ []) refl _ (open-numbers word B)
+
+pub take-done : (B : List ℕ) (piece : Word) (F : List Place) (c : ℕ)
+    → (takeCallSays B piece F c .result ≡ 0) ↔ Succeeds (takeBytesSays B piece F .answer)
+unfolding oneOf
+take-done B piece F c = done-exactly (16 ∷ 4 ∷ []) refl _ (take-numbers B piece F)

@@ -6,6 +6,7 @@ ghost use Rattle.answers.specs.Answers.{sizeAnswer, tallyAnswer};
 ghost use Rattle.marks_c.specs.Calls.{resultOf, sizeGiven, countGiven, lettersGiven};
 ghost use Rattle.marks_c.specs.Calls.{buildCall, buildCallSays, saveCall, saveCallSays, loadCall, loadCallSays};
 ghost use Rattle.marks_c.specs.Calls.{searchCall, searchCallSays, searchFileCall, searchFileCallSays};
+ghost use Rattle.marks_c.specs.Streams.{openCall, openCallSays, takeCall, takeCallSays};
 
 // What C is told of an answer: the number that is returned, and the size where the entry is done.
 fn tell_size(answer: answers::SizeAnswer, size: &mut u64) -> u32
@@ -17,6 +18,16 @@ fn tell_size(answer: answers::SizeAnswer, size: &mut u64) -> u32
             0
         }
         answers::SizeAnswer::Refused(why) => answers::number(why) as u32,
+    }
+}
+
+// The same where C is told the number alone.
+fn tell(answer: answers::SizeAnswer) -> u32
+    ensures { λ r. ⌜ r ≡ resultOf (sizeAnswer answer) ⌝ }
+{
+    match answer {
+        answers::SizeAnswer::Done(n) => 0,
+        answers::SizeAnswer::Refused(reason) => answers::number(reason) as u32,
     }
 }
 
@@ -101,4 +112,26 @@ pub extern "C" fn marks_search_file(
 {
     let searched = mark_files::search_file(file, text, room, tables, finds);
     tell_tally(searched, count, letters)
+}
+
+#[no_mangle]
+pub extern "C" fn marks_open(word: &[u8], searcher: &mut [u8]) -> u32
+    ensures { λ r. ⌜ openCall r (now (searcher .exit)) ≡ openCallSays (now (word .entry)) (now (searcher .entry)) ⌝ }
+{
+    let opened = searcher_bytes::open(word, searcher);
+    tell(opened)
+}
+
+#[no_mangle]
+pub extern "C" fn marks_take(
+    searcher: &mut [u8],
+    piece: &[u8],
+    finds: &mut [u32],
+    count: &mut u64,
+) -> u32
+    ensures { λ r. ⌜ takeCall r (now (searcher .exit)) (now (finds .exit)) (now (count .exit))
+        ≡ takeCallSays (now (searcher .entry)) (now (piece .entry)) (now (finds .entry)) (now (count .entry)) ⌝ }
+{
+    let taken = searcher_bytes::take(searcher, piece, finds);
+    tell_size(taken, count)
 }

@@ -3,7 +3,8 @@
 use mathlib.Core.Path.{_≡_, refl, sym, ap, _∙_}
 use mathlib.Core.Logic.{⊎-elim, _≢_}
 use mathlib.Core.List.{List, [], _∷_, _++_, List·Memᴰ, List·Memᴰ·head, List·Memᴰ·tail, List·Memᴰ·append-cases}
-use Prim.Native.Nat.{suc, _≤_}
+use Prim.Native.Nat.{ℕ, zero, suc, _≤_, _<_}
+use native.Mathlib.Decide.{ℕ-discrete}
 use native.Mathlib.Omega.{arith}
 use lib.ListN.{length}
 
@@ -43,3 +44,31 @@ module _ {A : Type 0} where
       let m = f a (List·Memᴰ·head refl) in
       let rest = distinct-length L (without E m) (λ b i. others-stay E m (f b (List·Memᴰ·tail i)) (n b i)) in
       omega (arith, without-length E m, rest)
+
+-- ── A number that a list lacks ─────────────────────────────────────────────
+
+member-or-not : (x : ℕ) (l : List ℕ) → Dec (List·Memᴰ x l)
+member-or-not x [] = no (λ m. elim m [ ])
+member-or-not x (a ∷ l) = by (ℕ-discrete x a) (member-or-not x l)
+  where
+    neither : x ≢ a → (List·Memᴰ x l → ⊥) → List·Memᴰ x (a ∷ l) → ⊥
+    neither d f (List·Memᴰ·head e) = d e
+    neither d f (List·Memᴰ·tail m) = f m
+
+    by : Dec (x ≡ a) → Dec (List·Memᴰ x l) → Dec (List·Memᴰ x (a ∷ l))
+    by (yes e) r = yes (List·Memᴰ·head e)
+    by (no d) (yes m) = yes (List·Memᴰ·tail m)
+    by (no d) (no f) = no (neither d f)
+
+-- of n numbers, a list of fewer lacks one
+pub lacking : (n : ℕ) (l : List ℕ) → length l < n → (x : ℕ) × (x < n) × (List·Memᴰ x l → ⊥)
+lacking zero l h = absurd (omega arith)
+lacking (suc n) l h = by (member-or-not n l) (λ m. lacking n (without l m) (omega (arith, without-length l m)))
+  where
+    by : Dec (List·Memᴰ n l) → ((m : List·Memᴰ n l) → (x : ℕ) × (x < n) × (List·Memᴰ x (without l m) → ⊥))
+        → (x : ℕ) × (x < suc n) × (List·Memᴰ x l → ⊥)
+    by (no f) rest = (n, omega arith, f)
+    by (yes m) rest =
+        let r = rest m in
+        let less = r .1 in
+        (r .0, omega arith, λ i. r .2 (others-stay l m i (λ e. omega arith)))

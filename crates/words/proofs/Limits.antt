@@ -6,7 +6,7 @@ use Prim.Native.Nat.{ℕ, _+_, _*_, _≤_, _<_}
 use native.Mathlib.Omega.{arith}
 use lib.Dec.{leb, ltb}
 use borrow.Author.Tests.{le-leb, lt-leb, lt-ltb, le-ltb}
-use Rattle.words.specs.Limits.{longestWord, longestText, leastSaved, greatestFile}
+use Rattle.words.specs.Limits.{longestWord, longestText, longestStreamed, leastSaved, greatestFile}
 
 -- ── The code's constants ───────────────────────────────────────────────────
 
@@ -19,6 +19,11 @@ word-limit = refl
 pub text-limit : longestText ≡ 16777216
 unfolding longestText
 text-limit = refl
+
+-- STREAMED_LIMIT
+pub streamed-limit : longestStreamed ≡ 64
+unfolding longestStreamed
+streamed-limit = refl
 
 -- LEAST_SAVED
 pub least-saved : leastSaved ≡ 1

@@ -1,12 +1,12 @@
 -- Laws of lists in general, of `from`, `only` and `first`, and of lists that rise: what is in such a list, where, and in which order. Each
 -- goes by induction on the list or on how many numbers `from` has; where a test decides, by its two cases. First the cases themselves.
 use mathlib.Core.Path.{_≡_, refl, sym, ap, _∙_}
-use mathlib.Core.Bool.{Bool, true, false, _&&_}
+use mathlib.Core.Bool.{Bool, true, false, cond, _&&_}
 use mathlib.Core.Logic.{⊎-elim, by-cases}
 use mathlib.Core.Option.{Option, none, some}
 use mathlib.Core.List.{List, [], _∷_, _++_, map, List·Memᴰ, List·Memᴰ·head, List·Memᴰ·tail, List·Memᴰ·cases-cons}
 use Prim.Native.Nat.{ℕ, zero, suc, _+_, _-_, _≤_, _<_}
-use native.Mathlib.Nat.{le-refl, add-zero, add-suc, suc-add, sub-zero, zero-sub, suc-sub-suc}
+use native.Mathlib.Nat.{le-refl, zero-add, add-zero, add-suc, suc-add, sub-zero, zero-sub, suc-sub-suc}
 use native.Mathlib.Decide.{ℕ-discrete}
 use native.Mathlib.Omega.{arith}
 use lib.ListN.{length, getD, List·getD-map}
@@ -84,6 +84,15 @@ pub from-length : (a k : ℕ) → length (from a k) ≡ k
 unfolding from
 from-length a zero = refl
 from-length a (suc k) = ap suc (from-length (suc a) k)
+
+-- j + k numbers are the first j of them, and k behind those
+pub from-append : (a j k : ℕ) → from a (j + k) ≡ from a j ++ from (a + j) k
+unfolding from
+from-append a zero k = rw (zero-add k, add-zero a)
+from-append a (suc j) k =
+    let n : suc j + k ≡ suc (j + k) = omega arith in
+    let e : suc a + j ≡ a + suc j = omega arith in
+    rw (n, from) (ap {B = List ℕ} (λ l. a ∷ l) (from-append (suc a) j k ∙ rw e))
 
 -- entry i of a function's values at a, a + 1, ..
 pub map-from-at : (f : ℕ → ℕ) (a k i d : ℕ) → i < k → getD (map f (from a k)) i d ≡ f (a + i)
@@ -204,6 +213,17 @@ pub only-same : (P Q : ℕ → Bool) (a k : ℕ) → ((j : ℕ) → a ≤ j → 
 unfolding only from
 only-same P Q a zero h = refl
 only-same P Q a (suc k) h = rw (h a (le-refl a) (omega arith), only-same P Q (suc a) k (λ j l b. h j (omega arith) (omega arith)))
+
+-- a test of numbers that are d further on
+pub only-shift : (P : ℕ → Bool) (d a k : ℕ) → only P (from (d + a) k) ≡ map (λ q. d + q) (only (λ q. P (d + q)) (from a k))
+unfolding only from
+only-shift P d a zero = refl
+only-shift P d a (suc k) =
+    by (P (d + a)) (only P (from (suc (d + a)) k)) (only (λ q. P (d + q)) (from (suc a) k)) (rw (add-suc d a) at (only-shift P d (suc a) k))
+  where
+    by : (b : Bool) (l r : List ℕ) → l ≡ map (λ q. d + q) r → cond b ((d + a) ∷ l) l ≡ map (λ q. d + q) (cond b (a ∷ r) r)
+    by true l r e = ap {B = List ℕ} (λ l. (d + a) ∷ l) e
+    by false l r e = e
 
 -- an entry behind n others
 pub at-behind : (a b : List ℕ) (n i : ℕ) → length a ≡ n → at (a ++ b) (n + i) ≡ at b i

@@ -2,10 +2,11 @@
 --
 --   longestWord     the greatest number of letters of a word
 --   longestText     the greatest number of letters of a text
+--   longestStreamed the greatest number of letters of a word that a stream is opened for
 --   leastSaved      the least number of letters of a word that is saved
 --   greatestFile    so many bytes are always room enough for a file
 --
--- 01, 'What the base holds' and 'The file on disk'.
+-- 01, 'What the base holds' and 'The file on disk'; 02, 'Uploads in pieces'.
 use Prim.Native.Nat.{ℕ, _+_, _*_}
 
 unfoldable pub longestWord : ℕ
@@ -13,6 +14,9 @@ longestWord = 4096
 
 unfoldable pub longestText : ℕ
 longestText = 16777216
+
+unfoldable pub longestStreamed : ℕ
+longestStreamed = 64
 
 unfoldable pub leastSaved : ℕ
 leastSaved = 1

@@ -1,0 +1,5 @@
+pub mod Kept
+pub mod OnlyKept
+pub mod OneLetter
+pub mod Reaching
+pub mod Running

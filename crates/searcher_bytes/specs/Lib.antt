@@ -1,0 +1,4 @@
+pub mod Packing
+pub mod OpenBytes
+pub mod TakeBytes
+pub mod Cases

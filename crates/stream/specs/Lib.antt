@@ -1,0 +1,5 @@
+pub mod Searchers
+pub mod Opening
+pub mod Taking
+pub mod Pieces
+pub mod Cases
