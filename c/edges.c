@@ -14,7 +14,7 @@
 enum { THREADS = 8, MOST = 64 * 1024, GUARD = MOST, PAINT = 0xa5, TEXT = 65536 };
 
 static uint16_t tables[MARKS_TABLES(1)];
-static uint8_t room[1], out[4];
+static uint8_t room[1], out[4], searcher[MARKS_SEARCHER];
 static uint32_t finds[2];
 static uint64_t count, letters;
 
@@ -45,13 +45,31 @@ static void null_buffers(void)
     printf(", %" PRIu64 " places, %" PRIu64 " letters\n", count, letters);
 }
 
+static void null_buffers_of_streams(void)
+{
+    const uint8_t *a = (const uint8_t *)"a", *aa = (const uint8_t *)"aa";
+    printf("open, no word: %" PRIu32 "\n", marks_open(NULL, 0, searcher, MARKS_SEARCHER));
+    printf("open, no searcher: %" PRIu32 "\n", marks_open(a, 1, NULL, 0));
+    printf("take, searcher of zeros: %" PRIu32 "\n", marks_take(searcher, MARKS_SEARCHER, aa, 2, finds, 2, &count));
+    printf("take, no searcher: %" PRIu32 "\n", marks_take(NULL, 0, aa, 2, finds, 2, &count));
+    printf("open: %" PRIu32 "\n", marks_open(a, 1, searcher, MARKS_SEARCHER));
+    printf("take, no piece: %" PRIu32, marks_take(searcher, MARKS_SEARCHER, NULL, 0, finds, 2, &count));
+    printf(", %" PRIu64 " places\n", count);
+    printf("take, no list: %" PRIu32, marks_take(searcher, MARKS_SEARCHER, aa, 2, NULL, 0, &count));
+    printf(", %" PRIu64 " places\n", count);
+    printf("take, no piece and no list: %" PRIu32, marks_take(searcher, MARKS_SEARCHER, NULL, 0, NULL, 0, &count));
+    printf(", %" PRIu64 " places\n", count);
+}
+
 /* the longest word of a's and one b: its last letter climbs over every state, and does so too where the mirror is looked for, which stands in the text at a
- * place of the thread's own */
+ * place of the thread's own; the first letters of the mirror, as many as a stream's word can have, are looked for in two pieces, cut inside of the find */
 struct work {
     uint8_t word[MARKS_LONGEST_WORD], mirror[MARKS_LONGEST_WORD], text[TEXT], room[MARKS_LONGEST_WORD], file[MARKS_MOST_FILE];
     uint16_t tables[MARKS_MOST_TABLES];
-    uint32_t finds[2], file_finds[2], said;
-    uint64_t m, length, count, file_count, letters;
+    uint8_t searcher[MARKS_SEARCHER];
+    uint32_t finds[2], file_finds[2], stream_finds[2], said;
+    uint64_t m, length, count, file_count, before_cut, stream_count, letters;
+    size_t cut;
     uint8_t *stack;
 };
 
@@ -81,6 +99,9 @@ static void *deepest(void *mine)
     w->said += marks_search(w->mirror, MARKS_LONGEST_WORD, w->text, TEXT, w->tables, MARKS_MOST_TABLES, w->finds, 2, &w->count, &w->letters);
     w->said += marks_search_file(w->file, w->length, w->text, TEXT, w->room, MARKS_LONGEST_WORD, w->tables, MARKS_MOST_TABLES, w->file_finds, 2,
                                  &w->file_count, &w->letters);
+    w->said += marks_open(w->mirror, MARKS_LONGEST_STREAMED, w->searcher, MARKS_SEARCHER);
+    w->said += marks_take(w->searcher, MARKS_SEARCHER, w->text, w->cut, w->stream_finds, 2, &w->before_cut);
+    w->said += marks_take(w->searcher, MARKS_SEARCHER, w->text + w->cut, TEXT - w->cut, w->stream_finds, 2, &w->stream_count);
     return NULL;
 }
 
@@ -100,6 +121,7 @@ int main(void)
     pthread_t threads[THREADS];
     size_t most = 0;
     null_buffers();
+    null_buffers_of_streams();
     for (int i = 0; i < THREADS; i++) {
         memset(works[i].word, 'a', MARKS_LONGEST_WORD - 1);
         works[i].word[MARKS_LONGEST_WORD - 1] = 'b';
@@ -107,14 +129,16 @@ int main(void)
         works[i].mirror[0] = 'b';
         memset(works[i].text, 'a', TEXT);
         works[i].text[1000 * i] = 'b';
+        works[i].cut = 1000 * (size_t)i + MARKS_LONGEST_STREAMED / 2;
         if (start(&threads[i], &works[i]) != 0)
             return 1;
     }
     for (int i = 0; i < THREADS; i++) {
         if (pthread_join(threads[i], NULL) != 0)
             return 1;
-        printf("thread %d: %" PRIu32 ", file of %" PRIu64 " bytes, %" PRIu64 " place at %" PRIu32 ", with the file %" PRIu64 " at %" PRIu32 "\n", i,
-               works[i].said, works[i].length, works[i].count, works[i].finds[0], works[i].file_count, works[i].file_finds[0]);
+        printf("thread %d: %" PRIu32 ", file of %" PRIu64 " bytes, %" PRIu64 " place at %" PRIu32 ", with the file %" PRIu64 " at %" PRIu32, i, works[i].said,
+               works[i].length, works[i].count, works[i].finds[0], works[i].file_count, works[i].file_finds[0]);
+        printf(", in pieces %" PRIu64 " and %" PRIu64 " at %" PRIu32 "\n", works[i].before_cut, works[i].stream_count, works[i].stream_finds[0]);
         most = touched(works[i].stack) > most ? touched(works[i].stack) : most;
     }
     fprintf(stderr, "edges: a thread touched at most %zu of its %zu bytes of stack\n", most, stack_size());

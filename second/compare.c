@@ -7,7 +7,10 @@
 
    Mistakes on purpose that stand here (see second.c):
      slip 31: only the worked examples are run
-     slip 32: a byte behind the library's tables is changed after the call */
+     slip 32: a byte behind the library's tables is changed after the call
+     slip 67: a byte behind the searcher, inside what is lent, is changed on both sides after the call
+     slip 68: past the worked examples, a piece has one find fewer on both sides
+     slip 69: past the worked examples, both sides say that they took what nobody can have made */
 #define _DEFAULT_SOURCE
 #include "entries.h"
 
@@ -23,7 +26,7 @@
 #define SLIP 0
 #endif
 
-enum { NUMBERS = 13, GUARD = 256, NOISE = 1 << 16 };
+enum { GUARD = 256, NOISE = 1 << 16 };
 
 /* lengths of long words: around two powers of two, and up to the limit */
 #define LONG_EDGES 1023, 1024, 1025, 2047, 2048, 2049, MOST_LETTERS - 1, MOST_LETTERS
@@ -62,6 +65,7 @@ enum fill { STRANGERS, ZEROS, ONES, FILLS }; /* what stands in a lent buffer bef
 struct asked {
     enum entry entry;
     const uint8_t *input, *text;
+    const uint8_t *searcher; /* what stands in it before, where that is not the fill */
     size_t len[SLICES];
     enum fill fill;
     bool nulls;  /* a slice of length 0 is handed over as a null pointer */
@@ -137,9 +141,10 @@ static void print_asked(const struct asked *a)
 {
     printf("  asked: %s, case %" PRIu64 "%s%s\n", entry_name[a->entry], cases, a->nulls ? ", null pointers for length 0" : "",
            a->inside ? ", the word lent from the text" : "");
-    print_bytes(slice_name[INPUT], a->input, a->len[INPUT]);
-    if (lent_slices[a->entry] & 1 << TEXT)
-        print_bytes(slice_name[TEXT], a->text, a->len[TEXT]);
+    const uint8_t *const contents[SLICES] = {[INPUT] = a->input, [TEXT] = a->text, [SEARCHER] = a->searcher};
+    for (int s = 0; s < SLICES; s++)
+        if (contents[s] != NULL && (lent_slices[a->entry] & 1u << s))
+            print_bytes(slice_name[s], contents[s], a->len[s]);
     for (int s = ROOM; s < SLICES; s++)
         if (lent_slices[a->entry] & 1u << s)
             printf("  %s: %zu elements\n", slice_name[s], a->len[s]);
@@ -165,27 +170,24 @@ static size_t first_other(const uint8_t *a, const uint8_t *b, size_t bytes)
     return i;
 }
 
-/* says what is wrong with a slice afterwards, or nothing */
-static bool slice_differs(int s, char *what, size_t room)
+/* says what is wrong with a slice after an answer, or nothing */
+static bool slice_differs(enum entry entry, int s, uint32_t number, char *what, size_t room)
 {
     const struct zone *z = &zones[s];
-    size_t all = z->at + z->bytes + GUARD, end = z->at + z->bytes;
+    size_t all = z->at + z->bytes + GUARD, width = slice_width[s];
     size_t i = first_other(z->marks, z->second, all);
     if (i < all) {
         snprintf(what, room, "%s, byte %ld of %zu: library %02X, second opinion %02X, before %02X", slice_name[s], (long)i - (long)z->at,
                  z->bytes, z->marks[i], z->second[i], z->was[i]);
         return true;
     }
-    bool input = read_slices & 1u << s;
-    size_t kept = input ? all : z->at;
-    i = first_other(z->marks, z->was, kept);
-    if (i == kept) {
-        i = end + first_other(z->marks + end, z->was + end, GUARD);
-        kept = all;
-    }
-    if (i < kept)
+    size_t behind = z->at + may_write(entry, s, z->bytes / width, number) * width;
+    i = first_other(z->marks, z->was, z->at);
+    if (i == z->at)
+        i = behind + first_other(z->marks + behind, z->was + behind, all - behind);
+    if (i < all)
         snprintf(what, room, "%s, byte %ld of %zu: both sides changed what they may not", slice_name[s], (long)i - (long)z->at, z->bytes);
-    return i < kept;
+    return i < all;
 }
 
 static void lend(const struct asked *a, struct lent *m, struct lent *s)
@@ -197,7 +199,7 @@ static void lend(const struct asked *a, struct lent *m, struct lent *s)
         m->len[i] = s->len[i] = lent ? a->len[i] : 0;
         if (!lent || (a->inside && i == INPUT))
             continue;
-        const uint8_t *content = i == INPUT ? a->input : i == TEXT ? a->text : NULL;
+        const uint8_t *content = i == INPUT ? a->input : i == TEXT ? a->text : i == SEARCHER ? a->searcher : NULL;
         lay(&zones[i], slice_width[i], content == NULL && (read_slices & 1u << i) ? nothing : content, a->len[i], a->fill);
         m->at[i] = null ? NULL : zones[i].marks + zones[i].at;
         s->at[i] = null ? NULL : zones[i].second + zones[i].at;
@@ -205,6 +207,23 @@ static void lend(const struct asked *a, struct lent *m, struct lent *s)
     if (a->inside) {
         m->at[INPUT] = m->at[TEXT];
         s->at[INPUT] = s->at[TEXT];
+    }
+}
+
+/* the mistakes of this file that happen after the call */
+static void slip_after(enum entry entry, struct outcome *m, struct outcome *s)
+{
+    bool streams = entry == OPEN || entry == TAKE, past_examples = cases > 1000;
+    size_t behind = zones[SEARCHER].at + SEARCHER_BYTES;
+    if (SLIP == 32 && (lent_slices[entry] & 1 << TABLES))
+        zones[TABLES].marks[zones[TABLES].at + zones[TABLES].bytes] ^= 1;
+    if (SLIP == 67 && streams && zones[SEARCHER].bytes > SEARCHER_BYTES)
+        zones[SEARCHER].second[behind] = zones[SEARCHER].marks[behind] ^= 1;
+    if (SLIP == 68 && past_examples && entry == TAKE && m->number == 0 && m->answer[0] > 0)
+        s->answer[0] = --m->answer[0];
+    if (SLIP == 69 && past_examples && m->number == 16) {
+        m->number = s->number = 0;
+        m->answer[0] = s->answer[0] = 0;
     }
 }
 
@@ -217,12 +236,11 @@ static struct outcome compare(const struct asked *a)
     lend(a, &for_marks, &for_second);
     struct outcome m = ask_marks(a->entry, &for_marks);
     struct outcome s = ask_second(a->entry, &for_second);
-    if (SLIP == 32)
-        zones[TABLES].marks[zones[TABLES].at + zones[TABLES].bytes] ^= 1;
+    slip_after(a->entry, &m, &s);
     if (m.number != s.number || m.answer[0] != s.answer[0] || m.answer[1] != s.answer[1])
         fail(a, "the number or the answers", &m, &s);
     for (int i = 0; i < SLICES; i++)
-        if ((lent_slices[a->entry] & 1u << i) && !(a->inside && i == INPUT) && slice_differs(i, what, sizeof what))
+        if ((lent_slices[a->entry] & 1u << i) && !(a->inside && i == INPUT) && slice_differs(a->entry, i, m.number, what, sizeof what))
             fail(a, what, &m, &s);
     if (m.number >= NUMBERS || !(can_give[a->entry] & 1u << m.number))
         fail(a, "both sides give a number that the entry cannot give", &m, &s);
@@ -355,6 +373,7 @@ static struct asked ask(enum entry entry, const uint8_t *input, size_t input_len
     a.len[INPUT] = input_len;
     a.len[ROOM] = m;
     a.len[TABLES] = entries(m);
+    a.len[SEARCHER] = SEARCHER_BYTES;
     return a;
 }
 
@@ -379,6 +398,40 @@ static struct outcome run_plain(enum entry entry, const uint8_t *input, size_t i
 {
     struct asked a = ask(entry, input, input_len, m);
     return compare(&a);
+}
+
+static struct outcome run_open(const uint8_t *word, size_t m, uint8_t *searcher)
+{
+    struct asked a = ask(OPEN, word, m, m);
+    struct outcome o = compare(&a);
+    memcpy(searcher, zones[SEARCHER].marks + zones[SEARCHER].at, SEARCHER_BYTES);
+    return o;
+}
+
+/* so many bytes of the searcher are lent; it becomes what the library leaves */
+static struct outcome run_take(uint8_t *searcher, size_t lent, const uint8_t *piece, size_t len, size_t list)
+{
+    struct asked a = ask(TAKE, NULL, 0, 0);
+    a.searcher = searcher;
+    a.text = piece;
+    a.len[SEARCHER] = lent;
+    a.len[TEXT] = len;
+    a.len[FINDS] = list;
+    struct outcome o = compare(&a);
+    memcpy(searcher, zones[SEARCHER].marks + zones[SEARCHER].at, lent);
+    return o;
+}
+
+static uint64_t taken_of(const uint8_t *searcher)
+{
+    const uint8_t *t = searcher + AT_TAKEN;
+    return t[0] + ((uint64_t)t[1] << 8) + ((uint64_t)t[2] << 16) + ((uint64_t)t[3] << 24);
+}
+
+static void set_taken(uint8_t *searcher, uint64_t taken)
+{
+    for (int i = 0; i < 4; i++)
+        searcher[AT_TAKEN + i] = (uint8_t)(taken >> (8 * i));
 }
 
 /* build, save, load back */
@@ -571,6 +624,76 @@ static void examples_of_loading(void)
     examples_at_the_limit();
 }
 
+/* a stream whose pieces are parted by bars: the finds of all of them, and how many letters are kept at the end */
+static void example_stream(const char *word, const char *pieces, uint64_t count, const uint32_t *places, size_t kept)
+{
+    uint8_t searcher[SEARCHER_BYTES];
+    uint64_t found = 0, taken = 0;
+    expect(run_open((const uint8_t *)word, strlen(word), searcher).number == 0, word);
+    while (pieces != NULL) {
+        const char *bar = strchr(pieces, '|');
+        size_t len = bar != NULL ? (size_t)(bar - pieces) : strlen(pieces);
+        struct outcome o = run_take(searcher, SEARCHER_BYTES, (const uint8_t *)pieces, len, len);
+        expect(o.number == 0 && found + o.answer[0] <= count, pieces);
+        expect(memcmp(zones[FINDS].marks + zones[FINDS].at, places + found, o.answer[0] * sizeof *places) == 0, pieces);
+        found += o.answer[0];
+        taken += len;
+        pieces = bar != NULL ? bar + 1 : NULL;
+    }
+    expect(found == count && searcher[AT_KEPT] == kept && taken_of(searcher) == taken, word);
+}
+
+static void example_opened(const char *word, const char *borders)
+{
+    uint8_t searcher[SEARCHER_BYTES], right[SEARCHER_BYTES] = {0};
+    size_t m = strlen(word);
+    memcpy(right + AT_LETTERS, word, m);
+    from_hex(borders, right + AT_BORDERS);
+    right[AT_LENGTH] = (uint8_t)m;
+    expect(run_open((const uint8_t *)word, m, searcher).number == 0 && memcmp(searcher, right, SEARCHER_BYTES) == 0, word);
+}
+
+/* the stream's last byte ends a find, and nothing may follow but an empty piece; and what nobody can have made is refused before that */
+static void example_at_the_end(void)
+{
+    static const uint8_t ab[] = "ab";
+    static const uint32_t place = MOST_TEXT - 2;
+    uint8_t searcher[SEARCHER_BYTES], forged[SEARCHER_BYTES];
+    run_open(ab, 2, searcher);
+    set_taken(searcher, MOST_TEXT - 2);
+    expect(run_take(searcher, SEARCHER_BYTES, ab, 1, 1).answer[0] == 0, "a stream's last byte but one");
+    expect(run_take(searcher, SEARCHER_BYTES, ab, 2, 1).number == 4, "a byte too many");
+    expect(run_take(searcher, SEARCHER_BYTES, ab + 1, 1, 1).answer[0] == 1, "a stream's last byte");
+    expect(memcmp(zones[FINDS].marks + zones[FINDS].at, &place, sizeof place) == 0, "a stream's last find");
+    expect(taken_of(searcher) == MOST_TEXT && run_take(searcher, SEARCHER_BYTES, ab, 0, 1).number == 0, "an empty piece at the end");
+    expect(run_take(searcher, SEARCHER_BYTES, ab, 1, 1).number == 4, "a byte behind the last");
+    memcpy(forged, searcher, SEARCHER_BYTES);
+    forged[AT_KEPT] = 2;
+    expect(run_take(forged, SEARCHER_BYTES, ab, 1, 1).number == 16, "all of the word kept");
+    memset(forged, 0, SEARCHER_BYTES);
+    expect(run_take(forged, SEARCHER_BYTES, ab, 1, 1).number == 16, "zeros");
+    expect(run_take(searcher, SEARCHER_BYTES - 1, ab, 0, 1).number == 16, "a byte too few of a searcher");
+}
+
+static void examples_of_streams(void)
+{
+    uint8_t word[MOST_STREAMED + 1], searcher[SEARCHER_BYTES];
+    memset(word, 'a', sizeof word);
+    expect(run_open(word, 0, searcher).number == 1, "no word");
+    expect(run_open(word, 64, searcher).number == 0 && searcher[AT_BORDERS + 63] == 63, "64 letters");
+    expect(run_open(word, 65, searcher).number == 2, "65 letters");
+    example_opened("a", "00");
+    example_opened("abaab", "00 00 01 01 02");
+    example_opened("abacabadabacaba", "00 00 01 00 01 02 03 00 01 02 03 04 05 06 07");
+    example_stream("aba", "ababa", 2, (const uint32_t[]){0, 2}, 1);
+    example_stream("aba", "ab||aba|", 2, (const uint32_t[]){0, 2}, 1);
+    example_stream("aba", "ab|x|aba|b", 1, (const uint32_t[]){3}, 2);
+    example_stream("aa", "a|a|a|a", 3, (const uint32_t[]){0, 1, 2}, 1);
+    example_stream("abc", "|xxab|", 0, (const uint32_t[]){0}, 2);
+    example_stream("lap-lap", "..lap-lap-l|ap lap-lap", 3, (const uint32_t[]){2, 6, 14}, 3);
+    example_at_the_end();
+}
+
 static void examples(void)
 {
     static const uint16_t first[] = {0, 2, 1, 6, 2, 5, 3, 5}, supplies[] = {0, 0, 2, 3, 1, 1, 2};
@@ -590,6 +713,7 @@ static void examples(void)
     example_search("abc", "xxxxxx", 0, (const uint32_t[]){0}, 2);
     example_search("abc", "ab", 0, (const uint32_t[]){0}, 0);
     examples_of_loading();
+    examples_of_streams();
 }
 
 /* ---- every word up to 8 letters over 3 ---- */
@@ -684,6 +808,459 @@ static void same_periods(void)
             same_period(m, periods[p], true);
         }
     }
+}
+
+/* ---- streams: texts that are taken in pieces ---- */
+
+/* a text that is taken in pieces, and every place where the word stands in it, rising, found by comparing letters */
+struct whole {
+    const uint8_t *word, *text;
+    size_t m, n, count;
+    uint32_t *finds;
+};
+
+static void find_all(struct whole *w)
+{
+    w->count = 0;
+    for (size_t at = 0; at + w->m <= w->n; at++)
+        if (memcmp(w->text + at, w->word, w->m) == 0)
+            w->finds[w->count++] = (uint32_t)at;
+}
+
+/* how many of the places end with the text's first bytes */
+static size_t ended(const struct whole *w, size_t bytes)
+{
+    size_t low = 0, high = w->count;
+    while (low < high) {
+        size_t middle = (low + high) / 2;
+        if (w->finds[middle] + w->m <= bytes)
+            low = middle + 1;
+        else
+            high = middle;
+    }
+    return low;
+}
+
+/* the stream's next piece, the text's bytes from .. to; its finds must be the places that end there */
+static void next_piece(const struct whole *w, uint8_t *searcher, size_t from, size_t to, size_t list)
+{
+    struct outcome o = run_take(searcher, SEARCHER_BYTES, w->text + from, to - from, list);
+    const uint32_t *places = w->finds + ended(w, from);
+    size_t count = ended(w, to) - ended(w, from), fit = count < list ? count : list;
+    if (o.number == 0 && o.answer[0] == count && memcmp(zones[FINDS].marks + zones[FINDS].at, places, fit * sizeof *places) == 0)
+        return;
+    printf("DIFFERENT: the finds of the piece from %zu to %zu are not those of the whole text\n", from, to);
+    printf("  both sides: %" PRIu32 ", %" PRIu64 " finds; places that end there: %zu\n", o.number, o.answer[0], count);
+    print_bytes("word", w->word, w->m);
+    print_bytes("whole text", w->text, w->n);
+    exit(1);
+}
+
+/* for a piece of so many bytes: mostly enough for each to end a find, sometimes fewer, sometimes more */
+static size_t some_list(size_t len)
+{
+    return below(4) ? len : below(2) ? below(len + 1) : len + below(4);
+}
+
+/* the text from here on, cut at some of its places, for every choice of them; empty pieces in between now and then */
+static void cut_every_way(const struct whole *w, const uint8_t *searcher, size_t from)
+{
+    uint8_t here[SEARCHER_BYTES], next[SEARCHER_BYTES];
+    memcpy(here, searcher, SEARCHER_BYTES);
+    if (below(8) == 0)
+        next_piece(w, here, from, from, below(2));
+    for (size_t to = from + 1; to <= w->n; to++) {
+        memcpy(next, here, SEARCHER_BYTES);
+        next_piece(w, next, from, to, some_list(to - from));
+        cut_every_way(w, next, to);
+    }
+}
+
+enum { MOST_CUT = 12 }; /* letters of a text that is cut in every way */
+
+static void every_cutting(const uint8_t *word, size_t m, const uint8_t *text, size_t n)
+{
+    uint8_t searcher[SEARCHER_BYTES];
+    uint32_t finds[MOST_CUT];
+    struct whole w = {.word = word, .text = text, .m = m, .n = n, .finds = finds};
+    find_all(&w);
+    run_open(word, m, searcher);
+    cut_every_way(&w, searcher, 0);
+}
+
+/* The beginnings of a text are cut in every way with it, so texts of n letters are enough. */
+static void every_text_cut(size_t longest_word, size_t n)
+{
+    uint8_t word[MOST_CUT], text[MOST_CUT];
+    for (size_t m = 1; m <= longest_word; m++)
+        for (size_t number = 0; number < (size_t)1 << m; number++) {
+            spell_digits(number, m, word);
+            for (size_t other = 0; other < (size_t)1 << n; other++) {
+                spell_digits(other, n, text);
+                every_cutting(word, m, text, n);
+            }
+        }
+}
+
+static void short_texts_cut(void)
+{
+    every_text_cut(5, 8);
+}
+
+/* each word in a text of nothing but itself, overlapping, and in one by chance */
+static void texts_of_12_cut(void)
+{
+    uint8_t word[MOST_CUT], text[MOST_CUT];
+    for (size_t m = 1; m <= 8; m++)
+        for (size_t number = 0; number < (size_t)1 << m; number++) {
+            spell_digits(number, m, word);
+            overlap(text, MOST_CUT, word, m);
+            every_cutting(word, m, text, MOST_CUT);
+            spell_digits(below(1 << MOST_CUT), MOST_CUT, text);
+            every_cutting(word, m, text, MOST_CUT);
+        }
+}
+
+static void every_text_of_12_cut(void)
+{
+    every_text_cut(3, MOST_CUT);
+}
+
+/* ---- streams: long texts, cut by chance ---- */
+
+/* pieces of up to so many bytes, an empty one now and then */
+static void cut_by_chance(struct whole *w, size_t longest)
+{
+    uint8_t searcher[SEARCHER_BYTES];
+    run_open(w->word, w->m, searcher);
+    for (size_t from = 0, to; from < w->n; from = to) {
+        size_t piece = below(10) == 0 ? 0 : longest < 4 ? longest : 1 + below(longest), left = w->n - from;
+        to = from + (piece < left ? piece : left);
+        next_piece(w, searcher, from, to, some_list(to - from));
+    }
+}
+
+/* a word of each kind in a text of each kind, cut into single bytes, and into pieces that are about as long as the word, and longer */
+static void cut_long_text(size_t m, unsigned letters, enum kind kind)
+{
+    enum { LONG_TEXT = 3000 };
+    static uint8_t word[MOST_STREAMED], text[LONG_TEXT];
+    static uint32_t finds[LONG_TEXT];
+    size_t longest[] = {1, 2, 3, m, m + 1, 2 * m, 100, 1000, LONG_TEXT};
+    choose_palette(letters);
+    make_word(word, m, kind);
+    for (size_t i = 0; i < sizeof longest / sizeof *longest; i++) {
+        struct whole w = {.word = word, .text = text, .m = m, .n = 10 + below(longest[i] < 100 ? 40 * longest[i] : LONG_TEXT - 10)};
+        w.n = w.n < LONG_TEXT ? w.n : LONG_TEXT;
+        w.finds = finds;
+        make_text(text, w.n, word, m, (unsigned)chance());
+        find_all(&w);
+        cut_by_chance(&w, longest[i]);
+    }
+}
+
+/* a word in a text of the same period, so that it stands there once in each period */
+static void cut_hostile_text(size_t m, size_t period)
+{
+    enum { HOSTILE_TEXT = 200000 };
+    static uint8_t text[HOSTILE_TEXT];
+    static uint32_t finds[HOSTILE_TEXT];
+    struct whole w = {.word = text, .text = text, .m = m, .n = HOSTILE_TEXT, .finds = finds};
+    for (size_t i = 0; i < HOSTILE_TEXT; i++)
+        text[i] = i % period + 1 < period ? 'a' : 'b';
+    find_all(&w);
+    cut_by_chance(&w, 2 * m);
+    cut_by_chance(&w, 10000);
+    cut_by_chance(&w, HOSTILE_TEXT);
+}
+
+static void long_texts_cut(void)
+{
+    static const unsigned alphabets[] = {2, 4, 256};
+    static const size_t hostile[][2] = {{1, 1}, {2, 1}, {63, 1}, {64, 1}, {64, 2}, {63, 31}, {64, 32}, {64, 63}, {64, 64}};
+    for (size_t m = 1; m <= MOST_STREAMED; m += m < 20 || m >= 60 ? 1 : 5)
+        for (unsigned a = 0; a < 3; a++)
+            for (int kind = 0; kind < KINDS; kind++)
+                cut_long_text(m, alphabets[a], (enum kind)kind);
+    for (size_t i = 0; i < sizeof hostile / sizeof *hostile; i++)
+        cut_hostile_text(hostile[i][0], hostile[i][1]);
+}
+
+/* ---- streams: openings ---- */
+
+/* words empty, of every length that may be, and longer, where a searcher has no byte, too few, exactly enough, and more */
+static void openings(void)
+{
+    static const size_t lents[] = {0, 1, 64, 128, SEARCHER_BYTES - 1, SEARCHER_BYTES, SEARCHER_BYTES + 1, 2 * SEARCHER_BYTES, 4096};
+    static const size_t longer[] = {127, 128, 255, 256, 257, 256 + MOST_STREAMED, 4096, 65535, 65536, 65537, 65536 + MOST_STREAMED};
+    static uint8_t word[65536 + MOST_STREAMED];
+    for (size_t l = 0; l <= MOST_STREAMED + 5 + sizeof longer / sizeof *longer; l++)
+        for (size_t c = 0; c < sizeof lents / sizeof *lents * KINDS * FILLS; c++) {
+            size_t m = l <= MOST_STREAMED + 5 ? l : longer[l - MOST_STREAMED - 6];
+            struct asked a = ask(OPEN, word, m, m);
+            choose_palette(c % 2 ? 2 : 256);
+            make_word(word, m < 300 ? m : 300, (enum kind)(c % KINDS));
+            a.fill = (enum fill)(c / KINDS % FILLS);
+            a.len[SEARCHER] = lents[c / KINDS / FILLS];
+            compare(&a);
+        }
+}
+
+/* ---- streams: searchers by strangers ---- */
+
+static void fail_searcher(const char *what, const uint8_t *searcher)
+{
+    printf("DIFFERENT: %s\n", what);
+    print_bytes("searcher", searcher, SEARCHER_BYTES);
+    exit(1);
+}
+
+/* a letter that the word does not have */
+static uint8_t other_letter(const uint8_t *word, size_t m)
+{
+    uint8_t letter = 0;
+    while (memchr(word, letter, m) != NULL)
+        letter++;
+    return letter;
+}
+
+/* Makes it by opening and taking: a letter that the word does not have, as often as bytes were taken before what is kept, and then that.
+   Long streams only now and then. */
+static void make_again(const uint8_t *searcher)
+{
+    enum { FILLER = 1 << 16 };
+    static uint8_t filler[FILLER];
+    uint8_t made[SEARCHER_BYTES];
+    size_t m = searcher[AT_LENGTH], kept = searcher[AT_KEPT];
+    uint64_t taken = taken_of(searcher), left = taken - kept;
+    if (m < 1 || m > MOST_STREAMED || kept > m || kept > taken || taken > MOST_TEXT)
+        fail_searcher("a searcher was taken whose fields cannot be", searcher);
+    if (left > 300 && below(200) != 0)
+        return;
+    memset(filler, other_letter(searcher, m), left < FILLER ? left : FILLER);
+    run_open(searcher, m, made);
+    for (size_t piece; left > 0; left -= piece) {
+        piece = left < FILLER ? left : FILLER;
+        run_take(made, SEARCHER_BYTES, filler, piece, 0);
+    }
+    run_take(made, SEARCHER_BYTES, searcher, kept, 0);
+    if (memcmp(made, searcher, SEARCHER_BYTES) != 0)
+        fail_searcher("a searcher was taken that opening and taking bytes do not make", searcher);
+}
+
+/* An empty piece, which shows whether it is refused with 16; then letters of the word, often those that are missing for a find. */
+static void try_searcher(const uint8_t *forged)
+{
+    uint8_t searcher[SEARCHER_BYTES];
+    size_t from = below(2) ? forged[AT_KEPT] % 64 : below(64), len = below(2) ? 64 - from : below(65 - from);
+    memcpy(searcher, forged, SEARCHER_BYTES);
+    if (run_take(searcher, SEARCHER_BYTES, NULL, 0, below(2)).number == 0)
+        make_again(searcher);
+    run_take(searcher, SEARCHER_BYTES, forged + from, len, some_list(len));
+}
+
+/* each byte in turn: with every value, or with near ones, those where a field's limit is, and one by chance */
+static void forge_bytes(const uint8_t *made, bool every)
+{
+    uint8_t forged[SEARCHER_BYTES], m = made[AT_LENGTH];
+    memcpy(forged, made, SEARCHER_BYTES);
+    for (size_t at = 0; at < SEARCHER_BYTES; at++) {
+        uint8_t own = made[at];
+        uint8_t puts[] = {(uint8_t)(own + 1), (uint8_t)(own - 1), own ^ 0x80, 0, 1, (uint8_t)(m - 1), m, 64, 65, 255, (uint8_t)chance()};
+        for (unsigned i = 0; i < (every ? 256 : sizeof puts); i++) {
+            forged[at] = every ? (uint8_t)i : puts[i];
+            try_searcher(forged);
+        }
+        forged[at] = own;
+    }
+}
+
+/* every length, with the letters and borders that are there, and with those behind it taken away */
+static void forge_length(const uint8_t *made)
+{
+    uint8_t forged[SEARCHER_BYTES];
+    for (size_t m = 0; m < 256; m++) {
+        memcpy(forged, made, SEARCHER_BYTES);
+        forged[AT_LENGTH] = (uint8_t)m;
+        try_searcher(forged);
+        for (size_t i = m; i < MOST_STREAMED; i++)
+            forged[AT_LETTERS + i] = forged[AT_BORDERS + i] = 0;
+        try_searcher(forged);
+    }
+}
+
+/* every length of what is kept, with every number of bytes taken at which something changes */
+static void forge_counts(const uint8_t *made)
+{
+    static const uint64_t takens[] = {0, 1, 64, 255, 256, 65535, 65536, MOST_TEXT - 64, MOST_TEXT - 1, MOST_TEXT, MOST_TEXT + 1,
+                                      MOST_TEXT + 256, 2 * MOST_TEXT, UINT32_MAX - MOST_TEXT, UINT32_MAX - 1, UINT32_MAX};
+    uint8_t forged[SEARCHER_BYTES];
+    size_t m = made[AT_LENGTH];
+    memcpy(forged, made, SEARCHER_BYTES);
+    for (size_t kept = 0; kept < 256; kept += kept < m + 2 || kept > 250 ? 1 : 1 + below(40)) {
+        forged[AT_KEPT] = (uint8_t)kept;
+        for (size_t i = 0; i < sizeof takens / sizeof *takens; i++) {
+            set_taken(forged, takens[i]);
+            try_searcher(forged);
+        }
+        for (uint64_t taken = kept > 0 ? kept - 1 : 0; taken <= kept + 1; taken++) {
+            set_taken(forged, taken);
+            try_searcher(forged);
+        }
+    }
+}
+
+/* the borders of another word, none, all moved by a place, two exchanged; a letter changed and the borders made right */
+static void forge_borders(const uint8_t *made)
+{
+    uint8_t forged[SEARCHER_BYTES], other[SEARCHER_BYTES];
+    size_t m = made[AT_LENGTH], a = below(m), b = below(m);
+    memcpy(forged, made, SEARCHER_BYTES);
+    forged[AT_LETTERS + a] = palette[below(256)];
+    run_open(forged, m, other);
+    memcpy(other + AT_KEPT, made + AT_KEPT, SEARCHER_BYTES - AT_KEPT);
+    try_searcher(other);
+    memcpy(forged, made, SEARCHER_BYTES);
+    memcpy(forged + AT_BORDERS, other + AT_BORDERS, MOST_STREAMED);
+    try_searcher(forged);
+    memset(forged + AT_BORDERS, 0, MOST_STREAMED);
+    try_searcher(forged);
+    memcpy(forged + AT_BORDERS + 1, made + AT_BORDERS, MOST_STREAMED - 1);
+    try_searcher(forged);
+    memcpy(forged, made, SEARCHER_BYTES);
+    forged[AT_BORDERS + a] = made[AT_BORDERS + b];
+    forged[AT_BORDERS + b] = made[AT_BORDERS + a];
+    try_searcher(forged);
+}
+
+/* fewer bytes lent than a searcher has, as many, and more; what is behind it stays as it was */
+static void forge_lent(const uint8_t *made)
+{
+    static const size_t lents[] = {0, 1, 63, 64, 127, 128, 129, 130, 132, 133, 134, 135, 136, 200, 268, 1000};
+    uint8_t searcher[1000];
+    for (size_t i = 0; i < sizeof lents / sizeof *lents; i++)
+        for (int turn = 0; turn < 4; turn++) {
+            make_noise(searcher, sizeof searcher);
+            memcpy(searcher, made, SEARCHER_BYTES);
+            searcher[below(SEARCHER_BYTES)] ^= turn == 3;
+            run_take(searcher, lents[i], made, turn * 20, turn * 5);
+            struct asked a = ask(OPEN, made, made[AT_LENGTH], 0);
+            a.len[SEARCHER] = lents[i];
+            a.fill = (enum fill)(turn % FILLS);
+            compare(&a);
+        }
+}
+
+static void forge_random(void)
+{
+    uint8_t forged[SEARCHER_BYTES];
+    for (int i = 0; i < 4000; i++) {
+        make_noise(forged, SEARCHER_BYTES);
+        if (i % 2)
+            memset(forged + AT_BORDERS, 0, MOST_STREAMED);
+        if (i % 4 > 1)
+            set_taken(forged, below(1000));
+        forged[AT_LENGTH] = i % 8 > 3 ? (uint8_t)(1 + below(3)) : forged[AT_LENGTH];
+        if (i % 16 > 7)
+            memset(forged + 2, 0, MOST_STREAMED - 2);
+        try_searcher(forged);
+    }
+    for (int value = 0; value < 256; value++) {
+        memset(forged, value, SEARCHER_BYTES);
+        try_searcher(forged);
+    }
+}
+
+/* a searcher just opened, or more often one that took a text and then a beginning of the word */
+static void make_searcher(size_t m, enum kind kind, uint8_t *searcher)
+{
+    uint8_t word[MOST_STREAMED], text[300];
+    make_word(word, m, kind);
+    make_text(text, sizeof text, word, m, (unsigned)chance());
+    run_open(word, m, searcher);
+    if (below(4) != 0) {
+        run_take(searcher, SEARCHER_BYTES, text, below(sizeof text + 1), 3);
+        run_take(searcher, SEARCHER_BYTES, word, below(m + 1), 3);
+    }
+}
+
+static void forged_searchers(void)
+{
+    static const size_t lengths[] = {1, 2, 3, 5, 8, 31, 33, 62, 63, 64};
+    uint8_t made[SEARCHER_BYTES];
+    for (size_t l = 0; l < sizeof lengths / sizeof *lengths; l++)
+        for (int kind = 0; kind < KINDS; kind++) {
+            choose_palette(kind % 2 ? 2 : 4);
+            make_searcher(lengths[l], (enum kind)kind, made);
+            forge_bytes(made, kind == BROKEN && l % 3 == 0);
+            forge_length(made);
+            forge_borders(made);
+            forge_lent(made);
+            if (kind % 3 == (int)l % 3)
+                forge_counts(made);
+        }
+    forge_random();
+}
+
+/* ---- streams at the limit ---- */
+
+/* a stream that has so many bytes left to take: all of them, one more, and fewer and then the rest; then an empty piece and a byte */
+static void last_pieces(const uint8_t *made, size_t left, const uint8_t *text)
+{
+    uint8_t searcher[SEARCHER_BYTES], other[SEARCHER_BYTES];
+    size_t first = below(left + 1);
+    memcpy(searcher, made, SEARCHER_BYTES);
+    set_taken(searcher, MOST_TEXT - left);
+    run_take(searcher, SEARCHER_BYTES, text, left + 1, 5);
+    memcpy(other, searcher, SEARCHER_BYTES);
+    other[below(AT_KEPT)] ^= 1;
+    run_take(other, SEARCHER_BYTES, text, left + 1, 5);
+    memcpy(other, searcher, SEARCHER_BYTES);
+    run_take(other, SEARCHER_BYTES, text, left, left);
+    run_take(searcher, SEARCHER_BYTES, text, first, first);
+    run_take(searcher, SEARCHER_BYTES, text + first, left - first + 1, left);
+    run_take(searcher, SEARCHER_BYTES, text + first, left - first, left);
+    if (memcmp(searcher, other, SEARCHER_BYTES) != 0)
+        fail_searcher("two pieces leave another searcher than one", searcher);
+    run_take(searcher, SEARCHER_BYTES, text, 0, 3);
+    run_take(searcher, SEARCHER_BYTES, text, 1, 3);
+    run_take(searcher, SEARCHER_BYTES, text, 0, 0);
+}
+
+/* the whole of the longest text, in one piece and in some, and what may not follow it */
+static void longest_stream(const uint8_t *word, size_t m, uint8_t *text)
+{
+    uint8_t searcher[SEARCHER_BYTES];
+    struct whole w = {.word = word, .text = text, .m = m, .n = MOST_TEXT};
+    w.finds = (uint32_t *)(void *)reserve(NULL, MOST_TEXT * sizeof *w.finds);
+    find_all(&w);
+    run_open(word, m, searcher);
+    run_take(searcher, SEARCHER_BYTES, text, MOST_TEXT + 1, 10);
+    next_piece(&w, searcher, 0, MOST_TEXT, 1000);
+    run_take(searcher, SEARCHER_BYTES, text, 1, 10);
+    next_piece(&w, searcher, MOST_TEXT, MOST_TEXT, 10);
+    cut_by_chance(&w, MOST_TEXT / 8);
+    free(w.finds);
+}
+
+static void streams_at_the_limit(void)
+{
+    static const uint8_t word[] = {7, 1, 1, 7, 1, 7, 7, 1, 7, 1, 1, 1};
+    uint8_t made[SEARCHER_BYTES], short_text[300], *text = reserve(NULL, MOST_TEXT + 1);
+    for (size_t left = 0; left < 150; left++)
+        for (int kind = 0; kind < KINDS; kind++) {
+            choose_palette(kind % 2 ? 2 : 4);
+            make_searcher(1 + below(MOST_STREAMED), (enum kind)kind, made);
+            make_text(short_text, sizeof short_text, made, made[AT_LENGTH], (unsigned)chance());
+            memcpy(short_text, made + made[AT_KEPT], made[AT_LENGTH] - made[AT_KEPT]);
+            last_pieces(made, left < 70 ? left : 64 + left, short_text);
+        }
+    for (size_t i = 0; i < MOST_TEXT + 1; i++)
+        text[i] = noise[(i * 31 + i / NOISE) % NOISE] % 2 ? 7 : 1;
+    memcpy(text, word, sizeof word);
+    memcpy(text + MOST_TEXT - sizeof word, word, sizeof word);
+    longest_stream(word, sizeof word, text);
+    free(text);
 }
 
 /* ---- longer words, of each kind over 2, 4 and 256 letters ---- */
@@ -1134,6 +1711,8 @@ static void vast_slice(enum entry entry, int slice, const uint8_t *input, size_t
         }
         memcpy(l[side].at[INPUT], input, input_len);
         memcpy(l[side].at[TEXT], "abcabbba", 8);
+        if (entry == TAKE)
+            second_open(input, input_len, l[side].at[SEARCHER], SEARCHER_BYTES);
         o[side] = side == 0 ? ask_marks(entry, &l[side]) : ask_second(entry, &l[side]);
     }
     if (o[0].number != o[1].number || o[0].answer[0] != o[1].answer[0] || o[0].answer[1] != o[1].answer[1])
@@ -1163,14 +1742,16 @@ static void vast_slices(void)
 
 static void null_pointers(void)
 {
-    uint8_t file[MOST_FILE];
+    uint8_t file[MOST_FILE], searcher[SEARCHER_BYTES];
     const uint8_t *word = (const uint8_t *)"abbbaab", *text = (const uint8_t *)"babbbaabbbaab";
     size_t m = 7, size = file_of(word, m, file);
+    second_open(word, m, searcher, sizeof searcher);
     for (int entry = 0; entry < ENTRIES; entry++)
         for (unsigned empty = 0; empty < 1u << SLICES; empty++) {
             bool from_file = entry == LOAD || entry == SEARCH_FILE;
             struct asked a = ask((enum entry)entry, from_file ? file : word, from_file ? size : m, m);
             a.text = text;
+            a.searcher = entry == TAKE ? searcher : NULL;
             a.len[TEXT] = 13;
             a.len[OUT] = size;
             a.len[FINDS] = 2;
@@ -1214,6 +1795,45 @@ static size_t some_word_length(void)
     return 1 + some_length(below(40) ? 200 : below(2) ? 1023 : MOST_LETTERS - 1);
 }
 
+/* one or two bytes changed, mostly by little */
+static void forge_some(uint8_t *searcher)
+{
+    for (size_t turns = 1 + below(2); turns > 0; turns--) {
+        uint8_t *byte = searcher + (below(3) ? below(SEARCHER_BYTES) : AT_LENGTH + below(SEARCHER_BYTES - AT_LENGTH));
+        *byte = below(2) ? (uint8_t)(*byte + 1 - 2 * below(2)) : (uint8_t)chance();
+    }
+}
+
+/* a stream in pieces by chance; now and then near its end from the start, and now and then a searcher that a stranger changed */
+static void mixed_stream(void)
+{
+    static uint8_t text[2000];
+    static const unsigned alphabets[] = {2, 2, 3, 4, 256};
+    uint8_t word[MOST_STREAMED + 8], searcher[SEARCHER_BYTES + 66], forged[sizeof searcher];
+    size_t m = below(40) ? 1 + some_length(MOST_STREAMED - 1) : below(sizeof word), n = some_length(sizeof text);
+    struct asked a = ask(OPEN, word, m, m);
+    choose_palette(alphabets[below(5)]);
+    make_word(word, m, (enum kind)below(KINDS));
+    make_text(text, n, word, m, (unsigned)below(1000));
+    a.len[SEARCHER] = some_room(SEARCHER_BYTES);
+    a.fill = (enum fill)below(FILLS);
+    if (compare(&a).number != 0)
+        return;
+    memcpy(searcher, zones[SEARCHER].marks + zones[SEARCHER].at, a.len[SEARCHER]);
+    if (below(8) == 0)
+        set_taken(searcher, MOST_TEXT - some_length(sizeof text));
+    for (size_t at = 0, piece; at < n && below(20) != 0; at += piece) {
+        piece = some_length(n - at);
+        make_noise(forged, sizeof forged);
+        memcpy(forged, searcher, SEARCHER_BYTES);
+        forge_some(forged);
+        size_t lent = some_room(SEARCHER_BYTES);
+        if (below(4) == 0)
+            run_take(forged, lent, text + at, piece, below(4));
+        run_take(searcher, a.len[SEARCHER], text + at, piece, some_list(piece));
+    }
+}
+
 static void mixed_case(void)
 {
     static uint8_t word[MOST_LETTERS + 8], mirrored[MOST_LETTERS], file[MOST_FILE], text[4 * MOST_LETTERS];
@@ -1221,7 +1841,7 @@ static void mixed_case(void)
     size_t m = some_word_length(), n = some_length(below(8) ? 600 : sizeof text);
     if (m > 600 && below(2))
         n = m + some_length(sizeof text - m);
-    enum entry entry = (enum entry)below(ENTRIES);
+    enum entry entry = (enum entry)below(OPEN); /* the entries over whole texts */
     choose_palette(alphabets[below(5)]);
     make_word(word, m, (enum kind)below(KINDS));
     mirror(word, m, mirrored);
@@ -1267,8 +1887,11 @@ static void part(const char *name, void (*run)(void))
 
 static void mixed_cases(void)
 {
-    for (int i = 0; i < 500000; i++)
+    for (int i = 0; i < 500000; i++) {
         mixed_case();
+        if (i % 20 == 0)
+            mixed_stream();
+    }
 }
 
 static double until;
@@ -1276,8 +1899,10 @@ static double until;
 static void more_mixed_cases(void)
 {
     while (seconds() - begun < until)
-        for (int i = 0; i < 100; i++)
+        for (int i = 0; i < 100; i++) {
             mixed_case();
+            mixed_stream();
+        }
 }
 
 static void long_damaged_files(void)
@@ -1292,6 +1917,14 @@ static void long_damaged_files(void)
     damage(word, MOST_LETTERS / 2, false, 8, 1);
 }
 
+static bool any_gives(unsigned number)
+{
+    bool any = false;
+    for (int e = 0; e < ENTRIES; e++)
+        any = any || (can_give[e] & 1u << number);
+    return any;
+}
+
 /* how often each entry gave each number; whether one that it can give is missing */
 static bool print_seen(void)
 {
@@ -1300,6 +1933,8 @@ static bool print_seen(void)
     for (int e = 0; e < ENTRIES; e++)
         printf(" %12s", entry_name[e]);
     for (unsigned number = 0; number < NUMBERS; number++) {
+        if (!any_gives(number))
+            continue;
         printf("\n%-10u", number);
         for (int e = 0; e < ENTRIES; e++)
             if (!(can_give[e] & 1u << number))
@@ -1322,6 +1957,12 @@ static void all_parts(bool costly)
     part("every word of 1 to 8 letters over 3: build, save, load back, search", short_words);
     part("every word of 1 to 6 letters over 2 in every text of up to 10", short_texts);
     part("words of 1 to 64 letters, of every period, and longer ones, in texts of the same period", same_periods);
+    part("openings of streams", openings);
+    part("every text of 8 letters over 2 cut in every way, words of 1 to 5", short_texts_cut);
+    part("texts of 12 letters over 2 cut in every way, words of 1 to 8", texts_of_12_cut);
+    part("texts of up to 200,000 bytes cut by chance, words of 1 to 64 letters", long_texts_cut);
+    part("searchers by strangers", forged_searchers);
+    part("streams of the most bytes and of one more", streams_at_the_limit);
     part("null pointers with length 0", null_pointers);
     part("rooms too short, exact and too long; words empty and too long", rooms);
     part("damaged files", damaged_files);
@@ -1333,6 +1974,7 @@ static void all_parts(bool costly)
     part("all of it mixed", mixed_cases);
     if (costly) {
         part("damaged files of the most letters, of half as many, and of 1,025", long_damaged_files);
+        part("every text of 12 letters over 2 cut in every way, words of 1 to 3", every_text_of_12_cut);
         part("300 a's in the longest text, of a's alone", hostile_text);
         part("4,096 a's in a text of 2,097,152 a's", hostile_word);
     }

@@ -1,4 +1,4 @@
-/* The five entries of both sides by number, so that the comparison and the attack can ask either side the same thing in one line.
+/* The seven entries of both sides by number, so that the comparison and the attack can ask either side the same thing in one line.
    This is all that the two share with each other; neither implementation sees it. */
 #ifndef ENTRIES_H
 #define ENTRIES_H
@@ -6,16 +6,16 @@
 #include "marks.h"
 #include "second.h"
 
-enum entry { BUILD, SAVE, LOAD, SEARCH, SEARCH_FILE, ENTRIES };
+enum entry { BUILD, SAVE, LOAD, SEARCH, SEARCH_FILE, OPEN, TAKE, ENTRIES };
 
-static const char *const entry_name[ENTRIES] = {"build", "save", "load", "search", "search_file"};
+static const char *const entry_name[ENTRIES] = {"build", "save", "load", "search", "search_file", "open", "take"};
 
-/* the slices that an entry may be lent; input is the word, or the file of load and search_file */
-enum slice { INPUT, TEXT, ROOM, OUT, TABLES, FINDS, SLICES };
+/* the slices that an entry may be lent; input is the word, or the file of load and search_file; text is also the piece of take */
+enum slice { INPUT, TEXT, ROOM, OUT, TABLES, FINDS, SEARCHER, SLICES };
 
-static const char *const slice_name[SLICES] = {"word or file", "text", "word room", "output", "tables", "list"};
+static const char *const slice_name[SLICES] = {"word or file", "text or piece", "word room", "output", "tables", "list", "searcher"};
 
-static const size_t slice_width[SLICES] = {1, 1, 1, 1, sizeof(uint16_t), sizeof(uint32_t)};
+static const size_t slice_width[SLICES] = {1, 1, 1, 1, sizeof(uint16_t), sizeof(uint32_t), 1};
 
 static const unsigned lent_slices[ENTRIES] = {
     1 << INPUT | 1 << TABLES,
@@ -23,16 +23,30 @@ static const unsigned lent_slices[ENTRIES] = {
     1 << INPUT | 1 << ROOM | 1 << TABLES,
     1 << INPUT | 1 << TEXT | 1 << TABLES | 1 << FINDS,
     1 << INPUT | 1 << TEXT | 1 << ROOM | 1 << TABLES | 1 << FINDS,
+    1 << INPUT | 1 << SEARCHER,
+    1 << TEXT | 1 << FINDS | 1 << SEARCHER,
 };
 
 static const unsigned read_slices = 1 << INPUT | 1 << TEXT;
 
-/* the refusals that an entry can give, 0 (success) among them: bit n for the number n */
+/* the refusals that an entry can give, 0 (success) among them: bit n for the number n, which is below NUMBERS */
+enum { NUMBERS = 17 };
+
 static const unsigned can_give[ENTRIES] = {
     1 << 0 | 1 << 1 | 1 << 2 | 1 << 3, 1 << 0 | 1 << 1 | 1 << 2 | 1 << 3 | 1 << 12,
     1 << 0 | 1 << 3 | 0xFE0,           1 << 0 | 1 << 1 | 1 << 2 | 1 << 3 | 1 << 4,
-    1 << 0 | 1 << 3 | 1 << 4 | 0xFE0,
+    1 << 0 | 1 << 3 | 1 << 4 | 0xFE0,  1 << 0 | 1 << 1 | 1 << 2 | 1 << 3,
+    1 << 0 | 1 << 4 | 1 << 16,
 };
+
+/* How many of the elements that a slice is lent an entry may write when it answers with the number: none of an input, those of the
+   searcher itself and no byte behind it, and nothing where a stream is refused. */
+static size_t may_write(enum entry entry, int slice, size_t len, uint32_t number)
+{
+    if ((read_slices & 1u << slice) || ((entry == OPEN || entry == TAKE) && number != 0))
+        return 0;
+    return slice == SEARCHER && len > SEARCHER_BYTES ? SEARCHER_BYTES : len;
+}
 
 /* an answer that no entry gives: what is handed over under the last pointers */
 #define UNTOUCHED UINT64_C(0xA5C3A5C35A3C5A3C)
@@ -66,6 +80,8 @@ struct outcome {
             o.number = SIDE##_search_file(input, input_len, text, text_len, l->at[ROOM], room_len, tables, tables_len, l->at[FINDS],       \
                                           l->len[FINDS], a, b);                                                                            \
             break;                                                                                                                         \
+        case OPEN: o.number = SIDE##_open(input, input_len, l->at[SEARCHER], l->len[SEARCHER]); break;                                     \
+        case TAKE: o.number = SIDE##_take(l->at[SEARCHER], l->len[SEARCHER], text, text_len, l->at[FINDS], l->len[FINDS], a); break;       \
         case ENTRIES: break;                                                                                                               \
         }                                                                                                                                  \
         return o;                                                                                                                          \

@@ -1,4 +1,4 @@
-/* A target for a coverage-guided fuzzer (libFuzzer): its bytes become one call of one of the five entries, which the proved library and
+/* A target for a coverage-guided fuzzer (libFuzzer): its bytes become one call of one of the seven entries, which the proved library and
    the second implementation both answer; whole outcomes must agree.
 
    What sees a stray access: the second implementation and this file are compiled with AddressSanitizer and UndefinedBehaviorSanitizer,
@@ -11,7 +11,8 @@
 
    Mistakes on purpose (-DSLIP=n) as in second.c, and
      slip 33: the library's tables are lent one entry too far up, so that it writes past the edge
-     slip 34: the library's text is lent one byte too far up, so that it reads past the edge */
+     slip 34: the library's text is lent one byte too far up, so that it reads past the edge
+     slip 70: the library's searcher is lent one byte too far up, so that it reads past the edge */
 #define _GNU_SOURCE
 #include "entries.h"
 
@@ -82,13 +83,19 @@ static void beside(int s, size_t bytes, size_t *from, size_t *to)
 
 struct asked {
     enum entry entry;
-    const uint8_t *content[SLICES]; /* of the inputs */
+    const uint8_t *content[SLICES]; /* of the inputs, and of a searcher that takes */
     size_t len[SLICES];
     uint8_t fill;
     bool front; /* against the page before, not the one behind */
     bool nulls; /* length 0 is a null pointer */
     bool whole; /* the text is one byte too long */
 };
+
+/* what stands in a lent slice before the call */
+static uint8_t before(const struct asked *a, int s, size_t i)
+{
+    return a->content[s] != NULL ? a->content[s][i] : stranger(s, i, a->fill);
+}
 
 static void lend_library(const struct asked *a, int s, struct lent *l)
 {
@@ -98,9 +105,9 @@ static void lend_library(const struct asked *a, int s, struct lent *l)
     for (size_t i = from; i < to; i++)
         region[s].write[i] = stranger(s, i, a->fill);
     for (size_t i = 0; i < bytes; i++)
-        region[s].write[region[s].at + i] = a->content[s] != NULL ? a->content[s][i] : stranger(s, i, a->fill);
-    size_t slip = !a->front && ((SLIP == 33 && s == TABLES) || (SLIP == 34 && s == TEXT)) ? slice_width[s] : 0;
-    l->at[s] = a->nulls && bytes == 0 ? NULL : region[s].lent + region[s].at + slip;
+        region[s].write[region[s].at + i] = before(a, s, i);
+    bool slips = (SLIP == 33 && s == TABLES) || (SLIP == 34 && s == TEXT) || (SLIP == 70 && s == SEARCHER);
+    l->at[s] = a->nulls && bytes == 0 ? NULL : region[s].lent + region[s].at + (slips && !a->front ? slice_width[s] : 0);
 }
 
 static void lend_second(const struct asked *a, int s, struct lent *l)
@@ -108,7 +115,7 @@ static void lend_second(const struct asked *a, int s, struct lent *l)
     size_t bytes = a->len[s] * slice_width[s];
     uint8_t *p = must(malloc(bytes > 0 ? bytes : 1));
     for (size_t i = 0; i < bytes; i++)
-        p[i] = a->content[s] != NULL ? a->content[s][i] : stranger(s, i, a->fill);
+        p[i] = before(a, s, i);
     l->at[s] = p;
 }
 
@@ -134,8 +141,9 @@ static void check_slice(const struct asked *a, int s, const struct lent *second,
     size_t bytes = a->len[s] * slice_width[s], from, to;
     if (memcmp(region[s].write + region[s].at, second->at[s], bytes) != 0)
         stop(a, "left otherwise: ", s, m, o);
-    if (a->content[s] != NULL && memcmp(region[s].write + region[s].at, a->content[s], bytes) != 0)
-        stop(a, "an input was written: ", s, m, o);
+    for (size_t i = may_write(a->entry, s, a->len[s], m->number) * slice_width[s]; i < bytes; i++)
+        if (region[s].write[region[s].at + i] != before(a, s, i))
+            stop(a, "written where that may not be: ", s, m, o);
     beside(s, bytes, &from, &to);
     for (size_t i = from; i < to; i++)
         if (region[s].write[i] != stranger(s, i, a->fill))
@@ -157,7 +165,7 @@ static void call_both(const struct asked *a)
     struct outcome m = ask_marks(a->entry, &library), o = ask_second(a->entry, &second);
     if (m.number != o.number || m.answer[0] != o.answer[0] || m.answer[1] != o.answer[1])
         stop(a, "the number or the answers", -1, &m, &o);
-    if (m.number > 12 || !(can_give[a->entry] & 1u << m.number) ||
+    if (m.number >= NUMBERS || !(can_give[a->entry] & 1u << m.number) ||
         (m.number != 0 && (m.answer[0] != UNTOUCHED || m.answer[1] != UNTOUCHED)))
         stop(a, "a number that cannot be given, or an answer beside a refusal", -1, &m, &o);
     for (int s = 0; s < SLICES; s++)
@@ -169,11 +177,16 @@ static void call_both(const struct asked *a)
 
 /* ---- from the fuzzer's bytes to a call ---- */
 
-/* the head: which call; flags; choices of tables, word room, output and list; length of the word or file, two bytes */
+/* the head: which call; flags; choices of tables, word room, output or searcher, and list; length of word, file or searcher, two bytes */
 enum { WHICH, FLAGS, TABLES_CHOICE, ROOM_CHOICE, OUT_CHOICE, LIST, INPUT_LOW, INPUT_HIGH, HEAD };
 
-/* the calls: five entries on what is there, two on the file of a word, changed at a few places */
-enum { LOAD_CHANGED = ENTRIES, SEARCH_FILE_CHANGED, CALLS };
+/* the calls: seven entries on what is there; two on the file of a word, and one on the searcher of a word, changed at a few places */
+enum { LOAD_CHANGED = ENTRIES, SEARCH_FILE_CHANGED, TAKE_CHANGED, CALLS };
+
+static enum entry entry_of(unsigned call)
+{
+    return call == LOAD_CHANGED ? LOAD : call == SEARCH_FILE_CHANGED ? SEARCH_FILE : call == TAKE_CHANGED ? TAKE : (enum entry)call;
+}
 
 static size_t chosen(size_t need, uint8_t choice)
 {
@@ -224,6 +237,56 @@ static size_t change(uint8_t *file, size_t *len, const uint8_t *rest, size_t res
     return took;
 }
 
+static void set_taken(uint8_t *searcher, uint32_t taken)
+{
+    for (int i = 0; i < 4; i++)
+        searcher[AT_TAKEN + i] = (uint8_t)(taken >> (8 * i));
+}
+
+enum { SET_BYTE, SET_KEPT, SET_TAKEN, SET_LEFT, SEARCHER_CHANGES };
+
+/* the changes as for a file, but of a searcher: a byte, so many letters kept, so many bytes taken with them, so many left to take; the last
+   three leave one that can be made, of any word */
+static size_t change_searcher(uint8_t *searcher, const uint8_t *rest, size_t rest_len)
+{
+    size_t changes = rest_len > 0 ? rest[0] % 4 : 0, took = rest_len > 0 ? 1 : 0;
+    for (; changes > 0 && rest_len - took >= 4; changes--, took += 4) {
+        uint32_t number = rest[took + 1] * 256u + rest[took + 2];
+        uint8_t value = rest[took + 3], m = searcher[AT_LENGTH];
+        switch (rest[took] % SEARCHER_CHANGES) {
+        case SET_BYTE: searcher[number % SEARCHER_BYTES] = value; break;
+        case SET_KEPT:
+            searcher[AT_KEPT] = m > 0 ? value % m : 0;
+            set_taken(searcher, searcher[AT_KEPT]);
+            break;
+        case SET_TAKEN: set_taken(searcher, searcher[AT_KEPT] + number); break;
+        case SET_LEFT: set_taken(searcher, MOST_TEXT - number); break;
+        }
+    }
+    return took;
+}
+
+/* the searcher of the call and the piece behind it: as it is there, or opened for the word that is there and then changed */
+static void understand_searcher(const uint8_t *data, size_t size, unsigned call, struct asked *a)
+{
+    enum { MOST_LENT = SEARCHER_BYTES + 64 };
+    static uint8_t searcher[MOST_LENT];
+    size_t rest = size - HEAD, input = (data[INPUT_LOW] + 256u * data[INPUT_HIGH]) % (rest + 1), took = 0;
+    a->content[SEARCHER] = data + HEAD;
+    a->len[SEARCHER] = input;
+    if (call == TAKE_CHANGED) {
+        input = input <= MOST_STREAMED ? input : MOST_STREAMED;
+        for (size_t i = 0; i < MOST_LENT; i++)
+            searcher[i] = stranger(SEARCHER, i, data[FLAGS]);
+        second_open(data + HEAD, input, searcher, SEARCHER_BYTES);
+        took = change_searcher(searcher, data + HEAD + input, rest - input);
+        a->content[SEARCHER] = searcher;
+        a->len[SEARCHER] = chosen(SEARCHER_BYTES, data[OUT_CHOICE]);
+    }
+    a->content[TEXT] = data + HEAD + input + took;
+    a->len[TEXT] = rest - input - took;
+}
+
 /* the word or file of the call, the text behind it, and the length m that its rooms are chosen near */
 static size_t understand_input(const uint8_t *data, size_t size, unsigned call, struct asked *a)
 {
@@ -246,8 +309,13 @@ static void understand(const uint8_t *data, size_t size, struct asked *a)
 {
     static uint8_t file[MOST_FILE];
     unsigned call = data[WHICH] % CALLS;
-    a->entry = call == LOAD_CHANGED ? LOAD : call == SEARCH_FILE_CHANGED ? SEARCH_FILE : (enum entry)call;
-    size_t m = understand_input(data, size, call, a);
+    a->entry = entry_of(call);
+    a->len[SEARCHER] = chosen(SEARCHER_BYTES, data[OUT_CHOICE]);
+    size_t m = 0;
+    if (a->entry == TAKE)
+        understand_searcher(data, size, call, a);
+    else
+        m = understand_input(data, size, call, a);
     a->len[TABLES] = chosen(6 * (m + 1), data[TABLES_CHOICE]) % (ROOM_BYTES / 2);
     a->len[ROOM] = chosen(m, data[ROOM_CHOICE]);
     a->len[OUT] = chosen(a->entry == SAVE && m >= 1 && m <= MOST_LETTERS ? file_of(data + HEAD, m, file) : 12, data[OUT_CHOICE]);
@@ -292,6 +360,66 @@ static size_t seed_text(const uint8_t *word, size_t m, uint8_t *text)
     return 2 * m;
 }
 
+/* a searcher's own bytes, and pieces: none, the text, and one byte too many to be read */
+static void seed_searcher(const uint8_t *searcher, const uint8_t *text, size_t n)
+{
+    seed(TAKE, 0, searcher, SEARCHER_BYTES, text, 0);
+    seed(TAKE, 1, searcher, SEARCHER_BYTES, text, n);
+    seed(TAKE, 0xF0, searcher, SEARCHER_BYTES, text, 0);
+}
+
+/* one byte of a searcher changed, as it is there and as change_searcher() understands it */
+static void seed_forged(const uint8_t *made, size_t at, uint8_t value, const uint8_t *text, size_t n)
+{
+    uint8_t forged[SEARCHER_BYTES], tail[5 + 3 * MOST_STREAMED] = {1, SET_BYTE, 0, (uint8_t)at, value};
+    memcpy(forged, made, SEARCHER_BYTES);
+    forged[at] = value;
+    seed(TAKE, 0, forged, SEARCHER_BYTES, text, n);
+    memcpy(tail + 5, text, n);
+    seed(TAKE_CHANGED, 0, made, made[AT_LENGTH], tail, 5 + n);
+}
+
+/* a stream that can take so many bytes more and keeps so many letters, and a text: it fits or not */
+static void seed_left(const uint8_t *made, uint8_t kept, uint16_t left, const uint8_t *text, size_t n)
+{
+    uint8_t other[SEARCHER_BYTES];
+    uint8_t tail[9 + 3 * MOST_STREAMED] = {2, SET_KEPT, 0, 0, kept, SET_LEFT, (uint8_t)(left / 256), (uint8_t)(left % 256), 0};
+    memcpy(other, made, SEARCHER_BYTES);
+    other[AT_KEPT] = kept;
+    set_taken(other, MOST_TEXT - left);
+    seed(TAKE, 0, other, SEARCHER_BYTES, text, n);
+    memcpy(tail + 9, text, n);
+    seed(TAKE_CHANGED, 1, made, made[AT_LENGTH], tail, 9 + n);
+}
+
+/* a word's searcher, opened and after a text; each field of it by a stranger; near the last byte that it may take */
+static void seed_stream(const uint8_t *word, size_t m)
+{
+    uint8_t made[SEARCHER_BYTES + 1] = {0}, text[3 * MOST_STREAMED], half = (uint8_t)(m / 2);
+    uint32_t finds[3];
+    uint64_t count;
+    size_t n = m + seed_text(word, m, text + m);
+    memcpy(text, word, m);
+    second_open(word, m, made, SEARCHER_BYTES);
+    seed_searcher(made, text, n);
+    seed(TAKE, 0, made, SEARCHER_BYTES - 1, text, 0);
+    seed(TAKE, 1, made, SEARCHER_BYTES + 1, text, 0);
+    second_take(made, SEARCHER_BYTES, text, m + half, finds, 3, &count);
+    seed_searcher(made, text + m + half, n - m - half);
+    const uint8_t forged[][2] = {
+        {AT_LENGTH, 0},        {AT_LENGTH, 65},          {AT_LENGTH, 255},
+        {AT_KEPT, (uint8_t)m}, {AT_KEPT, 255},           {AT_TAKEN, 0},
+        {AT_TAKEN + 3, 1},     {AT_TAKEN + 3, 255},      {AT_LETTERS, (uint8_t)(word[0] + 1)},
+        {AT_BORDERS, 1},       {AT_BORDERS + half, 200}, {(uint8_t)(AT_BORDERS + m - 1), made[AT_BORDERS + m - 1] + 1},
+        {AT_BORDERS - 1, 7},   {AT_LENGTH - 1, 9}};
+    for (size_t i = 0; i < sizeof forged / sizeof *forged; i++)
+        seed_forged(made, forged[i][0], forged[i][1], text, n);
+    const size_t left[] = {0, 1, n - 1, n, n + 1};
+    for (size_t i = 0; i < sizeof left / sizeof *left; i++)
+        seed_left(made, i % 2 ? half : 0, (uint16_t)left[i], text, n);
+    seed_left(made, half, (uint16_t)(m - half), text + half, m - half);
+}
+
 static void seed_word(const uint8_t *word, size_t m)
 {
     uint8_t file[MOST_FILE], text[2 * (MOST_LETTERS + 1)];
@@ -299,8 +427,11 @@ static void seed_word(const uint8_t *word, size_t m)
     static const uint8_t changes[] = {2, 0, 0, 3, 'b', 1, 255, 255, 0};
     seed(BUILD, 0, word, m, text, 0);
     seed(SAVE, 1, word, m, text, 0);
+    seed(OPEN, 1, word, m, text, 0);
     seed(SEARCH, 0, word, m, text, n);
     seed(SEARCH, 0xF0, word, m, text, 0);
+    if (size > 0 && m <= MOST_STREAMED)
+        seed_stream(word, m);
     if (size == 0)
         return;
     seed(LOAD, 0, file, size, text, 0);
@@ -431,7 +562,7 @@ static void write_seeds(void)
                                         "01036161610000",
                                         "0102616200",
                                         "01026162010000"};
-    static const size_t lengths[] = {16, 64, 127, 128, 129, 300, 1024, 1025, MOST_LETTERS - 1, MOST_LETTERS, MOST_LETTERS + 1};
+    static const size_t lengths[] = {16, 64, 65, 127, 128, 129, 300, 1024, 1025, MOST_LETTERS - 1, MOST_LETTERS, MOST_LETTERS + 1};
     static const size_t periodic[][2] = {{1, 1}, {3, 1}, {3, 2}, {4, 4}, {7, 3}, {8, 5}, {64, 8}, {256, 64}, {MOST_LETTERS, 2},
                                          {MOST_LETTERS, MOST_LETTERS / 2}};
     uint8_t word[MOST_LETTERS + 1];

@@ -1,6 +1,7 @@
 /* The second implementation: what an oracle is by the suffix rule, a supply by 001's definition, an occurrence by comparing bytes at
-   each place, a border by comparing the word's beginning with its end, the letters read by going through the published steps. Nothing
-   here is clever, so that it can be held against the scope document line by line.
+   each place, a border by comparing the word's beginning with its end, the letters read by going through the published steps, what a
+   stream ends with by comparing the word's beginnings, the longest first. Nothing here is clever, so that it can be held against the
+   scope document and the requests line by line.
 
    Compiled with -DSLIP=n it has one mistake on purpose, to show that the comparison finds it (tools/second-opinion --slips). The mistakes:
      slip 1: the letters of a file are asked for after the rooms (5 and 3 exchanged)
@@ -39,7 +40,33 @@
      slip 38: the border is of the word without its last letter
      slip 39: the shortest border that is not empty is taken for the longest
      slip 40: a border is at most half of the word
-   slip 31 and slip 32 stand in compare.c, slip 33 and slip 34 in fuzz.c. */
+     slip 41: a stream is opened for a word of 65 letters
+     slip 42: opening judges 3 before 2
+     slip 43: opening leaves what stood behind the word's letters
+     slip 44: taking forgets what hung over from the pieces before
+     slip 45: all of the word is kept after a find, which is counted once more at the cut
+     slip 46: starts are counted from the piece
+     slip 47: taking judges 4 before 16
+     slip 48: a searcher that keeps all of its word is taken
+     slip 49: a border that is not the word's own is taken
+     slip 50: a letter behind the word is taken
+     slip 51: a border behind those of the word is taken
+     slip 52: a searcher that keeps more letters than were taken is taken
+     slip 53: a searcher of 65 letters is taken
+     slip 54: a searcher that took one byte too many is refused with 4
+     slip 55: nothing is kept after a find
+     slip 56: what is kept is looked for in the piece alone
+     slip 57: a stream of exactly as many bytes as may be is refused
+     slip 58: a byte behind the searcher is written
+     slip 59: taking clears the list where it refuses
+     slip 60: a piece's finds are counted as far as they fit
+     slip 61: 4 forgets what is kept
+     slip 62: an empty piece forgets what is kept
+     slip 63: the bytes taken are written in three bytes
+     slip 64: a searcher is refused where more bytes are lent than it needs
+     slip 65: the shortest beginning that is not empty is kept, not the longest
+     slip 66: a find that ends with the piece's last byte is not counted
+   slip 31, slip 32, slip 67, slip 68 and slip 69 stand in compare.c, slip 33, slip 34 and slip 70 in fuzz.c. */
 #include "second.h"
 
 #include <stdbool.h>
@@ -336,13 +363,15 @@ static uint64_t letters_read(const uint8_t *word, size_t m, const uint8_t *text,
     return letters;
 }
 
-static uint64_t list_occurrences(const uint8_t *word, size_t m, const uint8_t *text, size_t n, uint32_t *finds, size_t finds_len)
+/* the text's own first letter stands at the place first */
+static uint64_t list_occurrences(const uint8_t *word, size_t m, const uint8_t *text, size_t n, uint64_t first, uint32_t *finds,
+                                 size_t finds_len)
 {
     uint64_t count = 0;
     for (size_t s = 0; s + m + (SLIP == 4 ? 1 : 0) <= n; s++)
         if (memcmp(text + s, word, m) == 0) {
             if (count < finds_len + (SLIP == 24 && finds_len > 0))
-                finds[count] = (uint32_t)s;
+                finds[count] = (uint32_t)(first + s);
             if (SLIP != 16 || count < finds_len)
                 count++;
         }
@@ -355,7 +384,104 @@ static void mirror(const uint8_t *word, size_t m, uint8_t *out)
         out[i] = word[m - 1 - i];
 }
 
-/* ---- the five entries ---- */
+/* ---- streams ---- */
+
+static uint64_t bytes_taken(const uint8_t *searcher)
+{
+    uint64_t taken = 0;
+    for (size_t i = 0; i < 4; i++)
+        taken += (uint64_t)searcher[AT_TAKEN + i] << (8 * i);
+    return taken;
+}
+
+static void write_taken(uint8_t *searcher, uint64_t taken)
+{
+    for (size_t i = 0; i < 4; i++)
+        searcher[AT_TAKEN + i] = SLIP == 63 && i == 3 ? 0 : (uint8_t)(taken >> (8 * i));
+}
+
+static void write_opened(const uint8_t *word, size_t m, uint8_t *searcher)
+{
+    for (size_t i = 0; i < SEARCHER_BYTES; i++)
+        if (SLIP != 43 || i >= AT_BORDERS)
+            searcher[i] = 0;
+    memcpy(searcher + AT_LETTERS, word, m);
+    for (size_t i = 1; i <= m; i++)
+        searcher[AT_BORDERS + i - 1] = (uint8_t)longest_border(word, i);
+    searcher[AT_LENGTH] = (uint8_t)m;
+}
+
+/* Whether opening and taking bytes can make it: its letters, borders and length are as opening leaves them, and what it keeps can end a
+   stream of so many bytes. */
+static bool can_be_made(const uint8_t *searcher, size_t searcher_len)
+{
+    uint8_t opened[SEARCHER_BYTES] = {0};
+    if (searcher_len < SEARCHER_BYTES || (SLIP == 64 && searcher_len > SEARCHER_BYTES))
+        return false;
+    size_t m = searcher[AT_LENGTH], kept = searcher[AT_KEPT];
+    if (m < 1 || m > MOST_STREAMED + (SLIP == 53))
+        return false;
+    if (kept >= m + (SLIP == 45 || SLIP == 48))
+        return false;
+    if ((kept > bytes_taken(searcher) && SLIP != 52) || bytes_taken(searcher) > MOST_TEXT + (SLIP == 54))
+        return false;
+    write_opened(searcher + AT_LETTERS, m, opened);
+    if (SLIP == 49)
+        memcpy(opened + AT_BORDERS, searcher + AT_BORDERS, m);
+    if (SLIP == 50)
+        memcpy(opened + AT_LETTERS + m, searcher + AT_LETTERS + m, MOST_STREAMED - m);
+    if (SLIP == 51)
+        memcpy(opened + AT_BORDERS + m, searcher + AT_BORDERS + m, MOST_STREAMED - m);
+    return memcmp(opened, searcher, AT_KEPT) == 0;
+}
+
+static uint32_t refuse_taking(const uint8_t *searcher, size_t searcher_len, size_t piece_len)
+{
+    if (SLIP == 47 && searcher_len >= SEARCHER_BYTES && bytes_taken(searcher) + piece_len > MOST_TEXT)
+        return 4;
+    if (!can_be_made(searcher, searcher_len))
+        return 16;
+    return bytes_taken(searcher) + piece_len > MOST_TEXT - (SLIP == 57) ? 4 : 0;
+}
+
+/* the longest beginning of the word, short of all of it, that the text ends with */
+static size_t longest_ending(const uint8_t *word, size_t m, const uint8_t *text, size_t n)
+{
+    size_t k = SLIP == 45 ? m : m - 1;
+    if (SLIP == 55 && n >= m && memcmp(word, text + n - m, m) == 0)
+        return 0;
+#if SLIP == 65
+    for (size_t least = 1; least < m && least <= n; least++)
+        if (memcmp(word, text + n - least, least) == 0)
+            return least;
+#endif
+    if (k > n)
+        k = n;
+    while (memcmp(word, text + n - k, k) != 0)
+        k--;
+    return k;
+}
+
+/* The letters that are kept stand for all of the stream before the piece: a find that ends in the piece begins with one of them or in the
+   piece itself, and all that can be kept after it too. */
+static uint64_t take_piece(uint8_t *searcher, const uint8_t *piece, size_t piece_len, uint32_t *finds, size_t finds_len)
+{
+    static uint8_t heard[MOST_STREAMED + MOST_TEXT];
+    const uint8_t *word = searcher + AT_LETTERS;
+    bool forgets = SLIP == 44 || (SLIP == 62 && piece_len == 0);
+    size_t m = searcher[AT_LENGTH], kept = forgets ? 0 : searcher[AT_KEPT], heard_len = kept + piece_len;
+    uint64_t taken = bytes_taken(searcher), first = SLIP == 46 ? 0 : taken - kept;
+    memcpy(heard, word, kept);
+    if (piece_len > 0)
+        memcpy(heard + kept, piece, piece_len);
+    uint64_t count = list_occurrences(word, m, heard, heard_len - (SLIP == 66 && heard_len > 0), first, finds, finds_len);
+    size_t unheard = SLIP == 56 && piece_len > 0 ? kept : 0;
+    searcher[AT_KEPT] = (uint8_t)longest_ending(word, m, heard + unheard, heard_len - unheard);
+    write_taken(searcher, taken + piece_len);
+    return SLIP == 60 && count > finds_len ? finds_len : count;
+}
+
+/* ---- the seven entries ---- */
 
 uint32_t second_build(const uint8_t *word, size_t word_len, uint16_t *tables, size_t tables_len, uint64_t *m)
 {
@@ -448,7 +574,7 @@ uint32_t second_search(const uint8_t *word, size_t word_len, const uint8_t *text
     make_oracle(mirrored, word_len);
     if (SLIP != 17 && !(SLIP == 29 && text_len < word_len))
         write_tables(mirrored, word_len, tables);
-    *count = list_occurrences(word, word_len, text, text_len, finds, finds_len);
+    *count = list_occurrences(word, word_len, text, text_len, 0, finds, finds_len);
     *letters = letters_read(word, word_len, text, text_len);
     return 0;
 }
@@ -464,7 +590,36 @@ uint32_t second_search_file(const uint8_t *file, size_t file_len, const uint8_t 
     if (no != 0)
         return no;
     mirror(room, m, sought); /* the oracle at hand is of the file's word, so of the mirror of what is sought */
-    *count = list_occurrences(SLIP == 28 ? room : sought, m, text, text_len, finds, finds_len);
+    *count = list_occurrences(SLIP == 28 ? room : sought, m, text, text_len, 0, finds, finds_len);
     *letters = letters_read(sought, m, text, text_len);
     return 0;
+}
+
+uint32_t second_open(const uint8_t *word, size_t word_len, uint8_t *searcher, size_t searcher_len)
+{
+    if (word_len == 0)
+        return 1;
+    if (SLIP == 42 && searcher_len < SEARCHER_BYTES)
+        return 3;
+    if (word_len > MOST_STREAMED + (SLIP == 41))
+        return 2;
+    if (searcher_len < SEARCHER_BYTES)
+        return 3;
+    write_opened(word, word_len, searcher);
+    return 0;
+}
+
+uint32_t second_take(uint8_t *searcher, size_t searcher_len, const uint8_t *piece, size_t piece_len, uint32_t *finds, size_t finds_len,
+                     uint64_t *count)
+{
+    uint32_t no = refuse_taking(searcher, searcher_len, piece_len);
+    if (SLIP == 59 && no != 0)
+        clear(finds, finds_len * sizeof *finds);
+    if (SLIP == 61 && no == 4)
+        searcher[AT_KEPT] = 0;
+    if (SLIP == 58 && no == 0 && searcher_len > SEARCHER_BYTES)
+        searcher[SEARCHER_BYTES] = 0;
+    if (no == 0)
+        *count = take_piece(searcher, piece, piece_len, finds, finds_len);
+    return no;
 }

@@ -1,5 +1,5 @@
-/* A second opinion on the library: the same five entries, written once more from the scope document, and from docs/TABLE.md where that
-   leaves the layout of the tables open, as plainly as can be.
+/* A second opinion on the library: the same seven entries, written once more from the scope document and the requests, and from
+   docs/TABLE.md and docs/FILE.md where those leave the layout of the tables and of a searcher open, as plainly as can be.
    It shares no code and no definition with the proved library, is quadratic where that is simpler, and keeps its oracle in static
    memory (one caller at a time). Each answers the refusal's number, 0 for success; what is answered beside it goes through the last
    pointers, which a refusal leaves alone. */
@@ -9,13 +9,20 @@
 #include <stddef.h>
 #include <stdint.h>
 
-/* The scope document's limits. Nothing else in second/ rests on their values, but for some examples and seeds. */
+/* The limits of the scope document and of the requests. Nothing else in second/ rests on their values, but for some examples and seeds. */
 enum {
     MOST_LETTERS = 4096,         /* of a word */
-    MOST_TEXT = 16777216,        /* bytes of a text */
+    MOST_STREAMED = 64,          /* letters of a word that a stream is opened for */
+    MOST_TEXT = 16777216,        /* bytes of a text, and of a stream */
+    SEARCHER_BYTES = 134,        /* of a searcher; more may be lent */
     ALWAYS_ENOUGH = 20481,       /* bytes of output, for the file of any word */
     MOST_FILE = 8 * MOST_LETTERS /* a room of our own for a file: more than any has */
 };
+
+/* Where a searcher has the word's letters, the longest border of each of the word's beginnings, how many letters the word has, how many
+   of them are kept, and how many bytes were taken, low byte first. Kept is the longest beginning of the word, short of all of it, that
+   ends with the last byte taken. */
+enum { AT_LETTERS = 0, AT_BORDERS = 64, AT_LENGTH = 128, AT_KEPT = 129, AT_TAKEN = 130 };
 
 uint32_t second_build(const uint8_t *word, size_t word_len, uint16_t *tables, size_t tables_len, uint64_t *m);
 
@@ -30,5 +37,10 @@ uint32_t second_search(const uint8_t *word, size_t word_len, const uint8_t *text
 
 uint32_t second_search_file(const uint8_t *file, size_t file_len, const uint8_t *text, size_t text_len, uint8_t *room, size_t room_len,
                             uint16_t *tables, size_t tables_len, uint32_t *finds, size_t finds_len, uint64_t *count, uint64_t *letters);
+
+uint32_t second_open(const uint8_t *word, size_t word_len, uint8_t *searcher, size_t searcher_len);
+
+uint32_t second_take(uint8_t *searcher, size_t searcher_len, const uint8_t *piece, size_t piece_len, uint32_t *finds, size_t finds_len,
+                     uint64_t *count);
 
 #endif
