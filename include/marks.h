@@ -9,7 +9,7 @@
  * buffer, on success too, and the word, the text and the file always. docs/PROMISES.md says what is proved of this.
  *
  * There is no state and no heap. Calls on buffers of their own may run at the same time from many threads; what is only read may be shared. A call takes
- * less than 64 KiB of stack. The archive needs memset of the C library and nothing else.
+ * less than 64 KiB of stack. The archive needs memset and memcpy of the C library and nothing else.
  *
  * Wrong use, which no entry can see and of which nothing is promised:
  *   - a pointer and a length that do not describe memory of the caller's, so many elements long, which nobody else changes during the call

@@ -1,9 +1,10 @@
 -- A RUN OVER A PIECE, letter by letter: what is kept and found of what was heard so far, the list being filled with that. One letter more
 -- is one letter behind what is kept, for only that matters; so `border::extend` decides.
 use mathlib.Core.Path.{_≡_, refl, sym, ap, _∙_}
+use mathlib.Core.Logic.{_≢_}
 use mathlib.Core.List.{List, [], _∷_, _++_, map, append-assoc, append-nil}
-use Prim.Native.Nat.{ℕ, suc, _+_, _-_, _≤_, _<_}
-use native.Mathlib.Nat.{le-refl}
+use Prim.Native.Nat.{ℕ, zero, suc, _+_, _-_, _≤_, _<_}
+use native.Mathlib.Nat.{le-refl, add-zero}
 use native.Mathlib.Omega.{arith}
 use lib.ListN.{length, take, length-append, length-map}
 use lib.Seq.{length-take-le, take-all, take-suc}
@@ -11,6 +12,7 @@ use Rattle.words.specs.Words.{Word, Place, letter, part, occurrences}
 use Rattle.words.proofs.Words.{part-length}
 use Rattle.words.proofs.Occurrences.{since-start, since-past}
 use Rattle.border.specs.Borders.{longestBorder, borders, longestEnd, Known}
+use Rattle.border.proofs.Beginnings.{end-none}
 use Rattle.border.proofs.Filling.{borders-length, borders-known}
 use Rattle.finds.specs.Finds.{filled}
 use Rattle.finds.proofs.Filling.{filled-nil, filled-length}
@@ -166,3 +168,30 @@ module _ {w v : Word} {held past : ℕ} {F₀ F : List ℕ} {at keep count : ℕ
                 (length-map (occurrences w y) (λ q. past - held + q) ∙ sym (R .number)) (R .list)
                 ∙ ap (λ (l : List Place). filled l F₀)
                 (sym (ap (map (λ q. past - held + q)) one-find ∙ map-append (λ q. past - held + q) (occurrences w y) _ ∙ rw place))
+
+-- ── Letters that are skipped ───────────────────────────────────────────────
+
+-- a letter that is not the word's first leaves nothing kept where nothing was
+other-letter : (w : Word) (c : ℕ) → letter w 0 ≢ c → longestEnd w (heard w 0 (c ∷ [])) ≡ 0
+other-letter w c d = end-none w 0 (omega arith) c (λ j l E e. let first : j ≡ 0 = omega (arith, E .sum) in d (rw first at e))
+
+-- so do any number of them
+running-others : {w v : Word} {held past : ℕ} {F₀ F : List ℕ} {count : ℕ} (k at : ℕ) → Running w v held past F₀ F at 0 count
+    → held < length w → at + k ≤ length v → ((i : ℕ) → at ≤ i → i < at + k → letter v i ≢ letter w 0)
+    → Running w v held past F₀ F (at + k) 0 count
+running-others zero at R short fits other = rw (add-zero at) R
+running-others {w} {v} {held} {past} {F₀} {F} {count} (suc k) at R short fits other =
+    let here : letter w 0 ≢ letter v at = λ e. other at (le-refl at) (omega arith) (sym e) in
+    let one = running-short R short (omega arith) (sym (other-letter w (letter v at) here)) (omega arith) in
+    let n : at + 1 + k ≡ at + suc k = omega arith in
+    rw n at (running-others k (at + 1) one short (omega arith) (λ i l u. other i (omega arith) (omega arith)))
+
+-- a letter that leaves nothing kept, and then those before the next that is the word's first
+pub running-skip : {w v : Word} {held past : ℕ} {F₀ F : List ℕ} {at keep count : ℕ} → Running w v held past F₀ F at keep count
+    → held < length w → at < length v → {end : ℕ} → end ≡ longestEnd w (heard w keep (letter v at ∷ [])) → end ≡ 0 → {e : ℕ}
+    → (at + 1 ≤ e) × (e ≤ length v) × ((i : ℕ) → at + 1 ≤ i → i < e → letter v i ≢ letter w 0) → Running w v held past F₀ F e 0 count
+running-skip {at = at} R short left {end} longest none {e} skipped =
+    let one = rw none at (running-short R short left longest (omega (arith, none))) in
+    let n : at + 1 + (e - (at + 1)) ≡ e = omega (arith, skipped .0) in
+    rw n at (running-others (e - (at + 1)) (at + 1) one short (omega (arith, skipped .0, skipped .1))
+    (λ i l u. skipped .2 i l (omega (arith, skipped .0))))

@@ -1,10 +1,11 @@
 // A text that comes in pieces: what is kept of it, that this is enough to go on, and the run over one piece. Serves the searchers.
 ghost use mathlib.Core.Path.{_≡_};
+ghost use mathlib.Core.Logic.{_≢_};
 ghost use mathlib.Core.List.{map};
-ghost use Prim.Native.Nat.{_+_, _-_, _<_, _≤_};
+ghost use Prim.Native.Nat.{ℕ, _+_, _-_, _<_, _≤_};
 ghost use lib.ListN.{length};
 ghost use Rattle.words.specs.Limits.{longestText};
-ghost use Rattle.words.specs.Words.{occurrences};
+ghost use Rattle.words.specs.Words.{letter, occurrences};
 ghost use Rattle.border.specs.Borders.{borders};
 ghost use Rattle.finds.specs.Finds.{filled};
 ghost use Rattle.pieces.specs.Kept.{kept, heard};
@@ -13,6 +14,21 @@ ghost use Rattle.pieces.specs.Kept.{kept, heard};
 pub struct Ran {
     pub keep: usize,
     pub count: usize,
+}
+
+// The first place from `at` on where the letter stands, or the piece's end.
+fn skip(piece: &[u8], at: usize, c: words::Letter) -> usize
+    requires { ⌜ at ≤ length (now piece) ⌝ }
+    ensures { λ r. ⌜ (at ≤ r) × (r ≤ length (now (piece .entry))) × ((i : ℕ) → at ≤ i → i < r → letter (now (piece .entry)) i ≢ c .0) ⌝ }
+{
+    let mut i = at;
+    while i < piece.len() {
+        if piece[i] == c.0 {
+            return i;
+        }
+        i += 1;
+    }
+    i
 }
 
 // Takes the letters of a piece one by one. Before it so many were taken, and the first `held` letters of the word are kept of them.
@@ -40,6 +56,12 @@ pub fn run(
         let c = piece[at];
         let end = border::extend(word, row, keep, words::Letter(c));
         at += 1;
+        if end == 0 {
+            // Nothing is kept, and nothing will be before the word's first letter comes.
+            keep = 0;
+            at = skip(piece, at, words::Letter(word[0]));
+            continue;
+        }
         if end < m {
             keep = end;
             continue;

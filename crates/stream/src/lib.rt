@@ -97,7 +97,7 @@ fn can_be_made(s: Searcher) -> bool
     if m < 1 {
         return false;
     }
-    if STREAMED_LIMIT < m {
+    if STREAMED_LIMIT < s.size {
         return false;
     }
     if m <= s.keep {

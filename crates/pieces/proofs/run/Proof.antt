@@ -10,7 +10,7 @@ use Rattle.words.proofs.Limits.{texts-fit}
 use Rattle.border.specs.Borders.{longestBorder}
 use Rattle.border.proofs.Filling.{borders-length, borders-last}
 use Rattle.pieces.proofs.Running.{Running, running-start, running-known, running-length, running-end}
-use Rattle.pieces.proofs.Running.{running-short, running-inside, running-find}
+use Rattle.pieces.proofs.Running.{running-short, running-skip, running-inside, running-find}
 use Rattle.pieces.proofs.run.Statement.{statement}
 use Rattle.pieces.proofs.run.Tie as tie
 
@@ -44,57 +44,86 @@ extend-requires c κs =
     let at-start = at-loop .before .before .before .before .before .before in
     running-known (at-loop .loop .inv .1) (at-start .pre .0 .0) (at-start .pre .0 .1)
 
+shared-slice-read-t25 : tie.Need-shared-slice-read-t25 Inv-loop μ-loop
+shared-slice-read-t25 c =
+    let at-loop = c .before .before .before .before .before in
+    omega (arith, at-loop .before .before .before .before .before .before .pre .0 .0)
+
+skip-requires : tie.Need-skip-requires Inv-loop μ-loop
+skip-requires c κs =
+    let in-loop = c .before .before .before .before in
+    omega (arith, in-loop .loop-test .taken)
+
+loop-less : tie.Need-loop-less Inv-loop μ-loop
+loop-less c =
+    let in-loop = c .before .before .before .before .before in
+    omega (arith, in-loop .loop-test .taken, c .skip .ensures .0, c .skip .ensures .1)
+
 loop-again : tie.Need-loop-again Inv-loop μ-loop
 loop-again c =
-    let at-extend = c .before in
+    let at-zero = c .before .before in
+    let at-extend = at-zero .before in
     let in-loop = at-extend .before .before in
     let at-loop = in-loop .before in
-    let at-start = at-loop .before .before .before .before .before .before in (
-      at-loop .loop .inv .0,
-      running-short (at-loop .loop .inv .1) (at-start .pre .0 .0) (in-loop .loop-test .taken) (at-extend .extend .ensures) (c .if1 .taken),
+    let at-start = at-loop .before .before .before .before .before .before in
+    let known = at-loop .loop .inv in (
+      known .0,
+      running-skip (known .1) (at-start .pre .0 .0) (in-loop .loop-test .taken) (at-extend .extend .ensures) (at-zero .if1 .taken)
+          (c .skip .ensures),
+    )
+
+loop-again-2 : tie.Need-loop-again-2 Inv-loop μ-loop
+loop-again-2 c =
+    let at-extend = c .before .before in
+    let in-loop = at-extend .before .before in
+    let at-loop = in-loop .before in
+    let at-start = at-loop .before .before .before .before .before .before in
+    let known = at-loop .loop .inv in (
+      known .0,
+      running-short (known .1) (at-start .pre .0 .0) (in-loop .loop-test .taken) (at-extend .extend .ensures) (c .if2 .taken),
     )
 
 add-s : tie.Need-add-s Inv-loop μ-loop
 add-s c =
-    let in-loop = c .before .before .before in
+    let in-loop = c .before .before .before .before in
     let at-start = in-loop .before .before .before .before .before .before .before in
     omega (arith, in-loop .loop-test .taken, at-start .pre .1 .1, texts-fit)
 
 sub-s : tie.Need-sub-s Inv-loop μ-loop
 sub-s c =
-    let at-extend = c .before in
+    let at-extend = c .before .before in
     let in-loop = at-extend .before .before in
     let at-loop = in-loop .before in
     let at-start = at-loop .before .before .before .before .before .before in
     let short = at-start .pre .0 .0 in
-    let fits = running-inside (at-loop .loop .inv .1) short (in-loop .loop-test .taken) (at-extend .extend .ensures) (c .if1 .left) in
+    let fits = running-inside (at-loop .loop .inv .1) short (in-loop .loop-test .taken) (at-extend .extend .ensures) (c .if2 .left) in
     omega (arith, fits, at-start .pre .1 .0)
 
 cast-s : tie.Need-cast-s Inv-loop μ-loop
 cast-s c =
-    let in-loop = c .before .before .before in
+    let in-loop = c .before .before .before .before in
     let at-start = in-loop .before .before .before .before .before .before .before in
     omega (arith, in-loop .loop-test .taken, at-start .pre .1 .1, texts-fit)
 
 note-requires : tie.Need-note-requires Inv-loop μ-loop
 note-requires c κs =
-    let in-loop = c .before .before .before .before in
+    let in-loop = c .before .before .before .before .before in
     let at-loop = in-loop .before in
     let at-start = at-loop .before .before .before .before .before .before in
     omega (arith, at-loop .loop .inv .1 .few, in-loop .loop-test .taken, at-start .pre .1 .1, texts-fit)
 
-loop-again-2 : tie.Need-loop-again-2 Inv-loop μ-loop
-loop-again-2 c =
+loop-again-3 : tie.Need-loop-again-3 Inv-loop μ-loop
+loop-again-3 c =
     let at-note = c .before .before in
-    let at-else = at-note .before .before in
-    let at-extend = at-else .before in
+    let at-find = at-note .before .before in
+    let at-extend = at-find .before .before in
     let in-loop = at-extend .before .before in
     let at-loop = in-loop .before in
     let at-start = at-loop .before .before .before .before .before .before in
     let noted = at-note .note .ensures in
     let known = at-loop .loop .inv in (
       known .0,
-      running-find (known .1) (at-start .pre .0 .0) (in-loop .loop-test .taken) (at-extend .extend .ensures) (at-else .if1 .left)
+      running-find (known .1) (at-start .pre .0 .0) (in-loop .loop-test .taken) (at-extend .extend .ensures) (at-find .if2 .left)
           (at-start .pre .1 .0) (known .0) (noted .0) (noted .1),
     )
 
@@ -111,6 +140,6 @@ returns c =
 pub run-spec : {M : Type 1} → statement M
 run-spec =
     tie.close
-    (tie.spec Inv-loop μ-loop (λ c. search needs) (λ c. search needs) shared-slice-read-border cast-border loop-holds
-    (λ c. search needs) extend-requires (λ c. search needs) (λ c. search needs) loop-again add-s sub-s cast-s note-requires
-    (λ c. search needs) loop-again-2 same-length returns)
+    (tie.spec Inv-loop μ-loop (λ c. search needs) (λ c. search needs) shared-slice-read-border cast-border loop-holds (λ c. search needs)
+    extend-requires (λ c. search needs) shared-slice-read-t25 skip-requires loop-less loop-again (λ c. search needs) loop-again-2 add-s sub-s
+    cast-s note-requires (λ c. search needs) loop-again-3 same-length returns)
