@@ -75,16 +75,15 @@ fn unopened(number: u8) -> Opened
 pub fn open(word: &[u8]) -> Opened
     ensures { λ r. ⌜ opened r ≡ openSays (now (word .entry)) ⌝ }
 {
-    let m = word.len();
-    if m < 1 {
+    if word.len() < 1 {
         return unopened(answers::EMPTY_WORD);
     }
-    if STREAMED_LIMIT < m {
+    if STREAMED_LIMIT < word.len() {
         return unopened(answers::LONG_WORD);
     }
     let s = fresh(word);
     Opened {
-        answer: SizeAnswer::Done(m),
+        answer: SizeAnswer::Done(word.len()),
         searcher: s,
     }
 }
@@ -97,7 +96,7 @@ fn can_be_made(s: Searcher) -> bool
     if m < 1 {
         return false;
     }
-    if STREAMED_LIMIT < s.size {
+    if STREAMED_LIMIT < m {
         return false;
     }
     if m <= s.keep {
