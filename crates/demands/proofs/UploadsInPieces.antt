@@ -3,15 +3,14 @@
 -- Of the code, crates/stream/src/lib.rt and crates/searcher_bytes/src/lib.rt: an entry has no `requires`, and its one `ensures` says that
 -- its answer, the searcher that it hands back and every lent buffer as it is left are `openSays`, `takeSays`, `openBytesSays` or
 -- `takeBytesSays` of what is handed over.
-use mathlib.Core.Path.{_≡_, refl, sym, ap, _∙_}
+use mathlib.Core.Path.{_≡_, sym, ap, _∙_}
 use mathlib.Core.Bool.{true}
 use mathlib.Core.Logic.{_↔_}
 use mathlib.Core.List.{List, [], _∷_, _++_}
 use Prim.Native.Nat.{ℕ, _+_, _-_, _≤_, _<_}
-use native.Mathlib.Nat.{add-zero}
 use native.Mathlib.Omega.{arith}
-use lib.ListN.{length, take, drop, length-append}
-use lib.Seq.{take-at, drop-at}
+use lib.ListN.{length, take}
+use lib.Seq.{take-at}
 use Rattle.words.specs.Limits.{longestStreamed, longestText}
 use Rattle.words.specs.Words.{Word, Place, part, occurrences}
 use Rattle.words.proofs.Limits.{streamed-limit, text-limit}

@@ -13,7 +13,6 @@ use Rattle.words.specs.Words.{Word}
 use Rattle.answers.specs.declared.SizeAnswer.{SizeAnswer}
 use Rattle.answers.specs.Answers.{done, refused, emptyWord, longWord, shortRoom, refusesOnly, oneOf}
 use Rattle.answers.proofs.Answers.{done-not-refused, size-answer-one}
-use Rattle.stream.specs.declared.Searcher.{Searcher}
 use Rattle.stream.specs.declared.Opened.{Opened}
 use Rattle.stream.specs.Searchers.{searcherOf}
 use Rattle.stream.specs.Opening

@@ -6,7 +6,7 @@ use native.Mathlib.Decide.{decLt}
 use native.Mathlib.Omega.{arith}
 use lib.ListN.{length, List·getD-eq-default}
 use Rattle.words.specs.Lists.{at}
-use Rattle.words.specs.Limits.{longestStreamed, longestText}
+use Rattle.words.specs.Limits.{longestStreamed}
 use Rattle.words.specs.Words.{Word}
 use Rattle.words.proofs.Limits.{streamed-limit, texts-fit}
 use Rattle.words.proofs.Loops.{padded}

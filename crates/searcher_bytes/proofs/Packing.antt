@@ -2,10 +2,10 @@
 -- digits to the base 256 have one value below 256⁴, and bytes are their value's digits.
 use mathlib.Core.Path.{_≡_, refl, sym, ap, _∙_}
 use mathlib.Core.List.{List, [], _∷_, _++_, append-assoc, append-nil}
-use Prim.Native.Nat.{ℕ, suc, _+_, _*_, _-_, _/_, _%_, _≤_, _<_}
+use Prim.Native.Nat.{ℕ, _+_, _*_, _-_, _/_, _%_, _<_}
 use native.Mathlib.Omega.{arith}
 use lib.ListN.{length, take, drop, length-append, length-drop, drop-of-length-le, take-append-drop}
-use lib.Seq.{take-at, drop-at, take-all, take-add, drop-drop, drop-cons, drop-length, length-take-le}
+use lib.Seq.{take-at, drop-at, drop-drop, drop-cons}
 use borrow.Rule.Slice.PartMut.{putMid}
 use Rattle.words.specs.Lists.{at}
 use Rattle.words.specs.Limits.{longestStreamed}

@@ -14,14 +14,13 @@ use borrow.Author.Tests.{lt-ltb, le-ltb}
 use Rattle.words.specs.Limits.{longestText}
 use Rattle.words.specs.Words.{Word, Place}
 use Rattle.words.proofs.Lists.{test-cases}
-use Rattle.finds.specs.Finds.{filled}
 use Rattle.number.specs.Number.{Bytes}
 use Rattle.answers.specs.declared.SizeAnswer.{SizeAnswer}
-use Rattle.answers.specs.Answers.{Answer, done, refused, sizeAnswer, longText, unmade, refusesOnly, oneOf}
+use Rattle.answers.specs.Answers.{refused, sizeAnswer, unmade, refusesOnly, oneOf}
 use Rattle.answers.proofs.Answers.{done-not-refused, size-answer-one}
 use Rattle.stream.specs.declared.Searcher.{Searcher}
 use Rattle.stream.specs.declared.Taken.{Taken}
-use Rattle.stream.specs.Searchers.{after, finds, Made, makeable}
+use Rattle.stream.specs.Searchers.{after, Made, makeable}
 use Rattle.stream.specs.Taking
 use Rattle.stream.specs.Taking.{takeSays}
 use Rattle.stream.specs.Cases as Stream

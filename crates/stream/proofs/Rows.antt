@@ -1,6 +1,6 @@
 -- Rows with zeros behind what they hold: their length, what is read back from them, and that code's rows of zeros whose first entries were
 -- filled are such.
-use mathlib.Core.Path.{_≡_, refl, _∙_}
+use mathlib.Core.Path.{_≡_, _∙_}
 use mathlib.Core.List.{List, _++_}
 use Prim.Native.Nat.{ℕ, zero, suc, _-_, _≤_}
 use native.Mathlib.Nat.{sub-zero, zero-sub, suc-sub-suc}

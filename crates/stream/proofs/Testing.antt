@@ -1,7 +1,7 @@
 -- THE TEST BY CODE: the searcher of its word, made anew, tells of both rows whether they are the ones that a searcher has.
 use mathlib.Core.Path.{_≡_, sym, ap, _∙_}
 use mathlib.Core.Bool.{Bool, true, false}
-use mathlib.Core.List.{List, []}
+use mathlib.Core.List.{[]}
 use Prim.Native.Nat.{ℕ, _≤_, _<_}
 use native.Mathlib.Omega.{arith}
 use lib.ListN.{length, length-take}
@@ -14,7 +14,7 @@ use Rattle.stream.specs.declared.Searcher.{Searcher}
 use Rattle.stream.specs.Searchers.{rowOf, searcherOf, wordOf, makeable}
 use Rattle.stream.proofs.Rows.{row-length}
 use Rattle.stream.proofs.History.{holds-word, holds-borders}
-use Rattle.stream.proofs.Sound.{Sound, same-eq, unsound, tested}
+use Rattle.stream.proofs.Sound.{same-eq, unsound, tested}
 
 module _ (s : Searcher) {o : Searcher} (anew : o ≡ searcherOf (wordOf s) []) where
   own : o .word ≡ rowOf (wordOf s)

@@ -1,18 +1,16 @@
 -- `searcher_bytes::open` meets its contract: each return is a case of `openBytesSays`, and the tests on the way there are the case's
 -- premises. Behind them a stream is opened, and its searcher packed.
-use mathlib.Core.Path.{sym, ap, _∙_}
-use mathlib.Core.List.{List, [], _++_}
+use mathlib.Core.Path.{sym, _∙_}
+use mathlib.Core.List.{[]}
+use Prim.Native.Nat.{_≤_}
 use native.Mathlib.Omega.{arith}
-use lib.ListN.{length, drop}
+use lib.ListN.{length}
 use lib.Seq.{length-take-le}
 use borrow.Author.Needs.{needs}
 use Rattle.words.specs.Limits.{longestStreamed, longestText}
-use Prim.Native.Nat.{_≤_}
 use Rattle.words.proofs.Limits.{streamed-limit}
-use Rattle.answers.specs.Answers.{done}
 use Rattle.stream.proofs.Reached.{searcher-sound}
 use Rattle.searcher_bytes.specs.Packing.{packed}
-use Rattle.searcher_bytes.specs.OpenBytes.{outcome}
 use Rattle.searcher_bytes.proofs.Packing.{searcher-bytes}
 use Rattle.searcher_bytes.proofs.Packable.{packable}
 use Rattle.searcher_bytes.proofs.OpenBytesSays.{says-empty, says-long, says-short, says-packed, opened-searcher}

@@ -1,5 +1,5 @@
 -- `searcher_bytes::pack` meets its contract: three parts, one behind the other, and each is copied.
-use mathlib.Core.Path.{_≡_, refl, sym, _∙_}
+use mathlib.Core.Path.{_≡_, sym, _∙_}
 use native.Mathlib.Omega.{arith}
 use lib.ListN.{length}
 use lib.Seq.{length-take-le}

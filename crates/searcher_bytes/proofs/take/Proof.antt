@@ -1,8 +1,7 @@
 -- `searcher_bytes::take` meets its contract: each return is a case of `takeBytesSays`. What taking hands back with an answer is sound, so
 -- it can be packed.
-use mathlib.Core.Path.{sym, ap, _∙_}
+use mathlib.Core.Path.{sym, _∙_}
 use native.Mathlib.Omega.{arith}
-use lib.ListN.{length}
 use lib.Seq.{length-take-le}
 use borrow.Author.Needs.{needs}
 use borrow.Author.Tests.{not-true, not-false}

@@ -1,5 +1,5 @@
 -- `searcher_bytes::unpack` meets its contract: two rows are copied, and six bytes are read, which the length that is asked for has.
-use mathlib.Core.Path.{sym, _∙_}
+use mathlib.Core.Path.{sym}
 use native.Mathlib.Omega.{arith}
 use lib.Seq.{length-take-le}
 use borrow.Author.Needs.{needs}

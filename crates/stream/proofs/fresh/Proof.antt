@@ -4,7 +4,6 @@ use mathlib.Core.Path.{refl, sym}
 use mathlib.Core.List.{[]}
 use native.Mathlib.Omega.{arith}
 use lib.Seq.{length-take-le}
-use borrow.Author.Needs.{needs}
 use Rattle.words.proofs.Limits.{streamed-limit}
 use Rattle.border.proofs.Filling.{borders-length}
 use Rattle.pieces.proofs.Kept.{kept-nothing}

@@ -1,12 +1,9 @@
 -- `stream::unopened` meets its contract: what it hands out is blank, rows of zeros.
-use mathlib.Core.List.{[]}
-use mathlib.Core.Path.{_≡_, refl, sym}
-use Prim.Native.Nat.{ℕ}
+use mathlib.Core.Path.{_≡_}
 use lib.ListN.{replicate}
-use Rattle.answers.specs.Answers.{refused}
 use Rattle.words.proofs.Limits.{streamed-limit}
 use Rattle.stream.specs.declared.Searcher.{Searcher}
-use Rattle.stream.specs.Opening.{blank, outcome}
+use Rattle.stream.specs.Opening.{blank}
 use Rattle.stream.proofs.unopened.Statement.{statement}
 use Rattle.stream.proofs.unopened.Tie as tie
 
