@@ -26,7 +26,7 @@ use Rattle.border.proofs.Closing.{closes-closing}
 use Rattle.stream.specs.declared.Searcher.{Searcher}
 use Rattle.stream.specs.declared.Opened.{Opened}
 use Rattle.stream.specs.declared.Taken.{Taken}
-use Rattle.stream.specs.Searchers.{rowOf, searcherOf, after, finds, Made, makeable, opened}
+use Rattle.stream.specs.Searchers.{rowOf, searcherOf, after, finds, Made, makeable}
 use Rattle.stream.specs.Opening
 use Rattle.stream.specs.Opening.{blank, openSays}
 use Rattle.stream.specs.Taking

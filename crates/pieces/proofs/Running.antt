@@ -18,7 +18,7 @@ use Rattle.finds.specs.Finds.{filled}
 use Rattle.finds.proofs.Filling.{filled-nil, filled-length}
 use Rattle.pieces.specs.Kept.{kept, heard}
 use Rattle.pieces.proofs.Kept.{kept-shorter, kept-within, kept-beginning}
-use Rattle.pieces.proofs.OnlyKept.{before, kept-goes-on, finds-go-on}
+use Rattle.pieces.proofs.OnlyKept.{kept-goes-on, finds-go-on}
 use Rattle.pieces.proofs.OneLetter.{short-kept, short-finds, whole-length, whole-kept, whole-finds}
 
 map-append : (f : ℕ → ℕ) (l r : List ℕ) → map f (l ++ r) ≡ map f l ++ map f r

@@ -2,7 +2,7 @@
 -- left, what a refusal leaves, and that the promise allows one outcome. Packing and unpacking undo each other, so the cases of the bytes
 -- are those of the searcher that has them.
 use mathlib.Core.Path.{_≡_, refl, sym, ap, _∙_}
-use mathlib.Core.Bool.{Bool, true, false}
+use mathlib.Core.Bool.{true, false}
 use mathlib.Core.Logic.{_↔_}
 use mathlib.Core.List.{List, [], _∷_, _++_}
 use Prim.Native.Nat.{ℕ, _+_, _≤_, _<_}
@@ -13,7 +13,7 @@ use lib.Seq.{length-take-le}
 use borrow.Author.Tests.{lt-ltb, le-ltb}
 use Rattle.words.specs.Limits.{longestText}
 use Rattle.words.specs.Words.{Word, Place}
-use Rattle.words.proofs.Lists.{test-cases}
+use Rattle.words.proofs.Lists.{true-not-false, test-cases}
 use Rattle.number.specs.Number.{Bytes}
 use Rattle.answers.specs.declared.SizeAnswer.{SizeAnswer}
 use Rattle.answers.specs.Answers.{refused, sizeAnswer, unmade, refusesOnly, oneOf}
@@ -32,9 +32,6 @@ use Rattle.searcher_bytes.specs.TakeBytes.{Outcome, outcome, took, isDon
 use Rattle.searcher_bytes.specs.Cases.{LeftIn, TakeCase}
 use Rattle.searcher_bytes.proofs.Packing.{searcher-bytes, unpacked-back, unpacked-bytes}
 use Rattle.searcher_bytes.proofs.Packable.{sound-length, sound-back}
-
-never : {X : Type 0} → _≡_ {A = Bool} true false → X
-never e = let z : _≡_ {A = ℕ} 0 1 = cc in absurd (omega arith)
 
 module _ (B : List ℕ) (v : Word) (F : List Place) where
   abbrev s : Searcher
@@ -166,7 +163,7 @@ done-sound s v F t says e = test-cases (makeable s)
     (λ m. refused-never (says ∙ says-unmade s v F m))
   where
     refused-never : {X : Type 0} {n : ℕ} {r : Searcher} {G H : List Place} → Taking.took t G ≡ Taking.outcome (refused n) r H → X
-    refused-never q = never (sym e ∙ ap (λ (o : Taking.Outcome). isDone (o .answer)) q)
+    refused-never q = true-not-false (sym e ∙ ap (λ (o : Taking.Outcome). isDone (o .answer)) q)
 
     by : makeable s ≡ true → Dec (longestText < s .taken + length v) → Sound (t .next)
     by m (yes l) = refused-never (says ∙ says-long-text s v F (makeable-sound s m) l)

@@ -21,7 +21,7 @@ use Rattle.pieces.specs.Kept.{kept}
 use Rattle.pieces.proofs.Kept.{kept-shorter, kept-within}
 use Rattle.pieces.proofs.Reaching.{reaching, reaching-length, reaching-keeps}
 use Rattle.stream.specs.declared.Searcher.{Searcher}
-use Rattle.stream.specs.Searchers.{rowOf, searcherOf, wordOf, after, Made, opened, fed}
+use Rattle.stream.specs.Searchers.{rowOf, searcherOf, wordOf, after, Made, by-opening, by-feeding}
 use Rattle.stream.proofs.History.{is-searcher, its-word, after-is, holds-word, holds-borders, holds-size, holds-kept, holds-taken}
 use Rattle.stream.proofs.Sound.{Sound, word-length}
 
@@ -81,7 +81,7 @@ took-more {s} v bytes fits K = record {
 }
 
 pub made-took : {s : Searcher} → Made s → Took s
-made-took (opened w bytes some few) = record {
+made-took (by-opening w bytes some few) = record {
   word = w;
   text = [];
   word-bytes = bytes;
@@ -91,7 +91,7 @@ made-took (opened w bytes some few) = record {
   inside = omega arith;
   is = refl;
 }
-made-took (fed made c byte more) = took-more (c ∷ []) (bytes-one c byte) (omega arith) (made-took made)
+made-took (by-feeding made c byte more) = took-more (c ∷ []) (bytes-one c byte) (omega arith) (made-took made)
 
 -- one byte after another
 feed-all : (w : Word) → 1 ≤ length w → (v u : Word) → Bytes v → length u + length v ≤ longestText → Made (searcherOf w u)
@@ -99,14 +99,14 @@ feed-all : (w : Word) → 1 ≤ length w → (v u : Word) → Bytes v → length
 feed-all w some [] u bytes fits made = rw (append-nil u) made
 feed-all w some (c ∷ v) u bytes fits made =
     let more : searcherOf w u .taken < longestText = omega (arith, holds-taken w u) in
-    let one = rw (after-is w u (c ∷ []) some) at (fed made c (bytes 0) more) in
+    let one = rw (after-is w u (c ∷ []) some) at (by-feeding made c (bytes 0) more) in
     let rest = feed-all w some v (u ++ (c ∷ [])) (λ i. bytes (suc i)) (omega (arith, length-append u (c ∷ []))) one in
     rw (append-assoc u (c ∷ []) v) at rest
 
 pub took-made : {s : Searcher} → Took s → Made s
 took-made K =
     rw (K .is) (feed-all (K .word) (K .some-letter) (K .text) [] (K .text-bytes) (omega (arith, K .inside))
-    (opened (K .word) (K .word-bytes) (K .some-letter) (K .few)))
+    (by-opening (K .word) (K .word-bytes) (K .some-letter) (K .few)))
 
 -- ── The test ───────────────────────────────────────────────────────────────
 
@@ -115,7 +115,7 @@ searcher-sound w t some few inside = record {
   some-letter = rw (holds-size w t) some;
   few = rw (holds-size w t) few;
   short = omega (arith, holds-size w t, holds-kept w t, kept-shorter w t some);
-  heard = omega (arith, holds-taken w t, holds-kept w t, kept-within w t some);
+  no-more = omega (arith, holds-taken w t, holds-kept w t, kept-within w t some);
   inside = rw (holds-taken w t) inside;
   own = holds-word w t ∙ ap rowOf (sym (its-word w t));
   its = holds-borders w t ∙ ap (λ (u : Word). rowOf (borders u)) (sym (its-word w t));
@@ -141,13 +141,13 @@ module _ (s : Searcher) (bytes : Bytes (s .word)) (S : Sound s) where
   lacks i l e = other .2 (rw e at (entry-in w i 0 l))
 
   abbrev text : Word
-  text = reaching w (other .0) lacks (s .taken) (s .keep) short (S .heard)
+  text = reaching w (other .0) lacks (s .taken) (s .keep) short (S .no-more)
 
   text-length : length text ≡ s .taken
-  text-length = reaching-length w (other .0) lacks (s .taken) (s .keep) short (S .heard)
+  text-length = reaching-length w (other .0) lacks (s .taken) (s .keep) short (S .no-more)
 
   text-keeps : kept w text ≡ s .keep
-  text-keeps = reaching-keeps w (other .0) lacks (s .taken) (s .keep) short (S .heard)
+  text-keeps = reaching-keeps w (other .0) lacks (s .taken) (s .keep) short (S .no-more)
 
   text-bytes : Bytes text
   text-bytes =

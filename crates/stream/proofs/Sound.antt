@@ -12,7 +12,7 @@ use borrow.Author.Tests.{leb-true, ltb-true, le-leb, lt-ltb}
 use Rattle.words.specs.Limits.{longestStreamed, longestText}
 use Rattle.words.specs.Words.{Word, part, same}
 use Rattle.words.proofs.Limits.{streamed-limit}
-use Rattle.words.proofs.Lists.{and-true, test-cases}
+use Rattle.words.proofs.Lists.{and-true, true-not-false, test-cases}
 use Rattle.words.proofs.Words.{same-true, same-refl, part-length}
 use Rattle.border.specs.Borders.{borders}
 use Rattle.border.proofs.Filling.{borders-length}
@@ -25,7 +25,7 @@ pub record Sound (s : Searcher) : Type 0 where
   pub some-letter : 1 ≤ s .size
   pub few : s .size ≤ longestStreamed
   pub short : s .keep < s .size
-  pub heard : s .keep ≤ s .taken
+  pub no-more : s .keep ≤ s .taken
   pub inside : s .taken ≤ longestText
   pub own : s .word ≡ rowOf (wordOf s)
   pub its : s .borders ≡ rowOf (borders (wordOf s))
@@ -48,7 +48,7 @@ makeable-sound s e =
       some-letter = leb-true _ _ (a .0);
       few = leb-true _ _ (b .0);
       short = ltb-true _ _ (c .0);
-      heard = leb-true _ _ (d .0);
+      no-more = leb-true _ _ (d .0);
       inside = leb-true _ _ (f .0);
       own = same-true _ _ (g .0);
       its = same-true _ _ (g .1);
@@ -61,7 +61,7 @@ sound-makeable s S =
       le-leb _ _ (S .some-letter),
       le-leb _ _ (S .few),
       lt-ltb _ _ (S .short),
-      le-leb _ _ (S .heard),
+      le-leb _ _ (S .no-more),
       le-leb _ _ (S .inside),
       same-eq _ _ (S .own),
       same-eq _ _ (S .its),
@@ -74,7 +74,7 @@ unsound s f = not-eq-not {b = false} .0 (λ e. f (makeable-sound s e))
 pub tested : (s : Searcher) {b : Bool} → (b ≡ true → Sound s) → (Sound s → b ≡ true) → b ≡ makeable s
 tested s {b} f g = test-cases b
     (λ e. e ∙ sym (sound-makeable s (f e)))
-    (λ e. e ∙ sym (unsound s (λ S. let never : _≡_ {A = Bool} true false = sym (g S) ∙ e in let z : _≡_ {A = ℕ} 0 1 = cc in omega arith)))
+    (λ e. e ∙ sym (unsound s (λ S. true-not-false (sym (g S) ∙ e))))
 
 -- ── Its rows ───────────────────────────────────────────────────────────────
 
@@ -101,7 +101,7 @@ sound-after {s} S v fits = record {
   some-letter = S .some-letter;
   few = S .few;
   short = omega (arith, kept-shorter w (heardBy s v) some-letter, word-length S);
-  heard = omega (arith, kept-within w (heardBy s v) some-letter, length-append (part w 0 (s .keep)) v, front, S .heard);
+  no-more = omega (arith, kept-within w (heardBy s v) some-letter, length-append (part w 0 (s .keep)) v, front, S .no-more);
   inside = fits;
   own = S .own;
   its = S .its;

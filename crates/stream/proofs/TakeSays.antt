@@ -1,6 +1,6 @@
 -- THE THEOREMS on `takeSays`: each refusal exactly where it is tabled, what a refusal leaves, and that the promise allows one outcome.
 use mathlib.Core.Path.{_≡_, refl, sym, ap, _∙_}
-use mathlib.Core.Bool.{Bool, true, false}
+use mathlib.Core.Bool.{true, false}
 use mathlib.Core.Logic.{_↔_}
 use mathlib.Core.List.{List, [], _∷_, map}
 use Prim.Native.Nat.{ℕ, _+_, _-_, _≤_, _<_}
@@ -10,7 +10,7 @@ use lib.ListN.{length, length-map}
 use borrow.Author.Tests.{lt-ltb, le-ltb}
 use Rattle.words.specs.Limits.{longestText}
 use Rattle.words.specs.Words.{Word, Place, occurrences}
-use Rattle.words.proofs.Lists.{test-cases}
+use Rattle.words.proofs.Lists.{true-not-false, test-cases}
 use Rattle.finds.specs.Finds.{filled}
 use Rattle.pieces.specs.Kept.{kept}
 use Rattle.number.specs.Number.{Bytes}
@@ -90,10 +90,7 @@ module _ (s : Searcher) (v : Word) (F : List Place) where
         (λ e. rw (says-unmade e) (TakeCase.not-made (never e)))
       where
         never : makeable s ≡ false → Made s → ⊥
-        never e made =
-            let both : _≡_ {A = Bool} true false = sym (makeable-exactly s bytes .1 made) ∙ e in
-            let z : _≡_ {A = ℕ} 0 1 = cc in
-            omega arith
+        never e made = true-not-false (sym (makeable-exactly s bytes .1 made) ∙ e)
 
         by : makeable s ≡ true → Dec (longestText < s .taken + length v) → TakeCase s v F (takeSays s v F)
         by e (yes l) = rw (says-long-text (makeable-sound s e) l) (TakeCase.long-text (makeable-exactly s bytes .0 e) l)

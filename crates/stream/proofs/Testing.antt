@@ -1,12 +1,13 @@
 -- THE TEST BY CODE: the searcher of its word, made anew, tells of both rows whether they are the ones that a searcher has.
 use mathlib.Core.Path.{_≡_, sym, ap, _∙_}
-use mathlib.Core.Bool.{Bool, true, false}
+use mathlib.Core.Bool.{true, false}
 use mathlib.Core.List.{[]}
-use Prim.Native.Nat.{ℕ, _≤_, _<_}
+use Prim.Native.Nat.{_≤_, _<_}
 use native.Mathlib.Omega.{arith}
 use lib.ListN.{length, length-take}
 use Rattle.words.specs.Words.{same}
 use Rattle.words.proofs.Limits.{streamed-limit, text-limit}
+use Rattle.words.proofs.Lists.{true-not-false}
 use Rattle.words.proofs.Words.{same-true}
 use Rattle.border.specs.Borders.{borders}
 use Rattle.border.proofs.Filling.{borders-length}
@@ -34,10 +35,7 @@ module _ (s : Searcher) {o : Searcher} (anew : o ≡ searcherOf (wordOf s) []) w
         ∙ row-length (borders (wordOf s)) (omega (arith, borders-length (wordOf s), length-take (s .size) (s .word), streamed-limit))
 
   pub other-word : same (s .word) (o .word) ≡ false → makeable s ≡ false
-  other-word e = unsound s (λ S.
-      let both : _≡_ {A = Bool} true false = sym (same-eq (s .word) (o .word) (S .own ∙ sym own)) ∙ e in
-      let z : _≡_ {A = ℕ} 0 1 = cc in
-      omega arith)
+  other-word e = unsound s (λ S. true-not-false (sym (same-eq (s .word) (o .word) (S .own ∙ sym own)) ∙ e))
 
   pub last-test : 1 ≤ s .size → s .size ≤ 64 → s .keep < s .size → s .keep ≤ s .taken → s .taken ≤ 16777216
       → same (s .word) (o .word) ≡ true → same (s .borders) (o .borders) ≡ makeable s
@@ -46,7 +44,7 @@ module _ (s : Searcher) {o : Searcher} (anew : o ≡ searcherOf (wordOf s) []) w
         some-letter = some;
         few = omega (arith, streamed-limit);
         short = short;
-        heard = heard;
+        no-more = heard;
         inside = omega (arith, text-limit);
         own = same-true (s .word) (o .word) one ∙ own;
         its = same-true (s .borders) (o .borders) e ∙ its;

@@ -47,8 +47,8 @@ unfoldable pub finds : Searcher → Word → List Place
 finds s v = map (λ q. s .taken - s .keep + q) (occurrences (wordOf s) (heardBy s v))
 
 pub data Made : Searcher → Type 0 where
-  opened : (w : Word) → Bytes w → 1 ≤ length w → length w ≤ longestStreamed → Made (searcherOf w [])
-  fed : {s : Searcher} → Made s → (c : Letter) → c < 256 → s .taken < longestText → Made (after s (c ∷ []))
+  by-opening : (w : Word) → Bytes w → 1 ≤ length w → length w ≤ longestStreamed → Made (searcherOf w [])
+  by-feeding : {s : Searcher} → Made s → (c : Letter) → c < 256 → s .taken < longestText → Made (after s (c ∷ []))
 
 unfoldable pub makeable : Searcher → Bool
 makeable s =

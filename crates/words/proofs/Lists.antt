@@ -19,6 +19,9 @@ pub and-true : {a b : Bool} → a && b ≡ true → (a ≡ true) × (b ≡ true)
 and-true {a = true} e = (refl, e)
 and-true {a = false} e = (e, cc)
 
+pub true-not-false : {C : Type 0} → _≡_ {A = Bool} true false → C
+true-not-false e = let z : _≡_ {A = ℕ} 0 1 = cc in absurd (omega arith)
+
 pub test-cases : {C : Type 0} (b : Bool) → (b ≡ true → C) → (b ≡ false → C) → C
 test-cases true f g = f refl
 test-cases false f g = g refl

@@ -22,7 +22,7 @@ returns-3 : tie.Need-returns-3
 returns-3 c = sym (unsound _ (λ S. omega (arith, S .short, c .if3 .taken)))
 
 returns-4 : tie.Need-returns-4
-returns-4 c = sym (unsound _ (λ S. omega (arith, S .heard, c .if4 .taken)))
+returns-4 c = sym (unsound _ (λ S. omega (arith, S .no-more, c .if4 .taken)))
 
 returns-5 : tie.Need-returns-5
 returns-5 c = sym (unsound _ (λ S. omega (arith, S .inside, text-limit, c .if5 .taken)))

@@ -55,7 +55,7 @@ run-requires c κs =
     let at-fine = at-fits .before in
     let S = makeable-sound _ (sym (at-fine .before .can-be-made .ensures) ∙ not-false _ (at-fine .if1 .left)) in (
       (omega (arith, word-length S, S .short), own-borders S),
-      (S .heard, omega (arith, S .inside, text-limit, at-fits .if2 .left)),
+      (S .no-more, omega (arith, S .inside, text-limit, at-fits .if2 .left)),
     )
 
 add-t14 : tie.Need-add-t14
