@@ -113,10 +113,10 @@ pub cut-anywhere : (w : Word) → 1 ≤ length w → length w ≤ longestStreame
 cut-anywhere w some few l fits =
     rw (ap (λ (o : Opening.Outcome). o .searcher) (Open.says-opened w some few)) (Streams.cut-anywhere w some few l fits)
 
--- a piece, then another, is both at once: the searcher, and the finds
-pub both-at-once : {s : Searcher} (a b : Word) → Made s
-    → (after (after s a) b ≡ after s (a ++ b)) × (finds s a ++ finds (after s a) b ≡ finds s (a ++ b))
-both-at-once a b made = (Streams.after-both a b made, Streams.finds-both a b made)
+-- a piece, then another, is both at once: whatever lists are lent, they find the same and leave the same searcher
+pub both-at-once : {s : Searcher} (a b : Word) → Made s → s .taken + length (a ++ b) ≤ longestText
+    → InTurn s (a ∷ b ∷ []) (finds s (a ++ b)) (after s (a ++ b)) × InTurn s ((a ++ b) ∷ []) (finds s (a ++ b)) (after s (a ++ b))
+both-at-once a b made fits = (Streams.both-in-turn a b made fits, Streams.both-at-once a b made fits)
 
 -- ── 'A piece that would pass 16,777,216 bytes in all is refused with 4, searcher and list unchanged.' ──
 

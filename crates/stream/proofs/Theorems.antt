@@ -19,8 +19,8 @@ use Rattle.stream.specs.Opening.{blank}
 use Rattle.stream.specs.Taking.{outcome, takeSays}
 use Rattle.stream.specs.Pieces.{joined, InTurn, none, next}
 use Rattle.stream.proofs.History.{holds-taken, after-is, finds-are}
-use Rattle.stream.proofs.Sound.{unsound}
-use Rattle.stream.proofs.Reached.{Took, took-more, made-took, took-made, searcher-sound}
+use Rattle.stream.proofs.Sound.{Sound, unsound, sound-after}
+use Rattle.stream.proofs.Reached.{Took, took-more, made-took, took-made, took-sound, searcher-sound}
 use Rattle.stream.proofs.TakeSays.{says-long-text, says-taken}
 
 same-front : (l a b : List ℕ) → l ++ a ≡ l ++ b → a ≡ b
@@ -120,8 +120,29 @@ module _ {s : Searcher} (a b : Word) (made : Made s) where
   K : Took s
   K = made-took made
 
-  pub after-both : after (after s a) b ≡ after s (a ++ b)
+  after-both : after (after s a) b ≡ after s (a ++ b)
   after-both = rw (K .is) (after-two (K .word) (K .text) a b (K .some-letter))
 
-  pub finds-both : finds s a ++ finds (after s a) b ≡ finds s (a ++ b)
+  finds-both : finds s a ++ finds (after s a) b ≡ finds s (a ++ b)
   finds-both = rw (K .is) (finds-two (K .word) (K .text) a b (K .some-letter))
+
+  -- taken in turn, and at once, they come to the same
+  module _ (fits : s .taken + length (a ++ b) ≤ longestText) where
+    sound : Sound s
+    sound = took-sound K
+
+    first-fits : s .taken + length a ≤ longestText
+    first-fits = omega (arith, length-append a b)
+
+    second-fits : after s a .taken + length b ≤ longestText
+    unfolding after
+    second-fits = omega (arith, length-append a b)
+
+    pub both-in-turn : InTurn s (a ∷ b ∷ []) (finds s (a ++ b)) (after s (a ++ b))
+    both-in-turn =
+        rw (append-nil (finds (after s a) b), finds-both, after-both) at (next (finds s a) (λ F. says-taken s a F sound first-fits)
+        (next (finds (after s a) b) (λ F. says-taken (after s a) b F (sound-after sound a first-fits) second-fits) none))
+
+    pub both-at-once : InTurn s ((a ++ b) ∷ []) (finds s (a ++ b)) (after s (a ++ b))
+    both-at-once =
+        rw (append-nil (finds s (a ++ b))) at (next (finds s (a ++ b)) (λ F. says-taken s (a ++ b) F sound fits) none)
