@@ -140,6 +140,6 @@ returns c =
 pub run-spec : {M : Type 1} → statement M
 run-spec =
     tie.close
-    (tie.spec Inv-loop μ-loop (λ c. search needs) (λ c. search needs) shared-slice-read-border cast-border loop-holds (λ c. search needs)
-    extend-requires (λ c. search needs) shared-slice-read-t25 skip-requires loop-less loop-again (λ c. search needs) loop-again-2 add-s sub-s
-    cast-s note-requires (λ c. search needs) loop-again-3 same-length returns)
+    (tie.spec Inv-loop μ-loop (λ c. search needs) (λ c. search needs) shared-slice-read-border cast-border loop-holds
+    (λ c. search needs) extend-requires (λ c. search needs) shared-slice-read-t25 skip-requires loop-less loop-again
+    (λ c. search needs) loop-again-2 add-s sub-s cast-s note-requires (λ c. search needs) loop-again-3 same-length returns)

@@ -15,7 +15,7 @@ abbrev μ-loop : tie.MeasureT-loop
 pub skip-spec : {M : Type 1} → statement M
 skip-spec =
     tie.close
-    (tie.spec Inv-loop μ-loop (λ c. skip-start _ _ (c .pre)) (λ c. search needs) (λ c. skip-end (c .before .before .before .before .loop .inv))
-    (λ c. search needs) (λ c. search needs)
+    (tie.spec Inv-loop μ-loop (λ c. skip-start _ _ (c .pre)) (λ c. search needs)
+    (λ c. skip-end (c .before .before .before .before .loop .inv)) (λ c. search needs) (λ c. search needs)
     (λ c. skip-step (c .before .before .before .before .loop .inv) (c .before .before .before .loop-test .taken) (c .if1 .left))
     (λ c. skip-end (c .before .loop .inv)))
