@@ -1,6 +1,6 @@
 -- A RUN OVER A PIECE, letter by letter: what is kept and found of what was heard so far, the list being filled with that. One letter more
 -- is one letter behind what is kept, for only that matters; so `border::extend` decides.
-use mathlib.Core.Path.{_≡_, refl, sym, ap, _∙_}
+use mathlib.Core.Path.{_≡_, sym, ap, _∙_}
 use mathlib.Core.Logic.{_≢_}
 use mathlib.Core.List.{List, [], _∷_, _++_, map, append-assoc, append-nil}
 use Prim.Native.Nat.{ℕ, zero, suc, _+_, _-_, _≤_, _<_}
@@ -9,6 +9,7 @@ use native.Mathlib.Omega.{arith}
 use lib.ListN.{length, take, length-append, length-map}
 use lib.Seq.{length-take-le, take-all, take-suc}
 use Rattle.words.specs.Words.{Word, Place, letter, part, occurrences}
+use Rattle.words.proofs.Lists.{map-append}
 use Rattle.words.proofs.Words.{part-length}
 use Rattle.words.proofs.Occurrences.{since-start, since-past}
 use Rattle.border.specs.Borders.{longestBorder, borders, longestEnd, Known}
@@ -20,10 +21,6 @@ use Rattle.pieces.specs.Kept.{kept, heard}
 use Rattle.pieces.proofs.Kept.{kept-shorter, kept-within, kept-beginning}
 use Rattle.pieces.proofs.OnlyKept.{kept-goes-on, finds-go-on}
 use Rattle.pieces.proofs.OneLetter.{short-kept, short-finds, whole-length, whole-kept, whole-finds}
-
-map-append : (f : ℕ → ℕ) (l r : List ℕ) → map f (l ++ r) ≡ map f l ++ map f r
-map-append f [] r = refl
-map-append f (a ∷ l) r = ap {B = List ℕ} (λ k. f a ∷ k) (map-append f l r)
 
 -- the word's first `held` letters are kept of the `past` letters before the piece v; of the piece, `at` letters were taken
 pub record Running (w v : Word) (held past : ℕ) (F₀ F : List ℕ) (at keep count : ℕ) : Type 0 where

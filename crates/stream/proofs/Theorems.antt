@@ -3,12 +3,12 @@
 use mathlib.Core.Path.{_≡_, sym, ap, _∙_}
 use mathlib.Core.Bool.{false}
 use mathlib.Core.List.{List, [], _∷_, _++_, append-assoc, append-nil}
-use Prim.Native.Nat.{ℕ, _+_, _≤_, _<_}
+use Prim.Native.Nat.{_+_, _≤_, _<_}
 use native.Mathlib.Omega.{arith}
-use lib.ListN.{length, drop, length-append}
-use lib.Seq.{drop-append-seam}
+use lib.ListN.{length, length-append}
 use Rattle.words.specs.Limits.{longestStreamed, longestText}
 use Rattle.words.specs.Words.{Word, Place, occurrences}
+use Rattle.words.proofs.Lists.{same-behind}
 use Rattle.words.proofs.Occurrences.{since-start, since-past}
 use Rattle.finds.specs.Finds.{filled}
 use Rattle.number.specs.Number.{Bytes}
@@ -23,9 +23,6 @@ use Rattle.stream.proofs.Sound.{Sound, unsound, sound-after}
 use Rattle.stream.proofs.Reached.{Took, took-more, made-took, took-made, took-sound, searcher-sound}
 use Rattle.stream.proofs.TakeSays.{says-long-text, says-taken}
 
-same-front : (l a b : List ℕ) → l ++ a ≡ l ++ b → a ≡ b
-same-front l a b e = sym (drop-append-seam l a) ∙ ap (drop (length l)) e ∙ drop-append-seam l b
-
 -- ── A piece ────────────────────────────────────────────────────────────────
 
 -- the word w has taken the text t
@@ -35,7 +32,7 @@ module _ (w t : Word) (some-letter : 1 ≤ length w) (few : length w ≤ longest
       → takeSays (searcherOf w t) v F ≡ outcome (done (length f)) (searcherOf w (t ++ v)) (filled f F)
   piece-taken fits f e =
       let sound = searcher-sound w t some-letter few (omega (arith, length-append t v)) in
-      let found : finds (searcherOf w t) v ≡ f = same-front (occurrences w t) _ f (sym (finds-are w t v some-letter) ∙ e) in
+      let found : finds (searcherOf w t) v ≡ f = same-behind (occurrences w t) _ f (sym (finds-are w t v some-letter) ∙ e) in
       says-taken (searcherOf w t) v F sound (omega (arith, holds-taken w t, length-append t v))
       ∙ rw (found, after-is w t v some-letter)
 
@@ -109,7 +106,7 @@ module _ (w t a b : Word) (some-letter : 1 ≤ length w) where
   finds-two : finds s a ++ finds (after s a) b ≡ finds s (a ++ b)
   finds-two =
       ap (λ (x : Searcher). finds s a ++ finds x b) (after-is w t a some-letter)
-      ∙ same-front (occurrences w t) _ _
+      ∙ same-behind (occurrences w t) _ _
       (sym (append-assoc (occurrences w t) (finds s a) (finds (searcherOf w (t ++ a)) b))
       ∙ ap (λ (l : List Place). l ++ finds (searcherOf w (t ++ a)) b) (sym (finds-are w t a some-letter))
       ∙ sym (finds-are w (t ++ a) b some-letter)

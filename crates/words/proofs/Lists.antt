@@ -9,8 +9,8 @@ use Prim.Native.Nat.{ℕ, zero, suc, _+_, _-_, _≤_, _<_}
 use native.Mathlib.Nat.{le-refl, zero-add, add-zero, add-suc, suc-add, sub-zero, zero-sub, suc-sub-suc}
 use native.Mathlib.Decide.{ℕ-discrete}
 use native.Mathlib.Omega.{arith}
-use lib.ListN.{length, getD, List·getD-map}
-use lib.Seq.{getD-append-add}
+use lib.ListN.{length, getD, drop, replicate, List·getD-map}
+use lib.Seq.{getD-append-add, drop-append-seam}
 use Rattle.words.specs.Lists.{at, from, only, first, Rising, end, up}
 
 -- ── Tests and options ──────────────────────────────────────────────────────
@@ -73,6 +73,19 @@ map-behind f d E T l s e h =
     (rw p at (getD-append-add E (map f l) i (f d)))
     ∙ List·getD-map f l i d
     ∙ ap f (sym (rw q at (getD-append-add T l i d)))
+
+pub map-append : {A B : Type 0} (f : A → B) (l r : List A) → map f (l ++ r) ≡ map f l ++ map f r
+map-append f [] r = refl
+map-append {B = B} f (a ∷ l) r = ap {B = List B} (λ k. f a ∷ k) (map-append f l r)
+
+-- what follows the same list is the same
+pub same-behind : {A : Type 0} (l a b : List A) → l ++ a ≡ l ++ b → a ≡ b
+same-behind l a b e = sym (drop-append-seam l a) ∙ ap (drop (length l)) e ∙ drop-append-seam l b
+
+pub drop-replicate : (n k a : ℕ) → drop k (replicate n a) ≡ replicate (n - k) a
+drop-replicate n zero a = rw (sub-zero n)
+drop-replicate zero (suc k) a = rw (zero-sub (suc k))
+drop-replicate (suc n) (suc k) a = drop-replicate n k a ∙ rw (suc-sub-suc n k)
 
 -- ── from ───────────────────────────────────────────────────────────────────
 
