@@ -3,7 +3,7 @@
 -- Of the code, crates/stream/src/lib.rt and crates/searcher_bytes/src/lib.rt: an entry has no `requires`, and its one `ensures` says that
 -- its answer, the searcher that it hands back and every lent buffer as it is left are `openSays`, `takeSays`, `openBytesSays` or
 -- `takeBytesSays` of what is handed over.
-use mathlib.Core.Path.{_≡_, sym, ap, _∙_}
+use mathlib.Core.Path.{_≡_, refl, sym, ap, _∙_}
 use mathlib.Core.Bool.{true}
 use mathlib.Core.Logic.{_↔_}
 use mathlib.Core.List.{List, [], _∷_, _++_}
@@ -36,7 +36,7 @@ use Rattle.stream.specs.Cases as Stream
 use Rattle.stream.proofs.History.{holds-word, holds-borders, holds-size, holds-kept, holds-taken}
 use Rattle.stream.proofs.OpenSays as Open
 use Rattle.stream.proofs.TakeSays as Take
-use Rattle.stream.proofs.Reached.{made-took, took-sound}
+use Rattle.stream.proofs.Reached.{made-took, took-made, took-sound}
 use Rattle.stream.proofs.Theorems as Streams
 use Rattle.searcher_bytes.specs.Packing.{searcherBytes, packed, unpacked}
 use Rattle.searcher_bytes.specs.OpenBytes
@@ -95,6 +95,23 @@ module _ (w t : Word) where
 pub opens-empty : (w : Word) → 1 ≤ length w → searcherOf w [] .keep ≡ 0
 opens-empty w h = holds-kept w [] ∙ kept-nothing w h
 
+-- every searcher that can be made is that of a word that has taken a text, and each of these can be made
+pub made-has : {s : Searcher} → Made s → (w : Word) × (t : Word) × (1 ≤ length w) × (length w ≤ longestStreamed) × (length t ≤ longestText)
+    × (s ≡ searcherOf w t)
+made-has made = let K = made-took made in (K .word, K .text, K .some-letter, K .few, K .inside, K .is)
+
+pub has-made : (w t : Word) → Bytes w → Bytes t → 1 ≤ length w → length w ≤ longestStreamed → length t ≤ longestText → Made (searcherOf w t)
+has-made w t word-bytes text-bytes some few inside = took-made (record {
+  word = w;
+  text = t;
+  word-bytes = word-bytes;
+  text-bytes = text-bytes;
+  some-letter = some;
+  few = few;
+  inside = inside;
+  is = refl;
+})
+
 -- ── 'taking a piece hands the searcher back by value with the number of finds, and their starts, counted from the stream's first byte, as
 --    many as fit.' ──
 
@@ -128,11 +145,13 @@ module _ {s : Searcher} (made : Made s) (v : Word) (F : List Place) where
   past-the-limit l = Take.says-long-text s v F (took-sound (made-took made)) l
 
   -- up to the limit every piece is taken
-  pub up-to-the-limit : s .taken + length v ≤ longestText → takeSays s v F ≡ Take.counted s v F
+  pub up-to-the-limit : s .taken + length v ≤ longestText
+      → takeSays s v F ≡ Taking.outcome (done (length (finds s v))) (after s v) (filled (finds s v) F)
   up-to-the-limit l = Take.says-taken s v F (took-sound (made-took made)) l
 
 -- at the limit an empty piece is taken
-pub empty-on-top : {s : Searcher} → Made s → (F : List Place) → s .taken ≡ longestText → takeSays s [] F ≡ Take.counted s [] F
+pub empty-on-top : {s : Searcher} → Made s → (F : List Place) → s .taken ≡ longestText
+    → takeSays s [] F ≡ Taking.outcome (done (length (finds s []))) (after s []) (filled (finds s []) F)
 empty-on-top made F e = up-to-the-limit made [] F (omega arith)
 
 -- ── 'A searcher that opening and taking bytes could never have made is refused with a new 16, checked before 4 and with the same
