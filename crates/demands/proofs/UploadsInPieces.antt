@@ -36,6 +36,7 @@ use Rattle.stream.specs.Cases as Stream
 use Rattle.stream.proofs.History.{holds-word, holds-borders, holds-size, holds-kept, holds-taken}
 use Rattle.stream.proofs.OpenSays as Open
 use Rattle.stream.proofs.TakeSays as Take
+use Rattle.stream.proofs.Sound.{finds-few}
 use Rattle.stream.proofs.Reached.{made-took, took-made, took-sound}
 use Rattle.stream.proofs.Theorems as Streams
 use Rattle.searcher_bytes.specs.Packing.{searcherBytes, packed, unpacked}
@@ -121,6 +122,10 @@ pub piece-taken : (w t : Word) → 1 ≤ length w → length w ≤ longestStream
     → (f : List Place) → occurrences w (t ++ v) ≡ occurrences w t ++ f
     → takeSays (searcherOf w t) v F ≡ Taking.outcome (done (length f)) (searcherOf w (t ++ v)) (filled f F)
 piece-taken = Streams.piece-taken
+
+-- a list as long as the piece has room for all of them: each byte ends one find at most
+pub finds-at-most : {s : Searcher} → Made s → (v : Word) → length (finds s v) ≤ length v
+finds-at-most made v = finds-few (took-sound (made-took made)) v
 
 -- ── 'Cut anywhere, empty pieces included, the finds together are those of demand 2 on the whole.' ──
 

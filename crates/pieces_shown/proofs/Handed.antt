@@ -86,7 +86,7 @@ module _ {w T : Word} {s : Searcher} {at count : ℕ} (H : Handed w T s at count
         omega (arith, added, H .number, sum, ap length found, ap (λ (x : Word). length (occurrences w x)) joined)
 
     pub handed-few : count + k ≤ longestText
-    handed-few = omega (arith, counted, occurrences-few w (take end T) some, length-take-le end T within)
+    handed-few = omega (arith, counted, occurrences-few w (take end T), some, length-take-le end T within)
 
     pub handed-next : Handed w T (t .next) end (count + k)
     handed-next = record {

@@ -19,7 +19,7 @@ const ROWS: usize = 2 * STREAMED_LIMIT;
 pub const SEARCHER: usize = ROWS + 6;
 
 // Writes a searcher's bytes.
-pub fn pack(s: Searcher, out: &mut [u8])
+fn pack(s: Searcher, out: &mut [u8])
     requires { ⌜ length (now out) ≡ searcherBytes ⌝ }
     requires { ⌜ (s .size < 256) × (s .keep < 256) × ((i : ℕ) → at (s .borders) i < 256) ⌝ }
     ensures { λ _. ⌜ now (out .exit) ≡ packed s ⌝ }
@@ -44,7 +44,7 @@ pub fn pack(s: Searcher, out: &mut [u8])
 }
 
 // The searcher that has these bytes.
-pub fn unpack(bytes: &[u8]) -> Searcher
+fn unpack(bytes: &[u8]) -> Searcher
     requires { ⌜ length (now bytes) ≡ searcherBytes ⌝ }
     ensures { λ r. ⌜ r ≡ unpacked (now (bytes .entry)) ⌝ }
 {

@@ -1,24 +1,25 @@
 -- WHAT THE TEST SAYS, part by part: a searcher passes exactly if it is sound. So code that answers false has found a part that fails. What
--- this tells of its rows, and that a piece leaves it sound.
+-- this tells of its rows, how many finds a piece may have, and that it leaves the searcher sound.
 use mathlib.Core.Path.{_≡_, sym, ap, _∙_}
 use mathlib.Core.Bool.{Bool, true, false, not-eq-not}
 use mathlib.Core.List.{List}
-use Prim.Native.Nat.{ℕ, _+_, _≤_, _<_}
+use Prim.Native.Nat.{ℕ, _+_, _-_, _≤_, _<_}
 use native.Mathlib.Omega.{arith}
-use lib.ListN.{length, take, length-take, length-append}
+use lib.ListN.{length, take, length-take, length-append, length-map}
 use lib.Seq.{take-at, length-take-le}
 use lib.Dec.{leb, ltb}
 use borrow.Author.Tests.{leb-true, ltb-true, le-leb, lt-ltb}
 use Rattle.words.specs.Limits.{longestStreamed, longestText}
-use Rattle.words.specs.Words.{Word, part, same}
+use Rattle.words.specs.Words.{Word, part, same, occurrences}
 use Rattle.words.proofs.Limits.{streamed-limit}
 use Rattle.words.proofs.Lists.{and-true, true-not-false, test-cases}
 use Rattle.words.proofs.Words.{same-true, same-refl, part-length}
+use Rattle.words.proofs.Occurrences.{occurrences-few}
 use Rattle.border.specs.Borders.{borders}
 use Rattle.border.proofs.Filling.{borders-length}
 use Rattle.pieces.proofs.Kept.{kept-shorter, kept-within}
 use Rattle.stream.specs.declared.Searcher.{Searcher}
-use Rattle.stream.specs.Searchers.{rowOf, wordOf, heardBy, after, makeable}
+use Rattle.stream.specs.Searchers.{rowOf, wordOf, heardBy, after, finds, makeable}
 use Rattle.stream.proofs.Rows.{row-length}
 
 pub record Sound (s : Searcher) : Type 0 where
@@ -93,6 +94,15 @@ module _ {s : Searcher} (S : Sound s) where
   own-borders = ap (take (s .size)) (S .its) ∙ take-at (borders (wordOf s)) _ (s .size) (borders-length (wordOf s) ∙ word-length)
 
 -- ── After a piece ──────────────────────────────────────────────────────────
+
+-- each byte of it ends one find at most: fewer letters than the word has are heard before it
+pub finds-few : {s : Searcher} → Sound s → (v : Word) → length (finds s v) ≤ length v
+unfolding finds
+finds-few {s} S v =
+    let w = wordOf s in
+    let number = length-map (occurrences w (heardBy s v)) (λ q. s .taken - s .keep + q) in
+    let front : length (part w 0 (s .keep)) ≡ s .keep = part-length w 0 (s .keep) (omega (arith, word-length S, S .short)) in
+    omega (arith, number, occurrences-few w (heardBy s v), length-append (part w 0 (s .keep)) v, front, word-length S, S .short)
 
 -- it is sound again
 pub sound-after : {s : Searcher} → Sound s → (v : Word) → s .taken + length v ≤ longestText → Sound (after s v)

@@ -58,10 +58,10 @@ module _ (v t : Word) where
   unfolding occurrences
   occurrences-rise = rising-from (stands v t) 0 _
 
-  -- each ends with a letter of its own
-  pub occurrences-few : 1 ≤ length v → length (occurrences v t) ≤ length t
+  -- no more than there are places at which the word ends within the text
+  pub occurrences-few : length (occurrences v t) ≤ suc (length t) - length v
   unfolding occurrences
-  occurrences-few h =
+  occurrences-few =
       let tried = suc (length t) - length v in
       omega (arith, only-few (stands v t) (from 0 tried), from-length 0 tried)
 
