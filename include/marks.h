@@ -5,8 +5,9 @@
  * are marks_open and marks_take, for marks of 1 to 64 bytes, and c/pieces.c.
  *
  * Any bytes and any lengths may be handed to every entry. It returns MARKS_OK and writes its answers through the last pointers; or it refuses: it returns
- * the number of the first refusal in the order given below, and leaves those pointers alone. What is not named below keeps its value: the rest of every
- * buffer, on success too, and the word, the text and the file always. docs/PROMISES.md says what is proved of this.
+ * the number of the first refusal in the order given below, and leaves those pointers alone, but for an offset, which only a refusal writes. What is not
+ * named below keeps its value: the rest of every buffer, on success too, and the word, the text and the file always. docs/PROMISES.md says what is proved
+ * of this.
  *
  * There is no state and no heap. Calls on buffers of their own may run at the same time from many threads; what is only read may be shared. A call takes
  * less than 64 KiB of stack. The archive needs memset and memcpy of the C library and nothing else.
@@ -16,7 +17,7 @@
  *   - buffers or answers that overlap where one of them is written
  *   - a null pointer with a length other than 0 (with length 0 it is fine)
  *   - a pointer that is not aligned for its type
- *   - a null pointer for an answer
+ *   - a null pointer for an answer or an offset
  */
 #ifndef MARKS_H
 #define MARKS_H
@@ -66,8 +67,12 @@ uint32_t marks_save(const uint8_t *word, size_t word_len, uint16_t *tables, size
 /* The file's word in the first m bytes of room, and its table, as marks_build makes it, in the first MARKS_TABLES(m) entries of tables. The answer is m.
  * Refusals, field by field: the edition (5 or 6, then 7), m (5 or 6, then 8), the letters (5), the rooms (3), the number of arrows (5 or 6, then 9), each
  * arrow (5 or 6, then 10), missing arrows (10), bytes behind the last (11). Those up to 3 in this order change nothing; the others leave the first m bytes
- * of room and the first MARKS_TABLES(m) entries of tables zero. */
-uint32_t marks_load(const uint8_t *file, size_t file_len, uint8_t *room, size_t room_len, uint16_t *tables, size_t tables_len, uint64_t *m);
+ * of room and the first MARKS_TABLES(m) entries of tables zero.
+ * 5 to 11 also write to offset where in the file they show, counted from 0: the first byte of the faulty field, where an arrow's two numbers are one field;
+ * for 5 the file's length; for 6 the byte that is refused; for missing arrows and for 11 the first byte behind the arrows. Nothing else writes it: 3 shows
+ * nowhere in a file. docs/FILE.md has an example of each. */
+uint32_t marks_load(const uint8_t *file, size_t file_len, uint8_t *room, size_t room_len, uint16_t *tables, size_t tables_len, uint64_t *m,
+                    uint64_t *offset);
 
 /* Every place where the word stands in the text, overlaps included. finds gets the first of them, rising, as many as fit; the first MARKS_TABLES(m)
  * entries of tables get the table of the word's mirror. The answers are how many places there are, fitting or not, and how many letters were read.
@@ -77,9 +82,10 @@ uint32_t marks_search(const uint8_t *word, size_t word_len, const uint8_t *text,
 
 /* The same for the mirror of the file's word: to look for a mark with a file, save the mark's letters from last to first. room and tables are left as by
  * marks_load.
- * Refusals: 4, which changes nothing, then as marks_load, with what they leave there; finds are as they were. */
+ * Refusals: 4, which changes nothing, then as marks_load, with what they leave there and what they write to offset; finds are as they were. */
 uint32_t marks_search_file(const uint8_t *file, size_t file_len, const uint8_t *text, size_t text_len, uint8_t *room, size_t room_len,
-                           uint16_t *tables, size_t tables_len, uint32_t *finds, size_t finds_len, uint64_t *count, uint64_t *letters);
+                           uint16_t *tables, size_t tables_len, uint32_t *finds, size_t finds_len, uint64_t *count, uint64_t *letters,
+                           uint64_t *offset);
 
 /* Opens a stream: a searcher for a word of 1 to 64 bytes that has taken nothing, in the first MARKS_SEARCHER bytes of searcher.
  * Refusals: 1, 2 (longer than 64), 3 (fewer bytes lent). They change nothing. */
