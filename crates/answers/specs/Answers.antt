@@ -5,13 +5,16 @@
 --   Answer A         done with an answer of kind A, or refused
 --   Succeeds a       a is done, with some answer
 --   oneOf n l        whether n is one of the numbers l
---   refusesOnly l a  whether a is done, or refused with one of the numbers l and nothing but the number
+--   refusesWith l k a
+--                    whether a is done, or refused with one of the numbers l and nothing but the number, or with one of the numbers k and
+--                    a place
+--   refusesOnly l a  the same where no refusal has a place
 --   numberOf r       the number of the code's refusal r
 --   refusedAs r      what it means
 --   sizeAnswer r     what the code's answer r means: the letters of a word, the bytes of a file, or a number of finds
 --   tallyAnswer r    the same of a search: finds and letters read
 --
--- 01, 'When the library says no'; 02, 'Uploads in pieces'.
+-- 01, 'When the library says no'; 02, 'Uploads in pieces' and 'Where in the file is it broken?'.
 use mathlib.Core.Path.{_≡_}
 use mathlib.Core.Bool.{Bool, true, false, _||_}
 use mathlib.Core.List.{List, [], _∷_}
@@ -86,10 +89,13 @@ unfoldable pub oneOf : ℕ → List ℕ → Bool
 oneOf n [] = false
 oneOf n (k ∷ l) = eqb n k || oneOf n l
 
+abbrev pub refusesWith : {A : Type 0} → List ℕ → List ℕ → Answer A → Bool
+refusesWith l k (done a) = true
+refusesWith l k (refused n) = oneOf n l
+refusesWith l k (refusedAt n p) = oneOf n k
+
 abbrev pub refusesOnly : {A : Type 0} → List ℕ → Answer A → Bool
-refusesOnly l (done a) = true
-refusesOnly l (refused n) = oneOf n l
-refusesOnly l (refusedAt n p) = false
+refusesOnly l a = refusesWith l [] a
 
 -- ── What the code's answers mean ───────────────────────────────────────────
 

@@ -1,3 +1,4 @@
+pub mod SamePlace
 pub mod SaveSays
 pub mod LoadSays
 pub mod LoadTheorems

@@ -26,17 +26,17 @@ use Rattle.loaded.proofs.Fronts.{LettersIn, front-letters}
 use Rattle.loaded.proofs.Theorems.{front-is, verdict-is}
 use Rattle.answers.specs.declared.SizeAnswer.{SizeAnswer}
 use Rattle.answers.specs.declared.SizeAnswer.the-variants.{Done}
-use Rattle.answers.specs.Answers.{Answer, done, refused, shortRoom}
-use Rattle.answers.proofs.Answers.{done-not-refused, size-answer-one}
+use Rattle.answers.specs.Answers.{Answer, done, refused, refusedAt, Succeeds, shortRoom}
+use Rattle.answers.proofs.Answers.{size-answer-one}
 use Rattle.mark_files.specs.Load.{Outcome, outcome, loadedAs, judgedAt, loadWithin, loadSays}
 use Rattle.mark_files.specs.Cases.{LoadCase, AfterRefusal}
 
 module _ (file R T : List ℕ) where
   -- ── Its cases, in the order of the tests ─────────────────────────────────
 
-  pub says-stop : (n i : ℕ) → front file ≡ stop n i → loadSays file R T ≡ outcome (refused n) R T
+  pub says-stop : (n p : ℕ) → front file ≡ stop n p → loadSays file R T ≡ outcome (refusedAt n p) R T
   unfolding loadWithin
-  says-stop n i e = rw e
+  says-stop n p e = rw e
 
   -- an outcome in the first m letters' part of the rooms, with what stands behind it
   abbrev pub put : ℕ → Outcome → Outcome
@@ -75,7 +75,7 @@ module _ (file R T : List ℕ) where
     letters-size = part-length file i m (front-letters file shown .inside)
 
     says-wrong : {n p : ℕ} → VerdictCase file (i + m) (part file i m) (wrong n p)
-        → loadSays file R T ≡ outcome (refused n) (replicate m 0 ++ drop m R) (replicate (room m) 0 ++ drop (room m) T)
+        → loadSays file R T ≡ outcome (refusedAt n p) (replicate m 0 ++ drop m R) (replicate (room m) 0 ++ drop (room m) T)
     says-wrong {n} {p} v = says-judged m i shown h t ∙ rw (verdict-is file (i + m) (part file i m) (wrong n p) .1 v, letters-size)
 
     says-right : VerdictCase file (i + m) (part file i m) right
@@ -117,15 +117,14 @@ module _ (file R T : List ℕ) where
       → (loadSays file R T .answer ≡ a) ↔ ((R′ : List ℕ) × (T′ : List ℕ) × LoadCase file R T (outcome a R′ T′))
   load-answers a = (λ e. (_, _, rw e at (load-is _ .0 refl)), λ c. ap (λ o. o .answer) (given (c .2)))
 
-  pub refusal-leaves : {n : ℕ} → loadSays file R T .answer ≡ refused n
-      → AfterRefusal R T (loadSays file R T .word) (loadSays file R T .tables)
-  refusal-leaves {n} = by case
+  pub refusal-leaves : (Succeeds (loadSays file R T .answer) → ⊥) → AfterRefusal R T (loadSays file R T .word) (loadSays file R T .tables)
+  refusal-leaves = by case
     where
-      by : {o : Outcome} → LoadCase file R T o → o .answer ≡ refused n → AfterRefusal R T (o .word) (o .tables)
-      by (LoadCase.head-refused f) e = AfterRefusal.unchanged
-      by (LoadCase.short-room f r) e = AfterRefusal.unchanged
-      by (LoadCase.arrows-refused f h t v) e = AfterRefusal.zeroed h t
-      by (LoadCase.accepted f h t v) e = done-not-refused e
+      by : {o : Outcome} → LoadCase file R T o → (Succeeds (o .answer) → ⊥) → AfterRefusal R T (o .word) (o .tables)
+      by (LoadCase.head-refused f) d = AfterRefusal.unchanged
+      by (LoadCase.short-room f r) d = AfterRefusal.unchanged
+      by (LoadCase.arrows-refused f h t v) d = AfterRefusal.zeroed h t
+      by (LoadCase.accepted {m = m} f h t v) d = absurd (d (m, refl))
 
 -- ── In the word's part of the rooms ────────────────────────────────────────
 
@@ -148,7 +147,7 @@ module _ (file : List ℕ) (i m : ℕ) (inside : i + m ≤ length file) where
         rw (v, copied, table, is-part, size)
 
     pub taken-wrong : {n j : ℕ} → said ≡ Wrong n j → {R′ T′ : List ℕ} → R′ ≡ replicate (length R) 0 → T′ ≡ replicate (length T) 0
-        → outcome (refused n) R′ T′ ≡ judgedAt file i m
+        → outcome (refusedAt n j) R′ T′ ≡ judgedAt file i m
     taken-wrong {n} {j} e r t =
         let v : verdict file (i + m) (part file i m) ≡ wrong n j = ap (verdict file (i + m)) (sym is-part) ∙ sym told ∙ ap verdictOf e in
         rw (v, r, t, copied, table, is-part, table-size (part file i m))

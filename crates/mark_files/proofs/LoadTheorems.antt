@@ -22,11 +22,12 @@ use Rattle.loaded.specs.Accepts.{Judged, Accepts, FileOf}
 use Rattle.loaded.specs.Cases.{Reads, BadLength, FrontCase, length-bad, count-too-large, arrows-wrong}
 use Rattle.loaded.proofs.Fronts.{front-letters}
 use Rattle.loaded.proofs.Theorems.{file-accepted, only-files, beginning-refused, longer-refused, front-is, verdict-is}
-use Rattle.answers.specs.Answers.{done, refused}
+use Rattle.answers.specs.Answers.{done, refusedAt}
 use Rattle.mark_files.specs.Load.{Outcome, outcome, judged, loadSays}
 use Rattle.mark_files.specs.Save.{saveSays}
 use Rattle.mark_files.specs.Cases.{LoadCase}
 use Rattle.mark_files.proofs.SaveSays.{done-leaves}
+use Rattle.mark_files.proofs.SamePlace.{reads-same-place, letters-same-place}
 use Rattle.mark_files.proofs.LoadSays.{put, says-stop, says-judged, load-is, load-answers}
 
 -- what an outcome with m letters hands over of the file s
@@ -74,17 +75,17 @@ module _ (R T : List ℕ) where
         let some : 1 ≤ length w = omega (arith, saved-some, least) in
         ap (λ (f : List ℕ). loadSays f R T) (done-leaves w T′ O some most a b .file) ∙ file-loads
 
-    -- a file that is cut short anywhere is refused with 5
-    pub cut-refused : (n : ℕ) → n < length (spell w) → loadSays (take n (spell w)) R T .answer ≡ refused 5
+    -- a file that is cut short anywhere is refused with 5, which shows at its end
+    pub cut-refused : (n : ℕ) → n < length (spell w) → loadSays (take n (spell w)) R T .answer ≡ refusedAt 5 n
     cut-refused n b = by (beginning-refused w least most n b)
       where
         by : (front (take n (spell w)) ≡ stop 5 n) ⊎ Judged (take n (spell w)) w (wrong 5 n)
-            → loadSays (take n (spell w)) R T .answer ≡ refused 5
+            → loadSays (take n (spell w)) R T .answer ≡ refusedAt 5 n
         by (inl e) = ap (λ o. o .answer) (says-stop (take n (spell w)) R T 5 n e)
         by (inr J) = ap (λ o. o .answer) (says-shown J h t)
 
-    -- one that goes on behind its last arrow is refused with 11
-    pub longer-refused-11 : (b : ℕ) (l : List ℕ) → loadSays (spell w ++ b ∷ l) R T .answer ≡ refused 11
+    -- one that goes on behind its last arrow is refused with 11, which shows where the word's file ends
+    pub longer-refused-11 : (b : ℕ) (l : List ℕ) → loadSays (spell w ++ b ∷ l) R T .answer ≡ refusedAt 11 (length (spell w))
     longer-refused-11 b l = ap (λ o. o .answer) (says-shown (longer-refused w least most b l) h t)
 
   -- whatever is accepted is the file of a word of m letters, and there was room for it
@@ -155,18 +156,21 @@ module _ (R T : List ℕ) where
 
   -- 8: the outcome is one, whichever length that no word may have was declared, and whatever follows
   pub bad-length-one : (s : List ℕ) {i m j : ℕ} → Reads s 0 edition i → Reads s i m j → BadLength m
-      → loadSays s R T ≡ outcome (refused 8) R T
+      → loadSays s R T ≡ outcome (refusedAt 8 i) R T
   bad-length-one s a b c = load-is s R T _ .1 (LoadCase.head-refused (length-bad a b c))
 
-  -- so any two files that declare one have the same outcome
+  -- so any two files that declare one have the same outcome, and it shows at the same place
   pub any-two-bad-lengths : (s s′ : List ℕ) {i m j i′ m′ j′ : ℕ} → Reads s 0 edition i → Reads s i m j → BadLength m
       → Reads s′ 0 edition i′ → Reads s′ i′ m′ j′ → BadLength m′ → loadSays s R T ≡ loadSays s′ R T
-  any-two-bad-lengths s s′ a b c a′ b′ c′ = bad-length-one s a b c ∙ sym (bad-length-one s′ a′ b′ c′)
+  any-two-bad-lengths s s′ a b c a′ b′ c′ =
+      bad-length-one s a b c
+      ∙ ap (λ (p : ℕ). outcome (refusedAt 8 p) R T) (reads-same-place s s′ 0 a a′)
+      ∙ sym (bad-length-one s′ a′ b′ c′)
 
   -- 9: the same for a declared number of arrows above m - 1, where m letters were declared and are there
   pub bad-count-one : (s : List ℕ) {m i n j : ℕ} → FrontCase s (letters m i) → m ≤ length R → room m ≤ length T
       → Reads s (i + m) n j → m - 1 < n
-      → loadSays s R T ≡ outcome (refused 9) (replicate m 0 ++ drop m R) (replicate (room m) 0 ++ drop (room m) T)
+      → loadSays s R T ≡ outcome (refusedAt 9 (i + m)) (replicate m 0 ++ drop m R) (replicate (room m) 0 ++ drop (room m) T)
   bad-count-one s {m} {i} f h t a b =
       let size : length (part s i m) ≡ m = part-length s i m (front-letters s (front-is s _ .1 f) .inside) in
       load-is s R T _ .1 (LoadCase.arrows-refused f h t (arrows-wrong (count-too-large a (rw size b))))
@@ -174,12 +178,18 @@ module _ (R T : List ℕ) where
   -- so any two files that declare one, and equally many letters, have the same outcome, whatever the rooms
   pub any-two-bad-counts : (s s′ : List ℕ) {m i n j i′ n′ j′ : ℕ} → FrontCase s (letters m i) → Reads s (i + m) n j → m - 1 < n
       → FrontCase s′ (letters m i′) → Reads s′ (i′ + m) n′ j′ → m - 1 < n′ → loadSays s R T ≡ loadSays s′ R T
-  any-two-bad-counts s s′ {m} f a b f′ a′ b′ = by (decLt (length R) m) (decLt (length T) (room m))
+  any-two-bad-counts s s′ {m} {i} {i′ = i′} f a b f′ a′ b′ = by (decLt (length R) m) (decLt (length T) (room m))
     where
       short : (length R < m) ⊎ (length T < room m) → loadSays s R T ≡ loadSays s′ R T
       short r = load-is s R T _ .1 (LoadCase.short-room f r) ∙ sym (load-is s′ R T _ .1 (LoadCase.short-room f′ r))
 
+      there : i ≡ i′
+      there = letters-same-place s s′ f f′
+
       by : Dec (length R < m) → Dec (length T < room m) → loadSays s R T ≡ loadSays s′ R T
       by (yes h) d = short (inl h)
       by (no h) (yes t) = short (inr t)
-      by (no h) (no t) = bad-count-one s f (omega arith) (omega arith) a b ∙ sym (bad-count-one s′ f′ (omega arith) (omega arith) a′ b′)
+      by (no h) (no t) =
+          bad-count-one s f (omega arith) (omega arith) a b
+          ∙ ap (λ (i : ℕ). outcome (refusedAt 9 (i + m)) (replicate m 0 ++ drop m R) (replicate (room m) 0 ++ drop (room m) T)) there
+          ∙ sym (bad-count-one s′ f′ (omega arith) (omega arith) a′ b′)

@@ -1,5 +1,5 @@
--- THE NUMBERS that each entry over files may refuse with: those that 01's table has for it, and nothing but the number. By its cases, and
--- by the ways of loading.
+-- THE NUMBERS that each entry over files may refuse with: those that 01's table has for it, and which of them say where in the file. By its
+-- cases, and by the ways of loading.
 use mathlib.Core.Path.{_≡_, refl}
 use mathlib.Core.Bool.{true}
 use mathlib.Core.List.{List, [], _∷_}
@@ -11,7 +11,7 @@ use Rattle.loaded.specs.Cases.{Unread, cut-off, bad-byte}
 use Rattle.loaded.specs.Cases.{FrontCase, edition-unread, edition-other, length-unread, length-bad, letters-missing}
 use Rattle.loaded.specs.Cases.{ArrowsCase, arrow-agrees, up-unread, over-unread, arrow-differs, no-arrow-left, arrows-missing}
 use Rattle.loaded.specs.Cases.{EndingCase, count-unread, count-too-large, count-fits, VerdictCase, arrows-wrong, leftovers}
-use Rattle.answers.specs.Answers.{refused, refusesOnly, oneOf}
+use Rattle.answers.specs.Answers.{refusedAt, refusesOnly, refusesWith, oneOf}
 use Rattle.mark_files.specs.Save
 use Rattle.mark_files.specs.Save.{saveSays}
 use Rattle.mark_files.specs.Load
@@ -36,73 +36,68 @@ save-numbers word T O = by (save-is word T O _ .0 refl)
 
 -- ── With a file ────────────────────────────────────────────────────────────
 
--- what loading may refuse with, and what a search with a file may
-abbrev pub loading : List ℕ
-loading = 3 ∷ 5 ∷ 6 ∷ 7 ∷ 8 ∷ 9 ∷ 10 ∷ 11 ∷ []
+-- what a file shows, each with its place
+abbrev pub shown : List ℕ
+shown = 5 ∷ 6 ∷ 7 ∷ 8 ∷ 9 ∷ 10 ∷ 11 ∷ []
 
-abbrev pub searching : List ℕ
-searching = 4 ∷ loading
-
--- a number of a file is one of both
 abbrev Shown : ℕ → Type 0
-Shown r = (oneOf r loading ≡ true) × (oneOf r searching ≡ true)
+Shown r = oneOf r shown ≡ true
 
 module _ {s : List ℕ} where
   unread-number : {i : Place} {r : ℕ} {p : Place} → Unread s i r p → Shown r
   unfolding oneOf
-  unread-number (cut-off e) = (refl, refl)
-  unread-number (bad-byte e) = (refl, refl)
+  unread-number (cut-off e) = refl
+  unread-number (bad-byte e) = refl
 
   front-number : {r : ℕ} {p : Place} → FrontCase s (stop r p) → Shown r
   unfolding oneOf
   front-number (edition-unread u) = unread-number u
-  front-number (edition-other a d) = (refl, refl)
+  front-number (edition-other a d) = refl
   front-number (length-unread a u) = unread-number u
-  front-number (length-bad a b d) = (refl, refl)
-  front-number (letters-missing a b c d h) = (refl, refl)
+  front-number (length-bad a b d) = refl
+  front-number (letters-missing a b c d h) = refl
 
   arrows-number : {i : Place} {n : ℕ} {l : List Step} {r : ℕ} {p : Place} → ArrowsCase s i n l (broken r p) → Shown r
   unfolding oneOf
   arrows-number (arrow-agrees a b c) = arrows-number c
   arrows-number (up-unread u) = unread-number u
   arrows-number (over-unread a u) = unread-number u
-  arrows-number (arrow-differs a b d) = (refl, refl)
-  arrows-number (no-arrow-left a b) = (refl, refl)
-  arrows-number arrows-missing = (refl, refl)
+  arrows-number (arrow-differs a b d) = refl
+  arrows-number (no-arrow-left a b) = refl
+  arrows-number arrows-missing = refl
 
   ending-number : {i : Place} {w : Word} {r : ℕ} {p : Place} → EndingCase s i w (broken r p) → Shown r
   unfolding oneOf
   ending-number (count-unread u) = unread-number u
-  ending-number (count-too-large a b) = (refl, refl)
+  ending-number (count-too-large a b) = refl
   ending-number (count-fits a b c) = arrows-number c
 
   verdict-number : {i : Place} {w : Word} {r : ℕ} {p : Place} → VerdictCase s i w (wrong r p) → Shown r
   unfolding oneOf
   verdict-number (arrows-wrong c) = ending-number c
-  verdict-number (leftovers c h) = (refl, refl)
+  verdict-number (leftovers c h) = refl
 
-  load-number : {R T : List ℕ} {n : ℕ} {R′ T′ : List ℕ} → LoadCase s R T (Load.outcome (refused n) R′ T′) → Shown n
-  unfolding oneOf
+  load-number : {R T : List ℕ} {n : ℕ} {p : Place} {R′ T′ : List ℕ} → LoadCase s R T (Load.outcome (refusedAt n p) R′ T′) → Shown n
   load-number (LoadCase.head-refused f) = front-number f
-  load-number (LoadCase.short-room f r) = (refl, refl)
   load-number (LoadCase.arrows-refused f h t v) = verdict-number v
 
-pub load-numbers : (file R T : List ℕ) → refusesOnly loading (loadSays file R T .answer) ≡ true
+pub load-numbers : (file R T : List ℕ) → refusesWith (3 ∷ []) shown (loadSays file R T .answer) ≡ true
 unfolding oneOf
 load-numbers file R T = by (load-is file R T _ .0 refl)
   where
-    by : {o : Load.Outcome} → LoadCase file R T o → refusesOnly loading (o .answer) ≡ true
-    by (LoadCase.head-refused f) = front-number f .0
+    by : {o : Load.Outcome} → LoadCase file R T o → refusesWith (3 ∷ []) shown (o .answer) ≡ true
+    by (LoadCase.head-refused f) = front-number f
     by (LoadCase.short-room f r) = refl
-    by (LoadCase.arrows-refused f h t v) = verdict-number v .0
+    by (LoadCase.arrows-refused f h t v) = verdict-number v
     by (LoadCase.accepted f h t v) = refl
 
 pub search-file-numbers : (file : List ℕ) (text : Word) (R T : List ℕ) (F : List Place)
-    → refusesOnly searching (searchFileSays file text R T F .answer) ≡ true
+    → refusesWith (4 ∷ 3 ∷ []) shown (searchFileSays file text R T F .answer) ≡ true
 unfolding oneOf
 search-file-numbers file text R T F = by (search-file-is file text R T F _ .0 refl)
   where
-    by : {o : SearchFile.Outcome} → SearchFileCase file text R T F o → refusesOnly searching (o .answer) ≡ true
+    by : {o : SearchFile.Outcome} → SearchFileCase file text R T F o → refusesWith (4 ∷ 3 ∷ []) shown (o .answer) ≡ true
     by (SearchFileCase.long-text h) = refl
-    by (SearchFileCase.load-refused k c) = load-number c .1
+    by (SearchFileCase.short-room k c) = refl
+    by (SearchFileCase.file-refused k c) = load-number c
     by (SearchFileCase.accepted k c) = refl

@@ -30,7 +30,7 @@ use Rattle.answers.specs.declared.Refusal.the-variants.{Numbered, Placed}
 use Rattle.answers.specs.declared.SizeAnswer.{SizeAnswer}
 use Rattle.answers.specs.declared.SizeAnswer.the-variants.{Done, Refused}
 use Rattle.answers.specs.declared.TallyAnswer.{TallyAnswer}
-use Rattle.answers.specs.Answers.{Answer, done, refused, refusedAt, refusedAs, sizeAnswer, longText}
+use Rattle.answers.specs.Answers.{Answer, done, refused, refusedAt, Succeeds, refusedAs, sizeAnswer, longText}
 use Rattle.answers.proofs.Answers.{done-not-refused, done-not-placed, tally-answer-one}
 use Rattle.mark_files.specs.Load.{loadedAs, loadSays}
 use Rattle.mark_files.specs.Load
@@ -83,8 +83,8 @@ module _ (file : List ℕ) (text : Word) (R T : List ℕ) (F : List Place) where
     where
       by-load : (a : Answer ℕ) (R′ T′ : List ℕ) → length text ≤ longestText → LoadCase file R T (Load.outcome a R′ T′)
           → SearchFileCase file text R T F (afterLoad a text R′ T′ F)
-      by-load (refused n) R′ T′ k c = SearchFileCase.load-refused k c
-      by-load (refusedAt n p) R′ T′ k c = elim c [ ]
+      by-load (refused n) R′ T′ k (LoadCase.short-room f r) = SearchFileCase.short-room k (LoadCase.short-room f r)
+      by-load (refusedAt n p) R′ T′ k c = SearchFileCase.file-refused k c
       by-load (done m) R′ T′ k c = SearchFileCase.accepted k c
 
       by : Dec (longestText < length text) → SearchFileCase file text R T F (searchFileSays file text R T F)
@@ -94,26 +94,28 @@ module _ (file : List ℕ) (text : Word) (R T : List ℕ) (F : List Place) where
   -- and a case that applies has its outcome
   given : {o : Outcome} → SearchFileCase file text R T F o → searchFileSays file text R T F ≡ o
   given (SearchFileCase.long-text h) = says-long-text h
-  given (SearchFileCase.load-refused k c) = says-after k (load-is file R T _ .1 c)
+  given (SearchFileCase.short-room k c) = says-after k (load-is file R T _ .1 c)
+  given (SearchFileCase.file-refused k c) = says-after k (load-is file R T _ .1 c)
   given (SearchFileCase.accepted k c) = says-after k (load-is file R T _ .1 c)
 
   pub search-file-is : (o : Outcome) → (searchFileSays file text R T F ≡ o) ↔ SearchFileCase file text R T F o
   search-file-is o = (λ e. rw e at case, given)
 
   -- a refusal leaves the list as it was, and the rooms as loading does
-  pub refusal-leaves : {n : ℕ} → searchFileSays file text R T F .answer ≡ refused n
+  pub refusal-leaves : (Succeeds (searchFileSays file text R T F .answer) → ⊥)
       → (searchFileSays file text R T F .finds ≡ F)
       × AfterRefusal R T (searchFileSays file text R T F .word) (searchFileSays file text R T F .tables)
-  refusal-leaves {n} = by case
+  refusal-leaves = by case
     where
-      loaded : {k : ℕ} {R′ T′ : List ℕ} → LoadCase file R T (Load.outcome (refused k) R′ T′) → AfterRefusal R T R′ T′
-      loaded c = let e = load-is file R T _ .1 c in rw e at (LoadSays.refusal-leaves file R T (ap (λ o. o .answer) e))
+      loaded : {a : Answer ℕ} {R′ T′ : List ℕ} → LoadCase file R T (Load.outcome a R′ T′) → (Succeeds a → ⊥) → AfterRefusal R T R′ T′
+      loaded c d = let e = load-is file R T _ .1 c in rw e at (LoadSays.refusal-leaves file R T (rw e d))
 
-      by : {o : Outcome} → SearchFileCase file text R T F o → o .answer ≡ refused n
+      by : {o : Outcome} → SearchFileCase file text R T F o → (Succeeds (o .answer) → ⊥)
           → (o .finds ≡ F) × AfterRefusal R T (o .word) (o .tables)
-      by (SearchFileCase.long-text h) e = (refl, AfterRefusal.unchanged)
-      by (SearchFileCase.load-refused k c) e = (refl, loaded c)
-      by (SearchFileCase.accepted k c) e = done-not-refused e
+      by (SearchFileCase.long-text h) d = (refl, AfterRefusal.unchanged)
+      by (SearchFileCase.short-room k c) d = (refl, loaded c (λ q. done-not-refused (sym (q .1))))
+      by (SearchFileCase.file-refused k c) d = (refl, loaded c (λ q. done-not-placed (sym (q .1))))
+      by (SearchFileCase.accepted k c) d = absurd (d (_, refl))
 
   -- the file matters by what loading says of it alone
   pub same-load-same-search : (file′ : List ℕ) → loadSays file R T ≡ loadSays file′ R T

@@ -3,11 +3,12 @@
 -- exactly when a case with the outcome o applies.
 --
 --   SaveCase word T O o                save with the tables T and the output O: 1, 2, 3, 12
---   LoadCase file R T o                load into the word room R: up to the letters 5 to 8, then 3, behind them 5, 6, 9 to 11
+--   LoadCase file R T o                load into the word room R: up to the letters 5 to 8, then 3, behind them 5, 6, 9 to 11; all but 3
+--                                      with the place of the file where they show
 --   SearchFileCase file text R T F o   search with a file: 4, then as loading
 --   AfterRefusal R T R′ T′             what a refusal may leave of the rooms R and T that were lent with a file
 --
--- What a file's bytes have to be for 5 to 11 is said by `loaded/Cases`. 01, 'When the library says no'; demand 1.
+-- What a file's bytes have to be for 5 to 11, and the place of each, is said by `loaded/Cases`. 01, 'When the library says no'; demand 1.
 use mathlib.Core.Logic.{_⊎_}
 use mathlib.Core.List.{List, _++_}
 use Prim.Native.Nat.{ℕ, _+_, _≤_, _<_}
@@ -19,7 +20,7 @@ use Rattle.finds.specs.Finds.{filled}
 use Rattle.saved.specs.File.{spell}
 use Rattle.loaded.specs.Load.{letters, stop, right, wrong}
 use Rattle.loaded.specs.Cases.{FrontCase, VerdictCase}
-use Rattle.answers.specs.Answers.{done, refused, emptyWord, longWord, shortRoom, longText, shortOutput}
+use Rattle.answers.specs.Answers.{done, refused, refusedAt, emptyWord, longWord, shortRoom, longText, shortOutput}
 use Rattle.marks.specs.Search.{found}
 use Rattle.mark_files.specs.Save
 use Rattle.mark_files.specs.Load
@@ -47,12 +48,12 @@ module _ (word : Word) where
 
 -- m letters are declared and stand at place i, where the file shows any
 pub data LoadCase (file R T : List ℕ) : Load.Outcome → Type 0 where
-  head-refused : {n : ℕ} {p : Place} → FrontCase file (stop n p) → LoadCase file R T (Load.outcome (refused n) R T)
+  head-refused : {n : ℕ} {p : Place} → FrontCase file (stop n p) → LoadCase file R T (Load.outcome (refusedAt n p) R T)
   short-room : {m : ℕ} {i : Place} → FrontCase file (letters m i) → (length R < m) ⊎ (length T < room m)
       → LoadCase file R T (Load.outcome (refused shortRoom) R T)
   arrows-refused : {m : ℕ} {i : Place} {n : ℕ} {p : Place} → FrontCase file (letters m i) → m ≤ length R → room m ≤ length T
       → VerdictCase file (i + m) (part file i m) (wrong n p)
-      → LoadCase file R T (Load.outcome (refused n) (replicate m 0 ++ drop m R) (replicate (room m) 0 ++ drop (room m) T))
+      → LoadCase file R T (Load.outcome (refusedAt n p) (replicate m 0 ++ drop m R) (replicate (room m) 0 ++ drop (room m) T))
   accepted : {m : ℕ} {i : Place} → FrontCase file (letters m i) → m ≤ length R → room m ≤ length T
       → VerdictCase file (i + m) (part file i m) right
       → LoadCase file R T (Load.outcome (done m) (part file i m ++ drop m R) (tableOf (part file i m) ++ drop (room m) T))
@@ -60,8 +61,10 @@ pub data LoadCase (file R T : List ℕ) : Load.Outcome → Type 0 where
 -- R and T are lent, loading leaves R′ and T′ of them, and with m letters accepted the file's word is the first m of R′
 pub data SearchFileCase (file : List ℕ) (text : Word) (R T : List ℕ) (F : List Place) : SearchFile.Outcome → Type 0 where
   long-text : longestText < length text → SearchFileCase file text R T F (SearchFile.outcome (refused longText) R T F)
-  load-refused : {n : ℕ} {R′ T′ : List ℕ} → length text ≤ longestText → LoadCase file R T (Load.outcome (refused n) R′ T′)
-      → SearchFileCase file text R T F (SearchFile.outcome (refused n) R′ T′ F)
+  short-room : {R′ T′ : List ℕ} → length text ≤ longestText → LoadCase file R T (Load.outcome (refused shortRoom) R′ T′)
+      → SearchFileCase file text R T F (SearchFile.outcome (refused shortRoom) R′ T′ F)
+  file-refused : {n : ℕ} {p : Place} {R′ T′ : List ℕ} → length text ≤ longestText → LoadCase file R T (Load.outcome (refusedAt n p) R′ T′)
+      → SearchFileCase file text R T F (SearchFile.outcome (refusedAt n p) R′ T′ F)
   accepted : {m : ℕ} {R′ T′ : List ℕ} → length text ≤ longestText → LoadCase file R T (Load.outcome (done m) R′ T′)
       → SearchFileCase file text R T F (SearchFile.outcome (done (found (mirror (take m R′)) text)) R′ T′
       (filled (occurrences (mirror (take m R′)) text) F))

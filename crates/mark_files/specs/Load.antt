@@ -5,12 +5,13 @@
 --   judged v w              what the verdict v on its arrows makes of the word w: the outcome in the word's part of both rooms
 --   judgedAt file i m       the same of the m letters that stand in the file from place i on
 --   lettersRead f file R T  the outcome for a file that shows f up to its letters
---   loadWithin n file R T   what it must be where a word may have n letters: the first refusal that the file shows up to its letters;
---                           then 3; then the first refusal that it shows behind them; else m, the file's word and its table. A refusal
---                           before 3 is passed changes nothing, one after it leaves zeros in the word's part of both rooms
+--   loadWithin n file R T   what it must be where a word may have n letters: the first refusal that the file shows up to its letters,
+--                           and where; then 3, which shows nowhere; then the first refusal that it shows behind them, and where; else m,
+--                           the file's word and its table. A refusal before 3 is passed changes nothing, one after it leaves zeros in
+--                           the word's part of both rooms
 --   loadSays file R T       the same with the limit that there is
 --
--- 01, 'The file on disk' and 'When the library says no'; demands 1 and 3.
+-- 01, 'The file on disk' and 'When the library says no'; 02, 'Where in the file is it broken?'; demands 1 and 3.
 use mathlib.Core.Bool.{_||_, cond}
 use mathlib.Core.List.{List, _++_}
 use Prim.Native.Nat.{ℕ, _+_}
@@ -21,7 +22,7 @@ use Rattle.words.specs.Limits.{longestWord}
 use Rattle.table.specs.Table.{room, tableOf}
 use Rattle.loaded.specs.Load.{Front, letters, stop, frontWithin, Verdict, right, wrong, verdict}
 use Rattle.answers.specs.declared.SizeAnswer.{SizeAnswer}
-use Rattle.answers.specs.Answers.{Answer, done, refused, sizeAnswer, shortRoom}
+use Rattle.answers.specs.Answers.{Answer, done, refused, refusedAt, sizeAnswer, shortRoom}
 
 pub record Outcome : Type 0 where
   pub answer : Answer ℕ
@@ -36,7 +37,7 @@ loadedAs r R T = outcome (sizeAnswer r) R T
 
 abbrev pub judged : Verdict → Word → Outcome
 judged right w = outcome (done (length w)) w (tableOf w)
-judged (wrong n i) w = outcome (refused n) (replicate (length w) 0) (replicate (room (length w)) 0)
+judged (wrong n p) w = outcome (refusedAt n p) (replicate (length w) 0) (replicate (room (length w)) 0)
 
 abbrev pub judgedAt : List ℕ → Place → ℕ → Outcome
 judgedAt file i m =
@@ -44,7 +45,7 @@ judgedAt file i m =
     judged (verdict file (i + m) w) w
 
 abbrev pub lettersRead : Front → List ℕ → List ℕ → List ℕ → Outcome
-lettersRead (stop n i) file R T = outcome (refused n) R T
+lettersRead (stop n p) file R T = outcome (refusedAt n p) R T
 lettersRead (letters m i) file R T =
     let o = judgedAt file i m in
     cond (ltb (length R) m || ltb (length T) (room m)) (outcome (refused shortRoom) R T)

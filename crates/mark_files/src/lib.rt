@@ -52,7 +52,7 @@ fn clear(letters: &mut [u8])
     }
 }
 
-// The file's letters from a place on and their table, into rooms that are just long enough; or zeros there, and the number, where the
+// The file's letters from a place on and their table, into rooms that are just long enough; or zeros there, and the refusal, where the
 // arrows behind them are not the word's own.
 fn take_word(file: &[u8], at: usize, room: &mut [u8], table: &mut [u16]) -> SizeAnswer
     requires { do ⌜ (at + (← ⟦room.len()⟧) ≤ (← ⟦file.len()⟧)) × ((← ⟦table.len()⟧) ≡ 6 * ((← ⟦room.len()⟧) + 1)) ⌝ }
@@ -70,7 +70,7 @@ fn take_word(file: &[u8], at: usize, room: &mut [u8], table: &mut [u16]) -> Size
         loaded::Compared::Wrong(why, place) => {
             clear(room);
             table::clear(table);
-            SizeAnswer::Refused(Refusal::Numbered(why))
+            SizeAnswer::Refused(Refusal::Placed(why, place))
         }
     }
 }
@@ -82,7 +82,7 @@ pub fn load(file: &[u8], room: &mut [u8], tables: &mut [u16]) -> SizeAnswer
 {
     let head = loaded::read_front(file, 0);
     match head {
-        loaded::Head::Stop(why, place) => SizeAnswer::Refused(Refusal::Numbered(why)),
+        loaded::Head::Stop(why, place) => SizeAnswer::Refused(Refusal::Placed(why, place)),
         loaded::Head::Letters(m, at) => {
             if room.len() < m {
                 return SizeAnswer::Refused(Refusal::Numbered(answers::SHORT_ROOM));

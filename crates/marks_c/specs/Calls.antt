@@ -4,6 +4,8 @@
 --   resultOf a          0 for an answer, the number of 01's table for a refusal
 --   given v a f         an answer that C is given: f of it, or v as it was where the call was refused
 --   sizeGiven v a ..    the same of a size, of the number of finds, and of the letters read
+--   offsetGiven v a     an offset that C is given: the place of a refusal that has one, or v as it was
+--   placeGiven v r      the same of the code's refusal r
 --   buildCall ..        the outcome of code that returns, and leaves, so much
 --   buildReturns ..     what is returned and left for an outcome of the entry
 --   buildCallSays ..    what it must be
@@ -12,6 +14,8 @@ use mathlib.Core.List.{List}
 use Prim.Native.Nat.{ℕ}
 use Rattle.words.specs.Words.{Word, Place}
 use Rattle.finds.specs.declared.Tally.{Tally}
+use Rattle.answers.specs.declared.Refusal.{Refusal}
+use Rattle.answers.specs.declared.Refusal.the-variants.{Numbered, Placed}
 use Rattle.answers.specs.Answers.{Answer, done, refused, refusedAt}
 use Rattle.marks.specs.Build
 use Rattle.marks.specs.Build.{buildSays}
@@ -42,6 +46,15 @@ countGiven v a = given v a (λ t. t .count)
 
 abbrev pub lettersGiven : ℕ → Answer Tally → ℕ
 lettersGiven v a = given v a (λ t. t .letters)
+
+abbrev pub offsetGiven : {A : Type 0} → Place → Answer A → Place
+offsetGiven v (done a) = v
+offsetGiven v (refused r) = v
+offsetGiven v (refusedAt r p) = p
+
+abbrev pub placeGiven : Place → Refusal → Place
+placeGiven v (Numbered n) = v
+placeGiven v (Placed n p) = p
 
 -- ── Build ──────────────────────────────────────────────────────────────────
 
@@ -83,15 +96,16 @@ pub record LoadCall : Type 0 where
   pub word : List ℕ
   pub tables : List ℕ
   pub m : ℕ
+  pub offset : Place
 
-abbrev pub loadCall : ℕ → List ℕ → List ℕ → ℕ → LoadCall
-loadCall r R T m = record { result = r; word = R; tables = T; m = m }
+abbrev pub loadCall : ℕ → List ℕ → List ℕ → ℕ → Place → LoadCall
+loadCall r R T m p = record { result = r; word = R; tables = T; m = m; offset = p }
 
-abbrev pub loadReturns : ℕ → Load.Outcome → LoadCall
-loadReturns m o = loadCall (resultOf (o .answer)) (o .word) (o .tables) (sizeGiven m (o .answer))
+abbrev pub loadReturns : ℕ → Place → Load.Outcome → LoadCall
+loadReturns m p o = loadCall (resultOf (o .answer)) (o .word) (o .tables) (sizeGiven m (o .answer)) (offsetGiven p (o .answer))
 
-abbrev pub loadCallSays : List ℕ → List ℕ → List ℕ → ℕ → LoadCall
-loadCallSays file R T m = loadReturns m (loadSays file R T)
+abbrev pub loadCallSays : List ℕ → List ℕ → List ℕ → ℕ → Place → LoadCall
+loadCallSays file R T m p = loadReturns m p (loadSays file R T)
 
 -- ── Search ─────────────────────────────────────────────────────────────────
 
@@ -120,13 +134,15 @@ pub record SearchFileCall : Type 0 where
   pub finds : List Place
   pub count : ℕ
   pub letters : ℕ
+  pub offset : Place
 
-abbrev pub searchFileCall : ℕ → List ℕ → List ℕ → List Place → ℕ → ℕ → SearchFileCall
-searchFileCall r R T F c l = record { result = r; word = R; tables = T; finds = F; count = c; letters = l }
+abbrev pub searchFileCall : ℕ → List ℕ → List ℕ → List Place → ℕ → ℕ → Place → SearchFileCall
+searchFileCall r R T F c l p = record { result = r; word = R; tables = T; finds = F; count = c; letters = l; offset = p }
 
-abbrev pub searchFileReturns : ℕ → ℕ → SearchFile.Outcome → SearchFileCall
-searchFileReturns c l o =
+abbrev pub searchFileReturns : ℕ → ℕ → Place → SearchFile.Outcome → SearchFileCall
+searchFileReturns c l p o =
     searchFileCall (resultOf (o .answer)) (o .word) (o .tables) (o .finds) (countGiven c (o .answer)) (lettersGiven l (o .answer))
+    (offsetGiven p (o .answer))
 
-abbrev pub searchFileCallSays : List ℕ → Word → List ℕ → List ℕ → List Place → ℕ → ℕ → SearchFileCall
-searchFileCallSays file text R T F c l = searchFileReturns c l (searchFileSays file text R T F)
+abbrev pub searchFileCallSays : List ℕ → Word → List ℕ → List ℕ → List Place → ℕ → ℕ → Place → SearchFileCall
+searchFileCallSays file text R T F c l p = searchFileReturns c l p (searchFileSays file text R T F)

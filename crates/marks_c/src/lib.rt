@@ -1,9 +1,9 @@
 // The entries for C and Rust, by numbers and slices alone: a slice is a pointer and a length. Each returns 0 and writes its answers through
-// the last pointers, or returns the refusal's number and leaves those pointers alone. There is no state and no heap, so calls on buffers of
-// their own may run at the same time.
+// the last pointers, or returns the refusal's number and leaves those pointers alone, but for the offset where the refusal has one, which
+// nothing else writes. There is no state and no heap, so calls on buffers of their own may run at the same time.
 ghost use mathlib.Core.Path.{_≡_};
-ghost use Rattle.answers.specs.Answers.{sizeAnswer, tallyAnswer};
-ghost use Rattle.marks_c.specs.Calls.{resultOf, sizeGiven, countGiven, lettersGiven};
+ghost use Rattle.answers.specs.Answers.{numberOf, sizeAnswer, tallyAnswer};
+ghost use Rattle.marks_c.specs.Calls.{resultOf, sizeGiven, countGiven, lettersGiven, offsetGiven, placeGiven};
 ghost use Rattle.marks_c.specs.Calls.{buildCall, buildCallSays, saveCall, saveCallSays, loadCall, loadCallSays};
 ghost use Rattle.marks_c.specs.Calls.{searchCall, searchCallSays, searchFileCall, searchFileCallSays};
 ghost use Rattle.marks_c.specs.Streams.{openCall, openCallSays, takeCall, takeCallSays};
@@ -47,6 +47,56 @@ fn tell_tally(answer: answers::TallyAnswer, count: &mut u64, letters: &mut u64) 
     }
 }
 
+// What C is told of a refusal: its number, and its place where it has one.
+fn tell_refusal(why: answers::Refusal, offset: &mut u64) -> u32
+    ensures { λ r. ⌜ (r ≡ numberOf why) × (now (offset .exit) ≡ placeGiven (now (offset .entry)) why) ⌝ }
+{
+    match why {
+        answers::Refusal::Numbered(n) => n as u32,
+        answers::Refusal::Placed(n, place) => {
+            *offset = place as u64;
+            n as u32
+        }
+    }
+}
+
+// What C is told of a load: as of a size, and where in the file it is refused.
+fn tell_load(answer: answers::SizeAnswer, m: &mut u64, offset: &mut u64) -> u32
+    ensures { λ r. ⌜ (r ≡ resultOf (sizeAnswer answer))
+        × (now (m .exit) ≡ sizeGiven (now (m .entry)) (sizeAnswer answer))
+        × (now (offset .exit) ≡ offsetGiven (now (offset .entry)) (sizeAnswer answer)) ⌝ }
+{
+    match answer {
+        answers::SizeAnswer::Done(n) => {
+            *m = n as u64;
+            0
+        }
+        answers::SizeAnswer::Refused(why) => tell_refusal(why, offset),
+    }
+}
+
+// The same of a search with a file.
+fn tell_file_search(
+    answer: answers::TallyAnswer,
+    count: &mut u64,
+    letters: &mut u64,
+    offset: &mut u64,
+) -> u32
+    ensures { λ r. ⌜ (r ≡ resultOf (tallyAnswer answer))
+        × (now (count .exit) ≡ countGiven (now (count .entry)) (tallyAnswer answer))
+        × (now (letters .exit) ≡ lettersGiven (now (letters .entry)) (tallyAnswer answer))
+        × (now (offset .exit) ≡ offsetGiven (now (offset .entry)) (tallyAnswer answer)) ⌝ }
+{
+    match answer {
+        answers::TallyAnswer::Done(tally) => {
+            *count = tally.count as u64;
+            *letters = tally.letters;
+            0
+        }
+        answers::TallyAnswer::Refused(why) => tell_refusal(why, offset),
+    }
+}
+
 #[no_mangle]
 pub extern "C" fn marks_build(word: &[u8], tables: &mut [u16], m: &mut u64) -> u32
     ensures { λ r. ⌜ buildCall r (now (tables .exit)) (now (m .exit))
@@ -71,12 +121,18 @@ pub extern "C" fn marks_save(
 }
 
 #[no_mangle]
-pub extern "C" fn marks_load(file: &[u8], room: &mut [u8], tables: &mut [u16], m: &mut u64) -> u32
-    ensures { λ r. ⌜ loadCall r (now (room .exit)) (now (tables .exit)) (now (m .exit))
-        ≡ loadCallSays (now (file .entry)) (now (room .entry)) (now (tables .entry)) (now (m .entry)) ⌝ }
+pub extern "C" fn marks_load(
+    file: &[u8],
+    room: &mut [u8],
+    tables: &mut [u16],
+    m: &mut u64,
+    offset: &mut u64,
+) -> u32
+    ensures { λ r. ⌜ loadCall r (now (room .exit)) (now (tables .exit)) (now (m .exit)) (now (offset .exit))
+        ≡ loadCallSays (now (file .entry)) (now (room .entry)) (now (tables .entry)) (now (m .entry)) (now (offset .entry)) ⌝ }
 {
     let loaded = mark_files::load(file, room, tables);
-    tell_size(loaded, m)
+    tell_load(loaded, m, offset)
 }
 
 #[no_mangle]
@@ -105,13 +161,15 @@ pub extern "C" fn marks_search_file(
     finds: &mut [u32],
     count: &mut u64,
     letters: &mut u64,
+    offset: &mut u64,
 ) -> u32
     ensures { λ r. ⌜ searchFileCall r (now (room .exit)) (now (tables .exit)) (now (finds .exit)) (now (count .exit)) (now (letters .exit))
+        (now (offset .exit))
         ≡ searchFileCallSays (now (file .entry)) (now (text .entry)) (now (room .entry)) (now (tables .entry)) (now (finds .entry))
-        (now (count .entry)) (now (letters .entry)) ⌝ }
+        (now (count .entry)) (now (letters .entry)) (now (offset .entry)) ⌝ }
 {
     let searched = mark_files::search_file(file, text, room, tables, finds);
-    tell_tally(searched, count, letters)
+    tell_file_search(searched, count, letters, offset)
 }
 
 #[no_mangle]

@@ -7,9 +7,9 @@ use Rattle.marks_c.proofs.marks_load.Tie as tie
 
 returns : tie.Need-returns
 returns c =
-    let told = c .tell-size .ensures in
-    let at-load = c .before .before .before .before .before .before in
-    rw (told .0, told .1) (ap (loadReturns _) (at-load .load .ensures))
+    let told = c .tell-load .ensures in
+    let at-load = c .before .before .before .before .before .before .before in
+    rw (told .0, told .1, told .2) (ap (loadReturns _ _) (at-load .load .ensures))
 
 pub marks-load-spec : {M : Type 1} → statement M
 marks-load-spec =

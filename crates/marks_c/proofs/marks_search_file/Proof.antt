@@ -7,9 +7,9 @@ use Rattle.marks_c.proofs.marks_search_file.Tie as tie
 
 returns : tie.Need-returns
 returns c =
-    let told = c .tell-tally .ensures in
-    let at-search-file = c .before .before .before .before .before .before .before .before .before in
-    rw (told .0, told .1, told .2) (ap (searchFileReturns _ _) (at-search-file .search-file .ensures))
+    let told = c .tell-file-search .ensures in
+    let at-search-file = c .before .before .before .before .before .before .before .before .before .before in
+    rw (told .0, told .1, told .2, told .3) (ap (searchFileReturns _ _ _) (at-search-file .search-file .ensures))
 
 pub marks-search-file-spec : {M : Type 1} → statement M
 marks-search-file-spec =
