@@ -14,7 +14,7 @@ use Rattle.loaded.specs.Load.{letters}
 use Rattle.loaded.specs.Cases.{Reads, BadLength, FrontCase, letters-missing}
 use Rattle.answers.specs.declared.SizeAnswer.{SizeAnswer}
 use Rattle.answers.specs.declared.TallyAnswer.{TallyAnswer}
-use Rattle.answers.specs.Answers.{done, refused, refusesOnly, refusals}
+use Rattle.answers.specs.Answers.{Answer, done, refused, refusedAt, Succeeds, refusesOnly, refusesWith, refusals}
 use Rattle.marks.specs.Build.{built, buildSays}
 use Rattle.mark_files.specs.Save.{savedAs, saveSays}
 use Rattle.marks.specs.Search.{found, searched, searchSays}
@@ -45,7 +45,7 @@ use Rattle.mark_files.proofs.SearchFileSays
 -- ── 'Each entry comes to an end with an answer, or refuses with a number from the written table,' ──
 
 -- Of the code: every function is proved to end. What it ends with is `answers/Answers/Answer`: done with an answer, or refused with a
--- number.
+-- number, alone or with the place of the file where it shows.
 
 -- the numbers of the written table
 pub table-numbers : map (λ r. r .number) refusals ≡ 1 ∷ 2 ∷ 3 ∷ 4 ∷ 5 ∷ 6 ∷ 7 ∷ 8 ∷ 9 ∷ 10 ∷ 11 ∷ 12 ∷ 16 ∷ []
@@ -53,7 +53,7 @@ unfolding refusals
 table-numbers = refl
 
 -- for every word, text and file, and every word room R, tables T, output O and list F: each entry is done, or refuses with one of its
--- numbers, and, as 01 has it, 'a refusal returns its number only'
+-- numbers; and 'a refusal returns its number only', as 01 has it, but for 5 to 11, which since 02 say where in the file they show
 module _ (word text : Word) (file R T O : List ℕ) (F : List Place) where
   pub build-numbers : refusesOnly (1 ∷ 2 ∷ 3 ∷ []) (buildSays word T .answer) ≡ true
   build-numbers = WordNumbers.build-numbers word T
@@ -64,10 +64,10 @@ module _ (word text : Word) (file R T O : List ℕ) (F : List Place) where
   pub search-numbers : refusesOnly (1 ∷ 2 ∷ 4 ∷ 3 ∷ []) (searchSays word text T F .answer) ≡ true
   search-numbers = WordNumbers.search-numbers word text T F
 
-  pub load-numbers : refusesOnly (3 ∷ 5 ∷ 6 ∷ 7 ∷ 8 ∷ 9 ∷ 10 ∷ 11 ∷ []) (loadSays file R T .answer) ≡ true
+  pub load-numbers : refusesWith (3 ∷ []) (5 ∷ 6 ∷ 7 ∷ 8 ∷ 9 ∷ 10 ∷ 11 ∷ []) (loadSays file R T .answer) ≡ true
   load-numbers = FileNumbers.load-numbers file R T
 
-  pub search-file-numbers : refusesOnly (4 ∷ 3 ∷ 5 ∷ 6 ∷ 7 ∷ 8 ∷ 9 ∷ 10 ∷ 11 ∷ []) (searchFileSays file text R T F .answer) ≡ true
+  pub search-file-numbers : refusesWith (4 ∷ 3 ∷ []) (5 ∷ 6 ∷ 7 ∷ 8 ∷ 9 ∷ 10 ∷ 11 ∷ []) (searchFileSays file text R T F .answer) ≡ true
   search-file-numbers = FileNumbers.search-file-numbers file text R T F
 
   -- ── 'exactly when the table says and at no other time.' ──────────────────
@@ -90,10 +90,10 @@ module _ (word text : Word) (file R T O : List ℕ) (F : List Place) where
   pub search-file-exactly : (o : SearchFile.Outcome) → (searchFileSays file text R T F ≡ o) ↔ SearchFileCase file text R T F o
   search-file-exactly = SearchFileSays.search-file-is file text R T F
 
-  -- each number of loading by itself: the cases that have it, and only they, give it
-  pub load-number-exactly : (n : ℕ) → (loadSays file R T .answer ≡ refused n)
-      ↔ ((R′ : List ℕ) × (T′ : List ℕ) × LoadCase file R T (Load.outcome (refused n) R′ T′))
-  load-number-exactly n = LoadSays.load-answers file R T (refused n)
+  -- each number of loading by itself, with its place where it has one: the cases that have it, and only they, give it
+  pub load-number-exactly : (a : Answer ℕ) → (loadSays file R T .answer ≡ a)
+      ↔ ((R′ : List ℕ) × (T′ : List ℕ) × LoadCase file R T (Load.outcome a R′ T′))
+  load-number-exactly = LoadSays.load-answers file R T
 
   -- ── 'What a refusal leaves in every lent buffer is fixed,' ───────────────
 
@@ -112,13 +112,14 @@ module _ (word text : Word) (file R T O : List ℕ) (F : List Place) where
         → (searchSays word text T F .tables ≡ T) × (searchSays word text T F .finds ≡ F)
     search-refusal = SearchSays.refusal-leaves word text T F
 
-    pub load-refusal : loadSays file R T .answer ≡ refused n → AfterRefusal R T (loadSays file R T .word) (loadSays file R T .tables)
-    load-refusal = LoadSays.refusal-leaves file R T
+  -- with a file, whether or not the refusal has a place
+  pub load-refusal : (Succeeds (loadSays file R T .answer) → ⊥) → AfterRefusal R T (loadSays file R T .word) (loadSays file R T .tables)
+  load-refusal = LoadSays.refusal-leaves file R T
 
-    pub search-file-refusal : searchFileSays file text R T F .answer ≡ refused n
-        → (searchFileSays file text R T F .finds ≡ F)
-        × AfterRefusal R T (searchFileSays file text R T F .word) (searchFileSays file text R T F .tables)
-    search-file-refusal = SearchFileSays.refusal-leaves file text R T F
+  pub search-file-refusal : (Succeeds (searchFileSays file text R T F .answer) → ⊥)
+      → (searchFileSays file text R T F .finds ≡ F)
+      × AfterRefusal R T (searchFileSays file text R T F .word) (searchFileSays file text R T F .tables)
+  search-file-refusal = SearchFileSays.refusal-leaves file text R T F
 
   -- and any two outcomes that an entry's promise allows are equal: the code's answers r and r′, and all that is left
   pub build-fixed : (r r′ : SizeAnswer) (T₁ T₂ : List ℕ) → built r T₁ ≡ buildSays word T → built r′ T₂ ≡ buildSays word T
@@ -150,7 +151,7 @@ module _ (word text : Word) (file R T O : List ℕ) (F : List Place) where
 
   -- Shut out: a loader that clears before 8. A declared length that no word may have is refused with every lent buffer as it was
   pub bad-length-touches-nothing : {i m j : ℕ} → Reads file 0 edition i → Reads file i m j → BadLength m
-      → loadSays file R T ≡ Load.outcome (refused 8) R T
+      → loadSays file R T ≡ Load.outcome (refusedAt 8 i) R T
   bad-length-touches-nothing = LoadTheorems.bad-length-one R T file
 
   -- two files that declare such a length
@@ -177,7 +178,7 @@ module _ (word text : Word) (file R T O : List ℕ) (F : List Place) where
 
   -- letters that are missing are refused with 5, however short the rooms are: 3 comes behind them
   pub letters-before-rooms : {i m j : ℕ} → Reads file 0 edition i → Reads file i m j → leastSaved ≤ m → m ≤ longestWord
-      → length file < j + m → loadSays file R T ≡ Load.outcome (refused 5) R T
+      → length file < j + m → loadSays file R T ≡ Load.outcome (refusedAt 5 (length file)) R T
   letters-before-rooms e r least most cut = load-exactly _ .1 (LoadCase.head-refused (letters-missing e r least most cut))
 
   -- ── Shut out: an entry that refuses everything ───────────────────────────

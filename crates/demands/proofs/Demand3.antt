@@ -21,7 +21,7 @@ use Rattle.finds.specs.declared.Tally.{Tally}
 use Rattle.saved.specs.File.{spell, Saved}
 use Rattle.saved.proofs.Theorems.{size-least, size-most}
 use Rattle.loaded.proofs.Theorems.{spell-injective}
-use Rattle.answers.specs.Answers.{done, refused}
+use Rattle.answers.specs.Answers.{done, refusedAt}
 use Rattle.mark_files.specs.Save.{saveSays}
 use Rattle.mark_files.specs.Load.{outcome, loadSays}
 use Rattle.mark_files.specs.SearchFile.{searchFileSays}
@@ -57,10 +57,10 @@ module _ (word : Word) (R T : List ℕ) (least : leastSaved ≤ length word) (mo
   m = length word
 
   -- what falls short of a file or goes on behind it is none
-  pub cut-file-refused : (n : ℕ) → n < length (spell word) → loadSays (take n (spell word)) R T .answer ≡ refused 5
+  pub cut-file-refused : (n : ℕ) → n < length (spell word) → loadSays (take n (spell word)) R T .answer ≡ refusedAt 5 n
   cut-file-refused = LoadTheorems.cut-refused R T word least most fits enough
 
-  pub longer-file-refused : (b : ℕ) (l : List ℕ) → loadSays (spell word ++ b ∷ l) R T .answer ≡ refused 11
+  pub longer-file-refused : (b : ℕ) (l : List ℕ) → loadSays (spell word ++ b ∷ l) R T .answer ≡ refusedAt 11 (length (spell word))
   longer-file-refused = LoadTheorems.longer-refused-11 R T word least most fits enough
 
   -- ── 'that word and oracle are handed over,' ──────────────────────────────

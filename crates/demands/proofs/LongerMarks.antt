@@ -16,7 +16,7 @@ use Rattle.number.specs.Number.{groups, spellNumber}
 use Rattle.saved.specs.File.{edition, Saved}
 use Rattle.loaded.specs.Cases.{Reads}
 use Rattle.loaded.proofs.Within.{front-unmoved, front-refused}
-use Rattle.answers.specs.Answers.{refused, longWord}
+use Rattle.answers.specs.Answers.{refused, refusedAt, longWord}
 use Rattle.marks.specs.Build
 use Rattle.marks.specs.Build.{buildWithin, buildSays}
 use Rattle.marks.specs.Search
@@ -108,10 +108,10 @@ module _ (low : ℕ) where
 
   module _ (least : leastSaved ≤ low) (file : List ℕ) {i : Place} {m : ℕ} {j : Place} (first : Reads file 0 edition i)
       (second : Reads file i m j) (longer : low < m) (R T : List ℕ) where
-    pub load-refused : loadWithin low file R T ≡ Load.outcome (refused 8) R T
+    pub load-refused : loadWithin low file R T ≡ Load.outcome (refusedAt 8 i) R T
     unfolding loadWithin
     load-refused = rw (front-refused low least file 0 first second longer)
 
     pub search-file-refused : (text : Word) (F : List Place) → length text ≤ longestText
-        → searchFileWithin low file text R T F ≡ SearchFile.outcome (refused 8) R T F
+        → searchFileWithin low file text R T F ≡ SearchFile.outcome (refusedAt 8 i) R T F
     search-file-refused text F h = rw (le-ltb longestText (length text) h, load-refused)

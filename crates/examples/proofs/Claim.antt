@@ -13,15 +13,15 @@ use Rattle.border.specs.Borders.{longest, closes, longestBorder, borders}
 use Rattle.backward.specs.Steps.{readDown, afterFind, windows, steps, backward}
 use Rattle.number.specs.Number.{groups, spellNumber, refuses, see, seeNumber, numberAt}
 use Rattle.saved.specs.File.{edition, stepsFrom, spellSteps, ownSteps, body, spell}
-use Rattle.loaded.specs.Load.{frontWithin}
+use Rattle.loaded.specs.Load.{frontWithin, twoAt, arrowsAt, ending, verdict}
 use Rattle.mark_files.specs.Load.{loadWithin}
 use Rattle.finds.specs.Finds.{filled}
 use Rattle.pieces.specs.Kept.{kept}
 use Rattle.stream.specs.Searchers.{searcherOf, after, finds, makeable}
 use Rattle.stream.specs.Opening.{openSays}
 use Rattle.stream.specs.Taking.{takeSays}
-use Rattle.examples.specs.Examples.{is, isNone, walked, empty, has, gives, isRefused, refusedWith, refusedInRooms, holds, allHold}
-use Rattle.examples.specs.Examples.{shows, isDoneWith, takenInTurn, word, digit, bytes, table}
+use Rattle.examples.specs.Examples.{is, isNone, walked, empty, has, gives, isRefused, isRefusedAt, loadInRooms, leaves}
+use Rattle.examples.specs.Examples.{shows, isDoneWith, takenInTurn, holds, allHold, word, digit, bytes, table}
 
 pub examples-hold : T (allHold table)
 unfolding from only first same stands occurrences longestWord longestText longestStreamed leastSaved
@@ -29,6 +29,7 @@ unfolding from only first same stands occurrences longestWord longestText longes
     ends twice repeated supply leadsTo extraTargets extrasBefore fileArrows
     longest closes longestBorder borders filled kept searcherOf after finds makeable openSays takeSays
     readDown afterFind windows steps backward
-    groups spellNumber refuses see seeNumber numberAt edition stepsFrom spellSteps ownSteps body spell frontWithin loadWithin
-    is isNone walked empty has gives isRefused refusedWith refusedInRooms shows isDoneWith takenInTurn holds allHold word digit bytes table
+    groups spellNumber refuses see seeNumber numberAt edition stepsFrom spellSteps ownSteps body spell
+    frontWithin twoAt arrowsAt ending verdict loadWithin
+    is isNone walked empty has gives isRefused isRefusedAt loadInRooms leaves shows isDoneWith takenInTurn holds allHold word digit bytes table
 examples-hold = tt

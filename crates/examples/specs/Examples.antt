@@ -48,8 +48,12 @@ pub data Example : Type 0 where
   search : (word text : Word) (starts : List Place) (letters : ℕ) → Example
   -- a word and its whole file
   fileOf : (word : Word) (file : List ℕ) → Example
-  -- bytes that are no file, and the number with which load refuses them
-  loadRefused : (file : List ℕ) (number : ℕ) → Example
+  -- bytes that are no file, and the number and offset with which load refuses them before it looks at the rooms
+  loadRefused : (file : List ℕ) (number : ℕ) (offset : Place) → Example
+  -- the same of bytes that show m letters, in rooms for so many
+  arrowsRefused : (file : List ℕ) (m number : ℕ) (offset : Place) → Example
+  -- bytes that show more letters than m, refused in rooms for m with a number that has no offset
+  roomRefused : (file : List ℕ) (m number : ℕ) → Example
   -- the first bytes of a file which, with so many letters behind them, is let through to the next field
   letThrough : (start : List ℕ) (m : ℕ) → Example
   -- a word and the pieces of a text, what is found in each of them, and how many letters are kept at the end
@@ -86,16 +90,18 @@ isRefused (done m) n = false
 isRefused (refused r) n = eqb r n
 isRefused (refusedAt r p) n = false
 
--- refused with n, both rooms as they were
-unfoldable pub refusedWith : ℕ → List ℕ → List ℕ → Outcome → Bool
-refusedWith n R T o = isRefused (o .answer) n && (same (o .word) R && same (o .tables) T)
+unfoldable pub isRefusedAt : Answer ℕ → ℕ → Place → Bool
+isRefusedAt (done m) n p = false
+isRefusedAt (refused r) n p = false
+isRefusedAt (refusedAt r q) n p = eqb r n && eqb q p
 
--- the same of load, lent the rooms of a word of m letters, no entry zero
-unfoldable pub refusedInRooms : List ℕ → ℕ → ℕ → Bool
-refusedInRooms f n m =
-    let R : List ℕ = replicate m 9 in
-    let T : List ℕ = replicate (room m) 9 in
-    refusedWith n R T (loadSays f R T)
+-- load, lent the rooms of a word of m letters, a 9 in each entry
+unfoldable pub loadInRooms : List ℕ → ℕ → Outcome
+loadInRooms f m = loadSays f (replicate m 9) (replicate (room m) 9)
+
+-- v is left in each entry of these rooms
+unfoldable pub leaves : ℕ → ℕ → Outcome → Bool
+leaves m v o = same (o .word) (replicate m v) && same (o .tables) (replicate (room m) v)
 
 -- m letters that start at place i
 unfoldable pub shows : Front → ℕ → Place → Bool
@@ -134,7 +140,16 @@ holds (search w t starts n) =
     same (r .starts) starts && (eqb (r .letters) n && same (occurrences w t) starts)
 holds (fileOf p f) = same (spell p) f
 -- the rooms of no letter, too short for any word, and those of three letters: these refusals come before 3
-holds (loadRefused f n) = refusedInRooms f n 0 && refusedInRooms f n 3
+holds (loadRefused f n p) =
+    let none = loadInRooms f 0 in
+    let three = loadInRooms f 3 in
+    isRefusedAt (none .answer) n p && (leaves 0 9 none && (isRefusedAt (three .answer) n p && leaves 3 9 three))
+holds (arrowsRefused f m n p) =
+    let o = loadInRooms f m in
+    isRefusedAt (o .answer) n p && leaves m 0 o
+holds (roomRefused f m n) =
+    let o = loadInRooms f m in
+    isRefused (o .answer) n && leaves m 9 o
 holds (letThrough start m) = shows (front (start ++ replicate m 97)) m (length start)
 holds (inPieces w l found k) = takenInTurn (openSays w .searcher) l found k
 
@@ -176,12 +191,29 @@ table =
     ∷ search (word "ab") (word "abxa") (0 ∷ []) 4
     ∷ search (word "abc") (word "xxxxxx") [] 2
     ∷ search (word "abc") (word "ab") [] 0
-    ∷ loadRefused (bytes "01 FF FF FF FF 0F") 8
-    ∷ loadRefused (bytes "01 83 00 61 61 61 00") 6
+    ∷ loadRefused (bytes "01 FF FF FF FF 0F") 8 1
+    ∷ loadRefused (bytes "01 83 00 61 61 61 00") 6 2
     ∷ letThrough (bytes "01 80 08") 1024
     ∷ letThrough (bytes "01 81 08") 1025
     ∷ letThrough (bytes "01 80 20") 4096
-    ∷ loadRefused (bytes "01 81 20") 8
+    ∷ loadRefused (bytes "01 81 20") 8 1
+    ∷ loadRefused (bytes "") 5 0
+    ∷ loadRefused (bytes "01 00") 8 1
+    ∷ loadRefused (bytes "02") 7 0
+    ∷ loadRefused (bytes "81 00") 6 1
+    ∷ loadRefused (bytes "01 80") 5 2
+    ∷ loadRefused (bytes "01 03 61 61") 5 4
+    ∷ roomRefused (bytes "01 03 61 61 61 00 00") 2 3
+    ∷ arrowsRefused (bytes "01 03 61 61 61 03") 3 9 5
+    ∷ arrowsRefused (bytes "01 03 61 61 61") 3 5 5
+    ∷ arrowsRefused (bytes "01 03 61 61 61 01 00 00") 3 10 6
+    ∷ arrowsRefused (bytes "01 03 61 61 61 00 00") 3 11 6
+    ∷ arrowsRefused (bytes "01 02 61 62 00") 2 10 5
+    ∷ arrowsRefused (bytes "01 02 61 62 01 00 80 00") 2 6 7
+    ∷ arrowsRefused (bytes "01 07 61 62 62 62 61 61 62 04 00 00 02 03 01 01 01 00") 7 10 12
+    ∷ arrowsRefused (bytes "01 07 61 62 62 62 61 61 62 04 00 00 01 04 01 01 01 00") 7 10 12
+    ∷ arrowsRefused (bytes "01 07 61 62 62 62 61 61 62 03 00 00 01 03 01 01") 7 10 16
+    ∷ arrowsRefused (bytes "01 07 61 62 62 62 61 61 62 04 00 00 01 03 01 01 01 00 2A 2A") 7 11 18
     ∷ inPieces (word "aba") (word "ab" ∷ word "" ∷ word "ab" ∷ word "a" ∷ []) ([] ∷ [] ∷ (0 ∷ []) ∷ (2 ∷ []) ∷ []) 1
     ∷ inPieces (word "aa") (word "a" ∷ word "aaaa" ∷ word "b" ∷ []) ([] ∷ (0 ∷ 1 ∷ 2 ∷ 3 ∷ []) ∷ [] ∷ []) 0
     ∷ []
