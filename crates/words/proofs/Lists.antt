@@ -9,8 +9,8 @@ use Prim.Native.Nat.{ℕ, zero, suc, _+_, _-_, _≤_, _<_}
 use native.Mathlib.Nat.{le-refl, zero-add, add-zero, add-suc, suc-add, sub-zero, zero-sub, suc-sub-suc}
 use native.Mathlib.Decide.{ℕ-discrete}
 use native.Mathlib.Omega.{arith}
-use lib.ListN.{length, getD, drop, replicate, List·getD-map}
-use lib.Seq.{getD-append-add, drop-append-seam}
+use lib.ListN.{length, getD, take, drop, replicate, List·getD-map}
+use lib.Seq.{getD-append-add, drop-append-seam, take-at}
 use Rattle.words.specs.Lists.{at, from, only, first, Rising, end, up}
 
 -- ── Tests and options ──────────────────────────────────────────────────────
@@ -81,6 +81,12 @@ map-append {B = B} f (a ∷ l) r = ap {B = List B} (λ k. f a ∷ k) (map-append
 -- what follows the same list is the same
 pub same-behind : {A : Type 0} (l a b : List A) → l ++ a ≡ l ++ b → a ≡ b
 same-behind l a b e = sym (drop-append-seam l a) ∙ ap (drop (length l)) e ∙ drop-append-seam l b
+
+-- a list is put together in one way of two parts, where the length of the first is known
+pub same-parts : {A : Type 0} (a b x y : List A) → length a ≡ length b → a ++ x ≡ b ++ y → (a ≡ b) × (x ≡ y)
+same-parts a b x y n e =
+    let front : a ≡ b = sym (take-at a x (length a) refl) ∙ ap (take (length a)) e ∙ take-at b y (length a) (sym n) in
+    (front, same-behind b x y (rw front at e))
 
 pub drop-replicate : (n k a : ℕ) → drop k (replicate n a) ≡ replicate (n - k) a
 drop-replicate n zero a = rw (sub-zero n)

@@ -1,0 +1,62 @@
+-- EVERY FAULT SHOWS WITHIN THE FILE, and its field ends there: a number that is read ends within the file.
+use mathlib.Core.Path.{_≡_, refl}
+use mathlib.Core.List.{List}
+use Prim.Native.Nat.{ℕ, _+_, _≤_, _<_}
+use native.Mathlib.Omega.{arith}
+use lib.ListN.{length}
+use Rattle.words.specs.Words.{Word, Place}
+use Rattle.saved.specs.File.{Step}
+use Rattle.loaded.specs.Cases.{Reads}
+use Rattle.loaded.proofs.Fields.{reads-inside}
+use Rattle.faults.specs.Faults.{ArrowsAt, none-read, one-read}
+use Rattle.faults.specs.Faults.{FaultAt, number-cut, letters-cut, byte-refused, other-edition, bad-length, bad-count, other-arrow}
+use Rattle.faults.specs.Faults.{no-arrow-left, arrows-missing, bytes-left}
+
+module _ (s : List ℕ) where
+  arrows-inside : {w : Word} {d : ℕ} {l : List Step} {p : Place} → ArrowsAt s w d l p → p ≤ length s
+  arrows-inside (none-read {c = c} C h few) = reads-inside s c h .1
+  arrows-inside (one-read {j = j} A h g) = reads-inside s j g .1
+
+  -- one number, and two
+  one : (p : Place) {v : ℕ} {q : Place} → Reads s p v q → (p < q) × (q ≤ length s)
+  one p h = reads-inside s p h
+
+  two : (p : Place) {a : ℕ} (j : Place) {b : ℕ} {q : Place} → Reads s p a j → Reads s j b q → (p < q) × (q ≤ length s)
+  two p j h g = (omega (arith, one p h .0, one j g .0), one j g .1)
+
+  pub fault-inside : {r : ℕ} {p q : Place} → FaultAt s r p q → (p ≤ q) × (q ≤ length s)
+  fault-inside (number-cut N c) = (omega arith, omega arith)
+  fault-inside (letters-cut h g d) = (omega arith, omega arith)
+  fault-inside (byte-refused N b) = (omega arith, omega (arith, b .inside))
+  fault-inside (other-edition h d) = (omega arith, one 0 h .1)
+  fault-inside (bad-length {p = p} h g d) = let i = one p g in (omega (arith, i .0), i .1)
+  fault-inside (bad-count {p = p} C h d) = let i = one p h in (omega (arith, i .0), i .1)
+  fault-inside (other-arrow {p = p} {j = j} A h g d) = let i = two p j h g in (omega (arith, i .0), i .1)
+  fault-inside (no-arrow-left {p = p} {j = j} A h g) = let i = two p j h g in (omega (arith, i .0), i .1)
+  fault-inside (arrows-missing A) = (omega arith, arrows-inside A)
+  fault-inside (bytes-left A h) = (omega arith, omega (arith, h))
+
+  -- 5 shows at the end, and all others before it, but for missing arrows
+  pub cut-at-the-end : {r : ℕ} {p q : Place} → FaultAt s r p q → r ≡ 5 → p ≡ length s
+  cut-at-the-end (number-cut N c) e = refl
+  cut-at-the-end (letters-cut h g d) e = refl
+  cut-at-the-end (byte-refused N b) e = absurd (omega arith)
+  cut-at-the-end (other-edition h d) e = absurd (omega arith)
+  cut-at-the-end (bad-length h g d) e = absurd (omega arith)
+  cut-at-the-end (bad-count C h d) e = absurd (omega arith)
+  cut-at-the-end (other-arrow A h g d) e = absurd (omega arith)
+  cut-at-the-end (no-arrow-left A h g) e = absurd (omega arith)
+  cut-at-the-end (arrows-missing A) e = absurd (omega arith)
+  cut-at-the-end (bytes-left A h) e = absurd (omega arith)
+
+  pub others-before-the-end : {r : ℕ} {p q : Place} → FaultAt s r p q → (r ≡ 5 → ⊥) → (r ≡ 10 → ⊥) → p < length s
+  others-before-the-end (number-cut N c) n t = absurd (n refl)
+  others-before-the-end (letters-cut h g d) n t = absurd (n refl)
+  others-before-the-end (byte-refused N b) n t = b .inside
+  others-before-the-end (other-edition h d) n t = let i = one 0 h in omega (arith, i .0, i .1)
+  others-before-the-end (bad-length {p = p} h g d) n t = let i = one p g in omega (arith, i .0, i .1)
+  others-before-the-end (bad-count {p = p} C h d) n t = let i = one p h in omega (arith, i .0, i .1)
+  others-before-the-end (other-arrow A h g d) n t = absurd (t refl)
+  others-before-the-end (no-arrow-left A h g) n t = absurd (t refl)
+  others-before-the-end (arrows-missing A) n t = absurd (t refl)
+  others-before-the-end (bytes-left A h) n t = h

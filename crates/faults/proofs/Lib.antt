@@ -1,0 +1,5 @@
+pub mod Shown
+pub mod Inside
+pub mod Through
+pub mod Spelled
+pub mod Theorems
