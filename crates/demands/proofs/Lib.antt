@@ -5,3 +5,4 @@ pub mod Demand3
 pub mod LongerMarks
 pub mod StepAfterFind
 pub mod UploadsInPieces
+pub mod WhereBroken

@@ -1,8 +1,9 @@
 -- WHAT LOADING TELLS IS WHERE THE FILE IS BROKEN: each way of loading that ends with a refusal is a fault of the file at the place that is
 -- told. Arrows are read one after the other, and what was read of them is kept on the way.
-use mathlib.Core.Path.{_≡_, refl}
+use mathlib.Core.Path.{_≡_, refl, ap, _∙_}
 use mathlib.Core.List.{List, []}
 use Prim.Native.Nat.{ℕ, _+_}
+use native.Mathlib.Omega.{arith}
 use lib.ListN.{length}
 use Rattle.words.specs.Words.{Word, Place, part}
 use Rattle.words.proofs.Words.{part-length}
@@ -16,8 +17,11 @@ use Rattle.loaded.specs.Cases.{EndingCase, count-unread, count-too-large, count
 use Rattle.answers.specs.Answers.{refusedAt}
 use Rattle.mark_files.specs.Load
 use Rattle.mark_files.specs.Load.{loadSays}
-use Rattle.mark_files.specs.Cases.{LoadCase}
-use Rattle.mark_files.proofs.LoadSays.{load-answers}
+use Rattle.mark_files.specs.SearchFile
+use Rattle.mark_files.specs.SearchFile.{searchFileSays}
+use Rattle.mark_files.specs.Cases.{LoadCase, SearchFileCase}
+use Rattle.mark_files.proofs.LoadSays.{load-is, load-answers}
+use Rattle.mark_files.proofs.SearchFileSays.{search-file-is}
 use Rattle.faults.specs.Faults.{CountAt, ArrowsAt, none-read, one-read, NumberPlace, edition-at, length-at, count-at, first-at, second-at}
 use Rattle.faults.specs.Faults.{FaultAt, number-cut, letters-cut, byte-refused, other-edition, bad-length, bad-count, other-arrow}
 use Rattle.faults.specs.Faults.{no-arrow-left, arrows-missing, bytes-left}
@@ -90,3 +94,14 @@ load-fault s R T {r} {p} e = by (load-answers s R T (refusedAt r p) .0 e .2)
     by : {R′ T′ : List ℕ} → LoadCase s R T (Load.outcome (refusedAt r p) R′ T′) → Fault s r p
     by (LoadCase.head-refused f) = front-fault f
     by (LoadCase.arrows-refused f h t v) = verdict-fault (count-place f) v
+
+-- a search with a file tells what loading tells
+pub search-load : (s : List ℕ) (text : Word) (R T : List ℕ) (F : List Place) {r : ℕ} {p : Place}
+    → searchFileSays s text R T F .answer ≡ refusedAt r p → loadSays s R T .answer ≡ refusedAt r p
+search-load s text R T F {r} {p} = by (search-file-is s text R T F _ .0 refl)
+  where
+    by : {o : SearchFile.Outcome} → SearchFileCase s text R T F o → o .answer ≡ refusedAt r p → loadSays s R T .answer ≡ refusedAt r p
+    by (SearchFileCase.long-text h) e = let z : _≡_ {A = ℕ} 0 1 = cc in absurd (omega arith)
+    by (SearchFileCase.short-room k c) e = let z : _≡_ {A = ℕ} 0 1 = cc in absurd (omega arith)
+    by (SearchFileCase.file-refused k c) e = ap (λ o. o .answer) (load-is s R T _ .1 c) ∙ cc
+    by (SearchFileCase.accepted k c) e = let z : _≡_ {A = ℕ} 0 1 = cc in absurd (omega arith)

@@ -61,8 +61,8 @@ module _ (w : Word) (most : length w ≤ longestWord) where
       let E = spellNumber edition in
       let M = spellNumber (length v) in
       let split : (((E ++ M) ++ v) ++ y) ≡ E ++ (M ++ (v ++ y)) =
-          append-assoc (E ++ M) v y
-          ∙ append-assoc E M (v ++ y) in
+      append-assoc (E ++ M) v y
+      ∙ append-assoc E M (v ++ y) in
       let first = edition-begins edition (M ++ (v ++ y)) (omega (arith, edition-number)) (q ∙ split) in
       let second = length-begins (length v) (v ++ y) (omega (arith, words-fit)) (first .1) in
       same-parts w v (arrowsOf w) y (second .0) (second .1)
@@ -84,14 +84,14 @@ module _ (w : Word) (most : length w ≤ longestWord) where
     arrows-begin y q =
         let N = spellNumber n in
         let split : ((headOf v ++ N) ++ spellSteps r) ++ y ≡ headOf v ++ (N ++ (spellSteps r ++ y)) =
-            append-assoc (headOf v ++ N) (spellSteps r) y
-            ∙ append-assoc (headOf v) N (spellSteps r ++ y) in
+        append-assoc (headOf v ++ N) (spellSteps r) y
+        ∙ append-assoc (headOf v) N (spellSteps r ++ y) in
         let first = head-begins v (N ++ (spellSteps r ++ y)) size (q ∙ split) in
         let second = count-begins n (spellSteps r ++ y) small (first .1) in
         let steps : spellSteps r ++ spellSteps l ≡ spellSteps r ++ y =
-            sym (steps-append r l)
-            ∙ ap spellSteps (sym own ∙ ap ownSteps (sym (first .0)))
-            ∙ second .1 in
+        sym (steps-append r l)
+        ∙ ap spellSteps (sym own ∙ ap ownSteps (sym (first .0)))
+        ∙ second .1 in
         (first .0, sym (second .0) ∙ ap (λ (u : Word). length (ownSteps u)) (first .0), same-behind (spellSteps r) (spellSteps l) y steps)
 
 -- ── One arrow ──────────────────────────────────────────────────────────────

@@ -91,11 +91,11 @@ module _ (s : List ℕ) (bytes : Bytes s) where
     begins-so e =
         let N = spellNumber (read .n) in
         let steps : spellSteps (ownSteps w) ≡ spellSteps (read .r) ++ spellSteps l =
-            ap spellSteps (read .own)
-            ∙ steps-append (read .r) l in
+        ap spellSteps (read .own)
+        ∙ steps-append (read .r) l in
         let arrows : arrowsOf w ≡ N ++ (spellSteps (read .r) ++ spellSteps l) =
-            ap (λ (k : ℕ). spellNumber k ++ spellSteps (ownSteps w)) (sym e)
-            ∙ ap (λ y. N ++ y) steps in
+        ap (λ (k : ℕ). spellNumber k ++ spellSteps (ownSteps w)) (sym e)
+        ∙ ap (λ y. N ++ y) steps in
         head-of w (counted .most)
         ∙ ap (λ y. headOf w ++ y) arrows
         ∙ sym (append-assoc (headOf w) N (spellSteps (read .r) ++ spellSteps l))
@@ -112,7 +112,8 @@ module _ (s : List ℕ) (bytes : Bytes s) where
   unfolding spell
   edition-right h = let f = least-reached in begins (through-edition s bytes h) (body (f .1 .word)) (f .1) (f .1 .file)
 
-  letters-right : {w : Word} {p : Place} → CountAt s w p → Begins s p
+  -- up to the number of arrows the file is its word's
+  pub letters-right : {w : Word} {p : Place} → CountAt s w p → Begins s p
   letters-right {w} C = begins (through-letters s bytes C) (arrowsOf w) (shown-saved C) (head-of w (C .most))
 
   -- of the arrows, exactly if as many are declared as the word has
@@ -205,8 +206,8 @@ module _ (s : List ℕ) (bytes : Bytes s) where
       let x = bytes-read A in
       let y = drop q (B .file) in
       let split : ((x ++ spellNumber a) ++ spellNumber b) ++ y ≡ x ++ (spellNumber a ++ (spellNumber b ++ y)) =
-          append-assoc (x ++ spellNumber a) (spellNumber b) y
-          ∙ append-assoc x (spellNumber a) (spellNumber b ++ y) in
+      append-assoc (x ++ spellNumber a) (spellNumber b) y
+      ∙ append-assoc x (spellNumber a) (spellNumber b ++ y) in
       goes-on A (its t B) (its-most t B) (spellNumber a ++ (spellNumber b ++ y)) (its-file t B ∙ split) .2
 
   arrow-wrong : {w : Word} {d : ℕ} {t : Step} {l : List Step} {p : Place} {a : ℕ} {j : Place} {b : ℕ} {q : Place}

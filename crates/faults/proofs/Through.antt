@@ -98,12 +98,12 @@ module _ (s : List ℕ) (bytes : Bytes s) where
       let x = headOf w ++ spellNumber (B .n) in
       let next : List Step = t ∷ [] in
       let spelled : spellSteps (B .r ++ next) ≡ spellSteps (B .r) ++ (spellNumber (t .up) ++ spellNumber (t .over)) =
-          steps-append (B .r) next
-          ∙ ap (λ y. spellSteps (B .r) ++ (spellNumber (t .up) ++ y)) (append-nil (spellNumber (t .over))) in
+      steps-append (B .r) next
+      ∙ ap (λ y. spellSteps (B .r) ++ (spellNumber (t .up) ++ y)) (append-nil (spellNumber (t .over))) in
       let same : ((x ++ spellSteps (B .r)) ++ spellNumber (t .up)) ++ spellNumber (t .over) ≡ x ++ spellSteps (B .r ++ next) =
-          append-assoc (x ++ spellSteps (B .r)) (spellNumber (t .up)) (spellNumber (t .over))
-          ∙ append-assoc x (spellSteps (B .r)) (spellNumber (t .up) ++ spellNumber (t .over))
-          ∙ ap (λ y. x ++ y) (sym spelled) in
+      append-assoc (x ++ spellSteps (B .r)) (spellNumber (t .up)) (spellNumber (t .over))
+      ∙ append-assoc x (spellSteps (B .r)) (spellNumber (t .up) ++ spellNumber (t .over))
+      ∙ ap (λ y. x ++ y) (sym spelled) in
       record {
         n = B .n;
         r = B .r ++ next;
