@@ -67,10 +67,7 @@ fn tell_load(answer: answers::SizeAnswer, m: &mut u64, offset: &mut u64) -> u32
         × (now (offset .exit) ≡ offsetGiven (now (offset .entry)) (sizeAnswer answer)) ⌝ }
 {
     match answer {
-        answers::SizeAnswer::Done(n) => {
-            *m = n as u64;
-            0
-        }
+        answers::SizeAnswer::Done(n) => tell_size(answers::SizeAnswer::Done(n), m),
         answers::SizeAnswer::Refused(why) => tell_refusal(why, offset),
     }
 }
@@ -88,11 +85,11 @@ fn tell_file_search(
         × (now (offset .exit) ≡ offsetGiven (now (offset .entry)) (tallyAnswer answer)) ⌝ }
 {
     match answer {
-        answers::TallyAnswer::Done(tally) => {
-            *count = tally.count as u64;
-            *letters = tally.letters;
-            0
-        }
+        answers::TallyAnswer::Done(tally) => tell_tally(
+            answers::TallyAnswer::Done(tally),
+            count,
+            letters,
+        ),
         answers::TallyAnswer::Refused(why) => tell_refusal(why, offset),
     }
 }

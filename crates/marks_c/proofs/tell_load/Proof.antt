@@ -1,4 +1,4 @@
--- A refusal tells its number, and its place where it has one, and gives nothing else.
+-- An answer is told as that of any size. A refusal tells its number, and its place where it has one, and gives nothing else.
 use Rattle.marks_c.proofs.Told.{load-refused}
 use borrow.Author.Needs.{needs}
 use Rattle.marks_c.proofs.tell_load.Statement.{statement}
@@ -12,4 +12,4 @@ returns-2 c =
 pub tell-load-spec : {M : Type 1} → statement M
 tell-load-spec =
     tie.close
-    (tie.spec (λ c. search needs) (λ c. search needs) (λ c κs. search needs) (λ c. search needs) returns-2)
+    (tie.spec (λ c. search needs) (λ c κs. search needs) (λ c. search needs) (λ c κs. search needs) (λ c. search needs) returns-2)
