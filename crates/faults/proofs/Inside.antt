@@ -17,12 +17,8 @@ module _ (s : List ℕ) where
   arrows-inside (none-read {c = c} C h few) = reads-inside s c h .1
   arrows-inside (one-read {j = j} A h g) = reads-inside s j g .1
 
-  -- one number, and two
   one : (p : Place) {v : ℕ} {q : Place} → Reads s p v q → (p < q) × (q ≤ length s)
   one p h = reads-inside s p h
-
-  two : (p : Place) {a : ℕ} (j : Place) {b : ℕ} {q : Place} → Reads s p a j → Reads s j b q → (p < q) × (q ≤ length s)
-  two p j h g = (omega (arith, one p h .0, one j g .0), one j g .1)
 
   pub fault-inside : {r : ℕ} {p q : Place} → FaultAt s r p q → (p ≤ q) × (q ≤ length s)
   fault-inside (number-cut N c) = (omega arith, omega arith)
@@ -31,8 +27,8 @@ module _ (s : List ℕ) where
   fault-inside (other-edition h d) = (omega arith, one 0 h .1)
   fault-inside (bad-length {p = p} h g d) = let i = one p g in (omega (arith, i .0), i .1)
   fault-inside (bad-count {p = p} C h d) = let i = one p h in (omega (arith, i .0), i .1)
-  fault-inside (other-arrow {p = p} {j = j} A h g d) = let i = two p j h g in (omega (arith, i .0), i .1)
-  fault-inside (no-arrow-left {p = p} {j = j} A h g) = let i = two p j h g in (omega (arith, i .0), i .1)
+  fault-inside (other-arrow {p = p} {j = j} A h g d) = let i = one j g in (omega (arith, one p h .0, i .0), i .1)
+  fault-inside (no-arrow-left {p = p} {j = j} A h g) = let i = one j g in (omega (arith, one p h .0, i .0), i .1)
   fault-inside (arrows-missing A) = (omega arith, arrows-inside A)
   fault-inside (bytes-left A h) = (omega arith, omega (arith, h))
 
