@@ -6,7 +6,7 @@ use crate::{
     trouble,
     word::{counted, mirror, quoted},
 };
-use marks::{Mark, Refusal};
+use marks::{LoadError, Mark};
 use std::ffi::OsString;
 
 /// Whether all that could be read are good.
@@ -25,13 +25,13 @@ pub fn check(files: &[OsString], output: &mut Output) -> bool {
     good
 }
 
-fn verdict(loaded: Result<Mark, Refusal>) -> String {
+fn verdict(loaded: Result<Mark, LoadError>) -> String {
     match loaded {
         Ok(mark) => {
             let (word, back) = (mark.word(), mirror(mark.word()));
             let held = if back == word { String::new() } else { format!("; it holds the mirror, {}", quoted(&back)) };
             format!("good, finds {} ({}{held})", quoted(word), counted(word.len(), "letter"))
         }
-        Err(refusal) => format!("refused: {refusal}; {}", trouble::advice(refusal)),
+        Err(error) => format!("refused: {error}; {}", trouble::advice(error.refusal)),
     }
 }
