@@ -1,5 +1,6 @@
-//! The exported entries over lent slices, as they are. Every one may be handed any slices: it answers, or refuses with its number of the table and leaves
-//! what its promise says. Nothing is allocated. [`Mark`](crate::Mark) and [`Stream`](crate::Stream) are easier to use.
+//! The exported entries over lent slices, as they are. Every one may be handed any slices: it answers, or refuses with its number of the table, and with the
+//! offset where a file is at fault, and leaves what its promise says. Nothing is allocated. [`Mark`](crate::Mark) and [`Stream`](crate::Stream) are easier to
+//! use.
 
 use crate::{LoadError, Refusal};
 

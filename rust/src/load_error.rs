@@ -17,7 +17,7 @@ use std::{error::Error, fmt};
 /// assert_eq!(error.to_string(), "the file's arrows are not those of its word (10), at offset 12");
 /// ```
 ///
-/// Where only the refusal matters, `?` makes one of it in a function whose error is a [`Refusal`].
+/// In a function whose error is a [`Refusal`], `?` keeps only that.
 #[derive(Clone, Copy, Debug, PartialEq, Eq, Hash)]
 pub struct LoadError {
     /// Why.

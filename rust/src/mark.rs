@@ -31,7 +31,8 @@ impl Mark {
         Ok(Mark { word: word.to_vec(), tables, list: vec![0; LIST] })
     }
 
-    /// The mark of a saved file. Searching with a file looks for the mirror of the file's word, so that the file holds the oracle that the search walks.
+    /// The mark of a saved file. Searching with a file looks for the mirror of the file's word, so that the file holds the oracle that the search walks. Any
+    /// bytes may be handed over: the error says why they are no mark's file, and where that shows.
     ///
     /// ```
     /// use marks::{LoadError, Mark, Refusal};
