@@ -101,7 +101,7 @@ mod tests {
     }
 
     #[test]
-    fn every_byte_takes_its_place_and_no_line_is_longer_than_the_screen_less_the_indent() {
+    fn every_byte_stands_above_its_carets_and_every_line_fits() {
         let every: Vec<u8> = (0..=255).collect();
         for place in 0..=every.len() {
             for line in lines(&every, place) {
