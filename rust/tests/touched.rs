@@ -1,5 +1,5 @@
 //! A header that declares four billion letters costs six bytes: the file goes on in memory that cannot be read, and the rooms cannot be touched at all. So with
-//! a searcher that is refused: the piece and the list cannot be touched, and no byte behind it can. And an offset is written by the refusals that have one only.
+//! a searcher that is refused: the piece and the list cannot be touched, and no byte behind it can. An offset is written only by the refusals that have one.
 use marks::{entries, table_room, LONGEST_TEXT, LONGEST_WORD, SEARCHER};
 use std::{ffi::c_void, ptr};
 
