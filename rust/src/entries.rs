@@ -1,7 +1,8 @@
-//! The exported entries over lent slices, as they are. Every one may be handed any slices: it answers, or refuses with its number of the table and leaves
-//! what its promise says. Nothing is allocated. [`Mark`](crate::Mark) and [`Stream`](crate::Stream) are easier to use.
+//! The exported entries over lent slices, as they are. Every one may be handed any slices: it answers, or refuses with its number of the table, and with the
+//! offset where a file is at fault, and leaves what its promise says. Nothing is allocated. [`Mark`](crate::Mark) and [`Stream`](crate::Stream) are easier to
+//! use.
 
-use crate::Refusal;
+use crate::{LoadError, Refusal};
 
 extern "C" {
     fn marks_build(word: *const u8, word_len: usize, tables: *mut u16, tables_len: usize, m: *mut u64) -> u32;
@@ -22,6 +23,7 @@ extern "C" {
         tables: *mut u16,
         tables_len: usize,
         m: *mut u64,
+        offset: *mut u64,
     ) -> u32;
     fn marks_search(
         word: *const u8,
@@ -48,6 +50,7 @@ extern "C" {
         finds_len: usize,
         count: *mut u64,
         letters: *mut u64,
+        offset: *mut u64,
     ) -> u32;
     fn marks_open(word: *const u8, word_len: usize, searcher: *mut u8, searcher_len: usize) -> u32;
     fn marks_take(
@@ -69,6 +72,11 @@ fn told<T>(said: u32, answer: T) -> Result<T, Refusal> {
     }
 }
 
+/// The same of an entry that loads a file, and what it left as the offset.
+fn told_of_file<T>(said: u32, answer: T, offset: u64) -> Result<T, LoadError> {
+    told(said, answer).map_err(|refusal| LoadError::of(refusal, offset))
+}
+
 /// The table of a word's oracle, in the first 6(m+1) entries of `tables`; the answer is m.
 pub fn build(word: &[u8], tables: &mut [u16]) -> Result<u64, Refusal> {
     let mut m = 0;
@@ -87,11 +95,13 @@ pub fn save(word: &[u8], tables: &mut [u16], out: &mut [u8]) -> Result<u64, Refu
 }
 
 /// The file's word in the first m bytes of `room`, its table in the first 6(m+1) entries of `tables`; the answer is m.
-pub fn load(file: &[u8], room: &mut [u8], tables: &mut [u16]) -> Result<u64, Refusal> {
-    let mut m = 0;
+pub fn load(file: &[u8], room: &mut [u8], tables: &mut [u16]) -> Result<u64, LoadError> {
+    let (mut m, mut offset) = (0, 0);
     // SAFETY: as above.
-    let said = unsafe { marks_load(file.as_ptr(), file.len(), room.as_mut_ptr(), room.len(), tables.as_mut_ptr(), tables.len(), &mut m) };
-    told(said, m)
+    let said = unsafe {
+        marks_load(file.as_ptr(), file.len(), room.as_mut_ptr(), room.len(), tables.as_mut_ptr(), tables.len(), &mut m, &mut offset)
+    };
+    told_of_file(said, m, offset)
 }
 
 /// How often a word stands in a text, and how many letters were read to find out.
@@ -123,8 +133,8 @@ pub fn search(word: &[u8], text: &[u8], tables: &mut [u16], finds: &mut [u32]) -
 }
 
 /// Every place where the mirror of the file's word stands in the text; `room` and `tables` are left as `load` leaves them.
-pub fn search_file(file: &[u8], text: &[u8], room: &mut [u8], tables: &mut [u16], finds: &mut [u32]) -> Result<Tally, Refusal> {
-    let mut tally = Tally { count: 0, letters: 0 };
+pub fn search_file(file: &[u8], text: &[u8], room: &mut [u8], tables: &mut [u16], finds: &mut [u32]) -> Result<Tally, LoadError> {
+    let (mut tally, mut offset) = (Tally { count: 0, letters: 0 }, 0);
     // SAFETY: as above.
     let said = unsafe {
         marks_search_file(
@@ -140,9 +150,10 @@ pub fn search_file(file: &[u8], text: &[u8], room: &mut [u8], tables: &mut [u16]
             finds.len(),
             &mut tally.count,
             &mut tally.letters,
+            &mut offset,
         )
     };
-    told(said, tally)
+    told_of_file(said, tally, offset)
 }
 
 /// A searcher for a word of 1 to 64 bytes that has taken nothing, in the first [`SEARCHER`](crate::SEARCHER) bytes of `searcher`.

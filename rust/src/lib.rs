@@ -32,17 +32,19 @@
 //! # Ok::<(), marks::Refusal>(())
 //! ```
 //!
-//! What is refused is refused with a number of one table, [`Refusal`]; nothing panics, and no declared number is acted on before it is checked. [`entries`]
-//! has the seven entries themselves, over slices that the caller lends.
+//! What is refused is refused with a number of one table, [`Refusal`]; nothing panics, and no declared number is acted on before it is checked. A refused file
+//! comes with the offset at which it is broken, in a [`LoadError`]. [`entries`] has the seven entries themselves, over slices that the caller lends.
 
 pub mod entries;
 mod finds;
+mod load_error;
 mod mark;
 mod refusal;
 mod stream;
 mod taken;
 
 pub use finds::Finds;
+pub use load_error::LoadError;
 pub use mark::Mark;
 pub use refusal::Refusal;
 pub use stream::{Each, Stream};

@@ -1,6 +1,6 @@
 //! A word to be found, with the rooms that finding it takes.
 
-use crate::{entries, table_room, Finds, Refusal, LONGEST_FILE, LONGEST_TEXT, LONGEST_WORD};
+use crate::{entries, table_room, Finds, LoadError, Refusal, LONGEST_FILE, LONGEST_TEXT, LONGEST_WORD};
 
 /// How many finds are listed at a time.
 const LIST: usize = 4_096;
@@ -31,18 +31,21 @@ impl Mark {
         Ok(Mark { word: word.to_vec(), tables, list: vec![0; LIST] })
     }
 
-    /// The mark of a saved file. Searching with a file looks for the mirror of the file's word, so that the file holds the oracle that the search walks.
+    /// The mark of a saved file. Searching with a file looks for the mirror of the file's word, so that the file holds the oracle that the search walks. Any
+    /// bytes may be handed over: the error says why they are no mark's file, and where that shows.
     ///
     /// ```
-    /// use marks::{Mark, Refusal};
+    /// use marks::{LoadError, Mark, Refusal};
     ///
     /// // the file of `ab` finds `ba`
     /// let mark = Mark::from_file(&[0x01, 0x02, 0x61, 0x62, 0x01, 0x00, 0x00])?;
     /// assert_eq!(mark.word(), b"ba");
-    /// assert_eq!(Mark::from_file(&[0x01, 0x02, 0x61, 0x62]).unwrap_err(), Refusal::CutFile);
-    /// # Ok::<(), Refusal>(())
+    ///
+    /// let cut = Mark::from_file(&[0x01, 0x02, 0x61, 0x62]).unwrap_err();
+    /// assert_eq!(cut, LoadError { refusal: Refusal::CutFile, offset: Some(4) });
+    /// # Ok::<(), LoadError>(())
     /// ```
-    pub fn from_file(file: &[u8]) -> Result<Mark, Refusal> {
+    pub fn from_file(file: &[u8]) -> Result<Mark, LoadError> {
         let (mut word, mut tables) = (vec![0; LONGEST_WORD], vec![0; table_room(LONGEST_WORD)]);
         let m = entries::load(file, &mut word, &mut tables)? as usize;
         word.truncate(m);

@@ -2,13 +2,14 @@
 
 use std::{error::Error, fmt};
 
-/// Why an entry refused. The value of each case is its number in the table.
+/// Why an entry refused. The value of each case is its number in the table. Those of a file, 5 to 11, come with an offset in it, in a
+/// [`LoadError`](crate::LoadError).
 ///
 /// ```
 /// use marks::{Mark, Refusal};
 ///
 /// // a header that declares four billion letters
-/// let refused = Mark::from_file(&[0x01, 0xFF, 0xFF, 0xFF, 0xFF, 0x0F]).unwrap_err();
+/// let refused = Mark::from_file(&[0x01, 0xFF, 0xFF, 0xFF, 0xFF, 0x0F]).unwrap_err().refusal;
 /// assert_eq!(refused, Refusal::BadLength);
 /// assert_eq!(refused.number(), 8);
 /// assert_eq!(refused.to_string(), "the file declares a word of no letters or of more than 4,096 (8)");
@@ -64,6 +65,11 @@ impl Refusal {
     /// Its number in the table, from 1 to 12 or 16.
     pub const fn number(self) -> u32 {
         self as u32
+    }
+
+    /// Whether it shows at a place in a file, which the entry then writes.
+    pub(crate) const fn has_offset(self) -> bool {
+        matches!(self.number(), 5..=11)
     }
 
     /// The refusal that has a number.

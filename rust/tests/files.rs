@@ -1,8 +1,12 @@
 //! Saved files of the longest word, and refusals with what they leave, through the entries as Rust sees them.
 use marks::entries::{load, save, search_file, Tally};
-use marks::{table_room, Refusal, LONGEST_FILE, LONGEST_TEXT, LONGEST_WORD};
+use marks::{table_room, LoadError, Refusal, LONGEST_FILE, LONGEST_TEXT, LONGEST_WORD};
 
 const TABLES: usize = table_room(LONGEST_WORD);
+
+fn refused<T>(refusal: Refusal, offset: Option<usize>) -> Result<T, LoadError> {
+    Err(LoadError { refusal, offset })
+}
 
 #[test]
 fn the_longest_word_is_saved_loaded_and_searched_for() {
@@ -40,12 +44,12 @@ fn an_output_one_byte_short_is_not_touched() {
 fn the_text_comes_before_the_file_and_the_room_before_the_arrows() {
     let text = vec![b'a'; LONGEST_TEXT + 1];
     let (mut room, mut tables, mut finds) = ([8u8; 3], [7u16; 24], [5u32; 2]);
-    assert_eq!(search_file(b"", &text, &mut room, &mut tables, &mut finds), Err(Refusal::LongText));
-    assert_eq!(search_file(b"", &text[1..], &mut room, &mut tables, &mut finds), Err(Refusal::CutFile));
+    assert_eq!(search_file(b"", &text, &mut room, &mut tables, &mut finds), refused(Refusal::LongText, None));
+    assert_eq!(search_file(b"", &text[1..], &mut room, &mut tables, &mut finds), refused(Refusal::CutFile, Some(0)));
     // bytes behind the last arrow, and a room that is too short for the word
-    assert_eq!(load(b"\x01\x03aaa\0\0", &mut room[..2], &mut tables), Err(Refusal::ShortRoom));
+    assert_eq!(load(b"\x01\x03aaa\0\0", &mut room[..2], &mut tables), refused(Refusal::ShortRoom, None));
     assert_eq!((room, tables), ([8; 3], [7; 24]));
-    assert_eq!(load(b"\x01\x03aaa\0\0", &mut room, &mut tables), Err(Refusal::Leftovers));
+    assert_eq!(load(b"\x01\x03aaa\0\0", &mut room, &mut tables), refused(Refusal::Leftovers, Some(6)));
     assert_eq!((room, tables), ([0; 3], [0; 24]));
     let tally = search_file(b"\x01\x03aaa\0", b"aaaa", &mut room, &mut tables, &mut finds[..1]);
     assert_eq!(tally, Ok(Tally { count: 2, letters: 6 }));

@@ -1,5 +1,5 @@
 //! A mark against the plainest search there is: no find missed or doubled, however many there are and wherever the parts of a long text meet.
-use marks::{Mark, Refusal, LONGEST_TEXT, LONGEST_WORD};
+use marks::{LoadError, Mark, Refusal, LONGEST_TEXT, LONGEST_WORD};
 
 fn plain(word: &[u8], text: &[u8]) -> Vec<usize> {
     text.windows(word.len()).enumerate().filter(|(_, part)| *part == word).map(|(at, _)| at).collect()
@@ -67,8 +67,9 @@ fn a_file_gives_the_mark_back() {
             let word: Vec<u8> = (0..m).map(|_| (random(&mut seed) >> 20).wrapping_rem(letters) as u8).collect();
             let file = Mark::new(&word).unwrap().to_file();
             assert_eq!(Mark::from_file(&file).unwrap().word(), word);
-            assert_eq!(Mark::from_file(&file[..file.len() - 1]).unwrap_err(), Refusal::CutFile);
-            assert_eq!(Mark::from_file(&[&file[..], &[0]].concat()).unwrap_err(), Refusal::Leftovers);
+            let (cut, longer) = (Mark::from_file(&file[..file.len() - 1]), Mark::from_file(&[&file[..], &[0]].concat()));
+            assert_eq!(cut.unwrap_err(), LoadError { refusal: Refusal::CutFile, offset: Some(file.len() - 1) });
+            assert_eq!(longer.unwrap_err(), LoadError { refusal: Refusal::Leftovers, offset: Some(file.len()) });
         }
     }
 }

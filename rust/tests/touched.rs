@@ -1,5 +1,5 @@
 //! A header that declares four billion letters costs six bytes: the file goes on in memory that cannot be read, and the rooms cannot be touched at all. So with
-//! a searcher that is refused: the piece and the list cannot be touched, and no byte behind it can.
+//! a searcher that is refused: the piece and the list cannot be touched, and no byte behind it can. An offset is written only by the refusals that have one.
 use marks::{entries, table_room, LONGEST_TEXT, LONGEST_WORD, SEARCHER};
 use std::{ffi::c_void, ptr};
 
@@ -16,6 +16,22 @@ extern "C" {
         tables: *mut u16,
         tables_len: usize,
         m: *mut u64,
+        offset: *mut u64,
+    ) -> u32;
+    fn marks_search_file(
+        file: *const u8,
+        file_len: usize,
+        text: *const u8,
+        text_len: usize,
+        room: *mut u8,
+        room_len: usize,
+        tables: *mut u16,
+        tables_len: usize,
+        finds: *mut u32,
+        finds_len: usize,
+        count: *mut u64,
+        letters: *mut u64,
+        offset: *mut u64,
     ) -> u32;
     fn marks_take(
         searcher: *mut u8,
@@ -43,28 +59,76 @@ fn forbidden_behind_a_page(pages: usize) -> *mut u8 {
     }
 }
 
-fn load_with_forbidden_rest(bytes: &[u8]) -> u32 {
+/// The refusal and its offset.
+fn load_with_forbidden_rest(bytes: &[u8]) -> (u32, u64) {
     let (file, room, tables) = (forbidden_behind_a_page(16), forbidden_behind_a_page(1), forbidden_behind_a_page(1));
-    let mut m = 99;
+    let (mut m, mut offset) = (99, 99);
     // SAFETY: the entry is handed lengths that reach into pages which cannot be touched; that it does not is what is tested.
     let refused = unsafe {
         let start = file.sub(bytes.len());
         ptr::copy_nonoverlapping(bytes.as_ptr(), start, bytes.len());
-        marks_load(start, 1 << 20, room, LONGEST_WORD, tables.cast(), table_room(LONGEST_WORD), &mut m)
+        marks_load(start, 1 << 20, room, LONGEST_WORD, tables.cast(), table_room(LONGEST_WORD), &mut m, &mut offset)
     };
     assert_eq!(m, 99);
-    refused
+    (refused, offset)
 }
 
 #[test]
 fn a_declared_length_is_not_acted_on_before_it_is_checked() {
-    assert_eq!(load_with_forbidden_rest(&[0x01, 0xFF, 0xFF, 0xFF, 0xFF, 0x0F]), 8);
+    assert_eq!(load_with_forbidden_rest(&[0x01, 0xFF, 0xFF, 0xFF, 0xFF, 0x0F]), (8, 1));
     let longer = LONGEST_WORD + 1;
-    assert_eq!(load_with_forbidden_rest(&[0x01, 0x80 | (longer % 128) as u8, (longer / 128) as u8]), 8);
-    assert_eq!(load_with_forbidden_rest(&[0x01, 0x00]), 8);
-    assert_eq!(load_with_forbidden_rest(&[0x02]), 7);
-    assert_eq!(load_with_forbidden_rest(&[0x01, 0x83, 0x00]), 6);
-    assert_eq!(load_with_forbidden_rest(&[0x01, 0xFF, 0xFF, 0xFF, 0xFF, 0x10]), 6);
+    assert_eq!(load_with_forbidden_rest(&[0x01, 0x80 | (longer % 128) as u8, (longer / 128) as u8]), (8, 1));
+    assert_eq!(load_with_forbidden_rest(&[0x01, 0x00]), (8, 1));
+    assert_eq!(load_with_forbidden_rest(&[0x02]), (7, 0));
+    assert_eq!(load_with_forbidden_rest(&[0x01, 0x83, 0x00]), (6, 2));
+    assert_eq!(load_with_forbidden_rest(&[0x01, 0xFF, 0xFF, 0xFF, 0xFF, 0x10]), (6, 5));
+}
+
+/// What loading says, and what it leaves of an offset that was 99.
+fn load_leaves(file: &[u8], room: &mut [u8]) -> (u32, u64) {
+    let (mut tables, mut m, mut offset) = ([0; table_room(3)], 0, 99);
+    let (room_len, tables_len) = (room.len(), tables.len());
+    // SAFETY: each pointer and length is of one slice, and the answers outlive the call.
+    let said =
+        unsafe { marks_load(file.as_ptr(), file.len(), room.as_mut_ptr(), room_len, tables.as_mut_ptr(), tables_len, &mut m, &mut offset) };
+    (said, offset)
+}
+
+/// The same of searching with a file.
+fn search_leaves(file: &[u8], text: &[u8], room: &mut [u8]) -> (u32, u64) {
+    let (mut tables, mut finds) = ([0; table_room(3)], [0; 2]);
+    let (mut count, mut letters, mut offset) = (0, 0, 99);
+    // SAFETY: as above.
+    let said = unsafe {
+        marks_search_file(
+            file.as_ptr(),
+            file.len(),
+            text.as_ptr(),
+            text.len(),
+            room.as_mut_ptr(),
+            room.len(),
+            tables.as_mut_ptr(),
+            tables.len(),
+            finds.as_mut_ptr(),
+            finds.len(),
+            &mut count,
+            &mut letters,
+            &mut offset,
+        )
+    };
+    (said, offset)
+}
+
+#[test]
+fn an_offset_is_written_by_the_refusals_that_have_one_and_by_nothing_else() {
+    let (good, longer, text) = (b"\x01\x03aaa\0", b"\x01\x03aaa\0\0", vec![b'a'; LONGEST_TEXT + 1]);
+    let mut room = [0; 3];
+    for (file, letters, left) in [(&good[..], 3, (0, 99)), (good, 2, (3, 99)), (longer, 2, (3, 99)), (longer, 3, (11, 6)), (b"", 0, (5, 0))]
+    {
+        assert_eq!(load_leaves(file, &mut room[..letters]), left);
+        assert_eq!(search_leaves(file, b"aaaa", &mut room[..letters]), left);
+        assert_eq!(search_leaves(file, &text, &mut room[..letters]), (4, 99));
+    }
 }
 
 /// Takes a piece with a searcher behind which nothing can be touched. The piece, of so many bytes, and the list cannot be touched at all.

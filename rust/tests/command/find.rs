@@ -170,6 +170,6 @@ fn a_mark_file_that_cannot_be_used() {
     here.marks(&["find", "-m", "ride", "other"]).is_with(
         2,
         "",
-        "marks: ride: the file is of another edition than 1 (7); it is no mark file, or of a later edition: save the mark again\n",
+        "marks: ride: the file is of another edition than 1 (7), at offset 0; it is no mark file, or of a later edition: save the mark again\n",
     );
 }

@@ -3,6 +3,7 @@
 mod endings;
 mod find;
 mod mark_files;
+mod places;
 mod seams;
 mod usage;
 
@@ -16,6 +17,9 @@ use std::{
 };
 
 pub const MARKS: &str = env!("CARGO_BIN_EXE_marks");
+
+/// The file of `abbbaab` finds its mirror.
+pub const GOOD: &[u8] = b"\x01\x07abbbaab\x04\0\0\x01\x03\x01\x01\x01\0";
 
 /// A number below a million as messages have it: 1,024.
 pub fn told(number: usize) -> String {

@@ -1,6 +1,6 @@
 //! `marks save`, `marks check` and `marks show`: mark files good and bad.
 
-use crate::{told, Folder};
+use crate::{told, Folder, GOOD};
 use marks::LONGEST_WORD;
 use std::{fs, os::unix::fs::PermissionsExt};
 
@@ -48,9 +48,6 @@ fn an_out_that_cannot_be_written() {
     }
 }
 
-/// The file of `abbbaab` finds its mirror.
-const GOOD: &[u8] = b"\x01\x07abbbaab\x04\0\0\x01\x03\x01\x01\x01\0";
-
 #[test]
 fn check_says_what_good_files_find() {
     let here = Folder::new("good").with("7", GOOD).with("1", b"\x01\x01a\0").with("3", b"\x01\x03aaa\0");
@@ -67,7 +64,7 @@ fn check_says_what_good_files_find() {
 }
 
 #[test]
-fn every_refusal_of_a_file_is_told_with_its_number() {
+fn every_refusal_of_a_file_is_told_with_its_number_and_offset() {
     let again = "save the mark again";
     let damaged = format!("it is damaged or no mark file: {again}");
     let cut = ("the file ends before its last field does (5)", format!("it was cut: copy it again, or {again}"));
@@ -75,26 +72,30 @@ fn every_refusal_of_a_file_is_told_with_its_number() {
     let length = (&no_word[..], damaged.clone());
     let arrows = ("the file's arrows are not those of its word (10)", damaged.clone());
     let spelling = ("a number in the file is not in its one spelling (6)", format!("{damaged}; docs/FILE.md has the spelling"));
-    let cases: [(&[u8], _); 11] = [
-        (b"", cut.clone()),
-        (&GOOD[..17], cut),
-        (b"\x01\x83\x00aaa\x00", spelling.clone()),
-        (b"\x01\xff\xff\xff\xff\x10", spelling),
-        (b"\x02\x01a\0", ("the file is of another edition than 1 (7)", format!("it is no mark file, or of a later edition: {again}"))),
+    let cases: [(&[u8], usize, _); 11] = [
+        (b"", 0, cut.clone()),
+        (&GOOD[..17], 17, cut),
+        (b"\x01\x83\x00aaa\x00", 2, spelling.clone()),
+        (b"\x01\xff\xff\xff\xff\x10", 5, spelling),
+        (b"\x02\x01a\0", 0, ("the file is of another edition than 1 (7)", format!("it is no mark file, or of a later edition: {again}"))),
         // four billion letters, and none
-        (b"\x01\xff\xff\xff\xff\x0f", length.clone()),
-        (b"\x01\x00", length),
-        (b"\x01\x03aaa\x03", ("the file declares more arrows than its word can have (9)", damaged)),
-        (b"\x01\x03aaa\x01\0\0", arrows.clone()),
-        (b"\x01\x02ab\0", arrows),
-        (b"\x01\x03aaa\0\0", ("bytes follow the file's last arrow (11)", format!("something was added to it: {again}"))),
+        (b"\x01\xff\xff\xff\xff\x0f", 1, length.clone()),
+        (b"\x01\x00", 1, length),
+        (b"\x01\x03aaa\x03", 5, ("the file declares more arrows than its word can have (9)", damaged)),
+        (b"\x01\x03aaa\x01\0\0", 6, arrows.clone()),
+        (b"\x01\x02ab\0", 5, arrows),
+        (b"\x01\x03aaa\0\0", 6, ("bytes follow the file's last arrow (11)", format!("something was added to it: {again}"))),
     ];
-    for (number, (bytes, (meaning, advice))) in cases.into_iter().enumerate() {
+    for (number, (bytes, offset, (meaning, advice))) in cases.into_iter().enumerate() {
         let here = Folder::new(&format!("refused-{number}")).with("bad", bytes).with("good", GOOD).with("ride", "baabbba");
-        let good = "good: good, finds \"baabbba\" (7 letters; it holds the mirror, \"abbbaab\")\n";
-        here.marks(&["check", "bad", "good"]).is(1, &format!("bad: refused: {meaning}; {advice}\n{good}"));
+        let told = format!("{meaning}, at offset {offset}; {advice}");
+        let said = here.marks(&["check", "bad", "good"]);
+        let unindented: Vec<&str> = said.out.lines().filter(|line| !line.starts_with("  ")).collect();
+        let good = "good: good, finds \"baabbba\" (7 letters; it holds the mirror, \"abbbaab\")";
+        assert_eq!(unindented, [&format!("bad: refused: {told}"), good]);
+        assert_eq!((said.err.as_str(), said.status), ("", Some(1)));
         for words in [&["find", "-m", "bad", "ride"][..], &["show", "bad"], &["show", "--dot", "bad"]] {
-            here.marks(words).is_with(2, "", &format!("marks: bad: {meaning}; {advice}\n"));
+            here.marks(words).is_with(2, "", &format!("marks: bad: {told}\n"));
         }
     }
 }
@@ -112,7 +113,10 @@ fn trouble_with_a_file_is_not_a_refusal() {
 #[test]
 fn a_huge_file_is_judged_by_its_front() {
     let here = Folder::new("huge").with("file", GOOD).with("none", "");
-    for (name, status) in [("file", "bytes follow the file's last arrow (11)"), ("none", "the file is of another edition than 1 (7)")] {
+    for (name, status) in [
+        ("file", "bytes follow the file's last arrow (11), at offset 18;"),
+        ("none", "the file is of another edition than 1 (7), at offset 0;"),
+    ] {
         fs::File::options().write(true).open(here.path(name)).unwrap().set_len(1 << 40).unwrap();
         let said = here.shell(&format!("ulimit -v 32768; marks check {name}"));
         assert!(said.out.starts_with(&format!("{name}: refused: {status}")), "{said:?}");

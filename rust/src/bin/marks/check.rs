@@ -1,12 +1,12 @@
-//! `marks check`: whether mark files are good, and what they find.
+//! `marks check`: whether mark files are good, and what they find, or where they are broken.
 
 use crate::{
-    input,
+    dump, input,
     output::Output,
     trouble,
     word::{counted, mirror, quoted},
 };
-use marks::{Mark, Refusal};
+use marks::{LoadError, Mark};
 use std::ffi::OsString;
 
 /// Whether all that could be read are good.
@@ -14,10 +14,13 @@ pub fn check(files: &[OsString], output: &mut Output) -> bool {
     let mut good = true;
     for name in files {
         match input::mark_file(name) {
-            Ok(bytes) => {
-                let loaded = Mark::from_file(&bytes);
-                good &= loaded.is_ok();
-                output.line_of(input::label(name), format_args!(": {}", verdict(loaded)));
+            Ok(file) => {
+                let loaded = Mark::from_file(&file);
+                output.line_of(input::label(name), format_args!(": {}", verdict(&loaded)));
+                if let Err(error) = loaded {
+                    good = false;
+                    show_place(&file, error, output);
+                }
             }
             Err(trouble) => output.complain(&trouble),
         }
@@ -25,13 +28,20 @@ pub fn check(files: &[OsString], output: &mut Output) -> bool {
     good
 }
 
-fn verdict(loaded: Result<Mark, Refusal>) -> String {
+fn verdict(loaded: &Result<Mark, LoadError>) -> String {
     match loaded {
         Ok(mark) => {
             let (word, back) = (mark.word(), mirror(mark.word()));
             let held = if back == word { String::new() } else { format!("; it holds the mirror, {}", quoted(&back)) };
             format!("good, finds {} ({}{held})", quoted(word), counted(word.len(), "letter"))
         }
-        Err(refusal) => format!("refused: {refusal}; {}", trouble::advice(refusal)),
+        Err(error) => format!("refused: {error}; {}", trouble::advice(error.refusal)),
+    }
+}
+
+/// Where the file is broken, indented below its verdict.
+fn show_place(file: &[u8], error: LoadError, output: &mut Output) {
+    for line in error.offset.map(|offset| dump::lines(file, offset)).unwrap_or_default() {
+        output.line(format_args!("  {line}"));
     }
 }

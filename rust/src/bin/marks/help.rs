@@ -6,7 +6,7 @@ marks finds byte marks in files of any size, with a proved library.
   marks find WORD FILE..         print each offset at which WORD stands, from 0
   marks find -m MARKFILE FILE..  the same for the mark that MARKFILE finds
   marks save WORD OUT            write the mark file that finds WORD
-  marks check MARKFILE..         good, with what it finds, or why it is refused
+  marks check MARKFILE..         what it finds, or why it is refused, and where
   marks show MARKFILE            its oracle as a table: states, supplies, arrows
 
   -x, --hex             WORD is in hex digits, as 2e464954 for .FIT

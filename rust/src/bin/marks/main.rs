@@ -4,6 +4,7 @@
 mod arguments;
 mod check;
 mod dot;
+mod dump;
 mod find;
 mod help;
 mod input;

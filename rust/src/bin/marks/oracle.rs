@@ -1,6 +1,6 @@
 //! An oracle, read from its table by the rule of docs/TABLE.md: entries are looked up, and nothing is worked out.
 
-use marks::{entries, table_room, Refusal, LONGEST_WORD};
+use marks::{entries, table_room, LoadError, LONGEST_WORD};
 
 pub struct Oracle {
     /// Six rows of m+1 entries.
@@ -10,7 +10,7 @@ pub struct Oracle {
 
 impl Oracle {
     /// The oracle in a mark file.
-    pub fn of_file(file: &[u8]) -> Result<Oracle, Refusal> {
+    pub fn of_file(file: &[u8]) -> Result<Oracle, LoadError> {
         let (mut word, mut table) = (vec![0; LONGEST_WORD], vec![0; table_room(LONGEST_WORD)]);
         let m = entries::load(file, &mut word, &mut table)? as usize;
         Ok(Oracle { table, m })

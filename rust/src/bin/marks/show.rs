@@ -14,7 +14,7 @@ const SCREEN: usize = 80;
 
 pub fn show(name: &OsStr, as_dot: bool, output: &mut Output) -> Result<(), Trouble> {
     let file = input::mark_file(name)?;
-    let oracle = Oracle::of_file(&file).map_err(|refusal| Trouble::refused(input::shown(name), refusal))?;
+    let oracle = Oracle::of_file(&file).map_err(|error| Trouble::refused(input::shown(name), error))?;
     let lines = if as_dot { dot::lines(&oracle) } else { table(&oracle, file.len()) };
     for line in lines {
         output.line(format_args!("{line}"));

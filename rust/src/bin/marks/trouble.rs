@@ -47,8 +47,9 @@ impl Trouble {
         }
     }
 
-    pub fn refused(of: String, refusal: Refusal) -> Trouble {
-        Trouble::new(of, refusal.to_string(), advice(refusal))
+    /// A word that is refused, or a file, with where it is broken.
+    pub fn refused(of: String, why: impl Copy + fmt::Display + Into<Refusal>) -> Trouble {
+        Trouble::new(of, why.to_string(), advice(why.into()))
     }
 }
 

@@ -27,7 +27,7 @@ impl Word {
 
 /// The mark that a mark file finds.
 pub fn mark_of_file(name: &OsStr) -> Result<Mark, Trouble> {
-    Mark::from_file(&input::mark_file(name)?).map_err(|refusal| Trouble::refused(input::shown(name), refusal))
+    Mark::from_file(&input::mark_file(name)?).map_err(|error| Trouble::refused(input::shown(name), error))
 }
 
 /// Digits in pairs; blanks may stand between pairs.

@@ -1,0 +1,150 @@
+//! Where `marks check` shows that a file is broken: the bytes there, as `hexdump -C` has them, below the file's verdict.
+
+use crate::{Folder, GOOD};
+use marks::{Mark, LONGEST_FILE, LONGEST_WORD};
+
+/// What is printed below the verdict on a refused file, which begins so.
+#[track_caller]
+fn shown(here: &Folder, name: &str, verdict: &str) -> Vec<String> {
+    let said = here.marks(&["check", name]);
+    assert_eq!((said.err.as_str(), said.status), ("", Some(1)));
+    let mut lines = said.out.lines().map(str::to_string);
+    let first = lines.next().unwrap();
+    assert!(first.starts_with(&format!("{name}: refused: {verdict}; ")), "{first}");
+    lines.collect()
+}
+
+#[test]
+fn the_faulty_byte_is_marked() {
+    let mut arrow = GOOD.to_vec();
+    arrow[13] = 4;
+    let here = Folder::new("marked").with("arrow", arrow).with("huge", b"\x01\xff\xff\xff\xff\x0f");
+    assert_eq!(
+        shown(&here, "arrow", "the file's arrows are not those of its word (10), at offset 12"),
+        [
+            "  00000000  01 07 61 62 62 62 61 61  62 04 00 00 01 04 01 01  |..abbbaab.......|",
+            "                                                 ^^",
+            "  00000010  01 00                                             |..|",
+        ]
+    );
+    assert_eq!(
+        shown(&here, "huge", "the file declares a word of no letters or of more than 4,096 (8), at offset 1"),
+        ["  00000000  01 ff ff ff ff 0f                                 |......|", "               ^^"]
+    );
+}
+
+#[test]
+fn the_end_of_a_file_is_marked_behind_its_last_byte() {
+    let here = Folder::new("ends").with("empty", "").with("cut", &GOOD[..11]).with("row", &GOOD[..16]).with("missing", b"\x01\x02ab\0");
+    let cut = |length| format!("the file ends before its last field does (5), at offset {length}");
+    assert_eq!(shown(&here, "empty", &cut(0)), ["  00000000", "            ^^ the file ends here"]);
+    assert_eq!(
+        shown(&here, "cut", &cut(11)),
+        [
+            "  00000000  01 07 61 62 62 62 61 61  62 04 00                 |..abbbaab..|",
+            "                                              ^^ the file ends here",
+        ]
+    );
+    assert_eq!(
+        shown(&here, "row", &cut(16)),
+        [
+            "  00000000  01 07 61 62 62 62 61 61  62 04 00 00 01 03 01 01  |..abbbaab.......|",
+            "  00000010",
+            "            ^^ the file ends here",
+        ]
+    );
+    assert_eq!(
+        shown(&here, "missing", "the file's arrows are not those of its word (10), at offset 5"),
+        ["  00000000  01 02 61 62 00                                    |..ab.|", "                           ^^ the file ends here"]
+    );
+}
+
+#[test]
+fn each_place_stands_below_its_own_file() {
+    let here = Folder::new("several").with("1", b"\x02").with("2", b"\x01\x01a\0").with("3", b"\x01\x01a\0\x1b[2J");
+    let said = here.marks_reading(&["check", "1", "2", "gone", "3", "-"], b"\x01\0");
+    said.is_with(
+        2,
+        "\
+1: refused: the file is of another edition than 1 (7), at offset 0; it is no mark file, or of a later edition: save the mark again
+  00000000  02                                                |.|
+            ^^
+2: good, finds \"a\" (1 letter)
+3: refused: bytes follow the file's last arrow (11), at offset 4; something was added to it: save the mark again
+  00000000  01 01 61 00 1b 5b 32 4a                           |..a..[2J|
+                        ^^
+(standard input): refused: the file declares a word of no letters or of more than 4,096 (8), at offset 1; it is damaged or no mark file: save the mark again
+  00000000  01 00                                             |..|
+               ^^
+",
+        "marks: gone: there is no such file; check its name\n",
+    );
+}
+
+/// A hundred kilobytes of anything, the same each time.
+fn garbage() -> Vec<u8> {
+    let mut seed = 88172645463325252u64;
+    let mut byte = || {
+        seed ^= seed << 13;
+        seed ^= seed >> 7;
+        seed ^= seed << 17;
+        (seed >> 20) as u8
+    };
+    (0..100_000).map(|_| byte()).collect()
+}
+
+/// Of a file that is longer than what is read of it, verdict and place are those of the whole, which the library is handed here.
+#[track_caller]
+fn judged_as_the_whole(here: Folder, file: &[u8]) {
+    assert!(file.len() > 2 * LONGEST_FILE);
+    let here = here.with("long", file);
+    let error = Mark::from_file(file).unwrap_err();
+    let lines = shown(&here, "long", &error.to_string());
+    let offset = error.offset.unwrap();
+    let row = lines.iter().find(|line| line.starts_with(&format!("  {:08x}", offset / 16 * 16))).unwrap();
+    let marked = lines.iter().find_map(|line| line.find("^^")).unwrap();
+    assert_eq!(row[marked..marked + 2], format!("{:02x}", file[offset]));
+    rows_are_hexdumps(&here, &lines);
+}
+
+/// Where hexdump is at hand, it has the same rows.
+fn rows_are_hexdumps(here: &Folder, lines: &[String]) {
+    let said = here.shell("command -v hexdump >/dev/null || exit 9; hexdump -C -v long");
+    if said.status == Some(9) {
+        eprintln!("not tried: there is no hexdump");
+        return;
+    }
+    for row in lines.iter().filter(|line| !line.contains("^^")) {
+        assert!(said.out.lines().any(|line| format!("  {line}") == *row), "{row}");
+    }
+}
+
+#[test]
+fn a_hundred_kilobytes_of_leftovers() {
+    let file = [GOOD, &[b'x'; 100_000]].concat();
+    let here = Folder::new("leftovers").with("file", &file);
+    assert_eq!(
+        shown(&here, "file", "bytes follow the file's last arrow (11), at offset 18"),
+        [
+            "  00000000  01 07 61 62 62 62 61 61  62 04 00 00 01 03 01 01  |..abbbaab.......|",
+            "  00000010  01 00 78 78 78 78 78 78  78 78 78 78 78 78 78 78  |..xxxxxxxxxxxxxx|",
+            "                  ^^",
+        ]
+    );
+    judged_as_the_whole(here, &file);
+    // behind the file of a word of the most letters
+    let file = Mark::new(&garbage()[..LONGEST_WORD]).unwrap().to_file();
+    judged_as_the_whole(Folder::new("leftovers-of-longest"), &[file, garbage()].concat());
+}
+
+#[test]
+fn a_hundred_kilobytes_of_garbage() {
+    let here = Folder::new("garbage").with("file", garbage());
+    assert_eq!(shown(&here, "file", "the file is of another edition than 1 (7), at offset 0").len(), 2);
+    judged_as_the_whole(here, &garbage());
+    // from each field of a good file on
+    let file = Mark::new(&garbage()[..LONGEST_WORD]).unwrap().to_file();
+    for kept in [1, 3, 3 + LONGEST_WORD, 5 + LONGEST_WORD, file.len() - 3] {
+        judged_as_the_whole(Folder::new(&format!("garbage-from-{kept}")), &[&file[..kept], &garbage()].concat());
+    }
+}
