@@ -2,4 +2,6 @@ pub mod Shown
 pub mod Inside
 pub mod Through
 pub mod Spelled
+pub mod GoingOn
+pub mod BadBytes
 pub mod Theorems

@@ -25,7 +25,7 @@ arrowsOf w = spellNumber (length (ownSteps w)) ++ spellSteps (ownSteps w)
 
 -- ── The numbers are small enough to be spelled ─────────────────────────────
 
-abbrev Small : Step → Type 0
+abbrev pub Small : Step → Type 0
 Small t = (t .up ≤ greatest) × (t .over ≤ greatest)
 
 steps-small : (x : State) (l : List Extra) → ((a : Extra) → List·Memᴰ a l → (a .source ≤ greatest) × (a .to ≤ greatest))
@@ -37,7 +37,7 @@ steps-small x (a ∷ l) small t (List·Memᴰ·head e) =
 steps-small x (a ∷ l) small t (List·Memᴰ·tail m) = steps-small (a .source) l (λ b k. small b (List·Memᴰ·tail k)) t m
 
 module _ (w : Word) (most : length w ≤ longestWord) where
-  own-small : (t : Step) → List·Memᴰ t (ownSteps w) → Small t
+  pub own-small : (t : Step) → List·Memᴰ t (ownSteps w) → Small t
   unfolding ownSteps
   own-small = steps-small 0 (fileArrows w) (λ a m. let r = file-arrow-climbs w m in
       (omega (arith, words-fit, r .climbs, r .inside), omega (arith, words-fit, r .inside)))

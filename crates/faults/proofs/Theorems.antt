@@ -1,21 +1,16 @@
 -- THE THEOREMS on where a file is broken: before the place that is told it is right, and with the field at fault it is no longer. The bytes up
 -- to a field are known (`through-arrows` and its neighbours), and so is what a word's file that begins with them goes on with.
 use mathlib.Core.Path.{_≡_, refl, sym, ap, _∙_}
-use mathlib.Core.Logic.{_⊎_, inl, inr, _↔_}
+use mathlib.Core.Logic.{inl, inr, _↔_}
 use mathlib.Core.List.{List, [], _∷_, _++_, append-assoc, append-nil}
 use Prim.Native.Nat.{ℕ, suc, _+_, _-_, _≤_, _<_}
-use native.Mathlib.Decide.{decLt}
 use native.Mathlib.Omega.{arith}
-use lib.ListN.{length, take, drop, length-append, List·getD-eq-default}
-use lib.Seq.{take-take}
-use Rattle.words.specs.Lists.{at}
-use Rattle.words.specs.Words.{Word, Place, part}
+use lib.ListN.{length, drop, length-append}
+use Rattle.words.specs.Words.{Word, Place}
 use Rattle.words.specs.Limits.{leastSaved, longestWord}
-use Rattle.words.proofs.Words.{part-length, part-at}
-use Rattle.words.proofs.Lists.{same-behind}
-use Rattle.number.specs.Number.{Bytes, greatest, spellNumber}
+use Rattle.number.specs.Number.{Bytes, spellNumber}
 use Rattle.number.proofs.Theorems.{spelling-length}
-use Rattle.saved.specs.File.{edition, Step, spellSteps, ownSteps, body, spell, Savable, Saved}
+use Rattle.saved.specs.File.{edition, Step, spellSteps, ownSteps, body, spell}
 use Rattle.saved.proofs.Slots.{own-few}
 use Rattle.saved.proofs.Theorems.{least-reached}
 use Rattle.loaded.specs.Cases.{Reads, BadLength}
@@ -23,84 +18,13 @@ use Rattle.faults.specs.Faults.{LengthAt, CountAt, ArrowsAt}
 use Rattle.faults.specs.Faults.{FaultAt, number-cut, letters-cut, byte-refused, other-edition, bad-length, bad-count, other-arrow}
 use Rattle.faults.specs.Faults.{no-arrow-left, arrows-missing, bytes-left}
 use Rattle.faults.specs.Beginnings.{Begins, Declares}
-use Rattle.faults.proofs.Through.{Through, headOf, steps-append, start, on, small, through-edition, through-letters}
-use Rattle.faults.proofs.Through.{ReadBefore, through-arrows, begins, begins-with}
-use Rattle.faults.proofs.Spelled.{arrowsOf, edition-begins, length-begins, head-begins, head-of, arrows-begin, arrow-begins}
-
--- fewer bytes of a file begin it too
-begins-before : {s : List ℕ} (p q : Place) → p ≤ q → Begins s q → Begins s p
-begins-before {s} p q h B = record {
-  file = B .file;
-  saved = B .saved;
-  inside = omega (arith, B .inside);
-  same = sym (take-take p q s h) ∙ ap (take p) (B .same) ∙ take-take p q (B .file) h;
-}
+use Rattle.faults.proofs.Through.{Through, headOf, start, on, small, through-edition, through-letters, through-arrows}
+use Rattle.faults.proofs.Through.{begins, begins-with}
+use Rattle.faults.proofs.Spelled.{arrowsOf, edition-begins, length-begins, head-of, arrows-begin, arrow-begins}
+use Rattle.faults.proofs.GoingOn.{its, its-most, its-file, shown-saved, counted, bytes-read, goes-on, begins-so}
+use Rattle.faults.proofs.BadBytes.{byte-wrong}
 
 module _ (s : List ℕ) (bytes : Bytes s) where
-  -- ── The word that the file shows ─────────────────────────────────────────
-
-  shown-bytes : {w : Word} {p : Place} → CountAt s w p → Bytes w
-  shown-bytes {w} C j = by (decLt j (length w))
-    where
-      i : Place
-      i = C .letters-place
-
-      by : Dec (j < length w) → at w j < 256
-      by (yes h) = let e : at w j ≡ at s (i + j) = ap (λ (v : Word). at v j) (C .letters) ∙ part-at s i (length w) j h in rw e (bytes (i + j))
-      by (no h) = rw (List·getD-eq-default w 0 {n = j} (omega arith)) (omega arith)
-
-  shown-savable : {w : Word} {p : Place} → CountAt s w p → Savable w
-  shown-savable C = record { bytes = shown-bytes C; least = C .least; most = C .most }
-
-  shown-saved : {w : Word} {p : Place} → CountAt s w p → Saved (spell w)
-  shown-saved {w} C = record { word = w; savable = shown-savable C; file = refl }
-
-  -- ── A word's file that begins so ─────────────────────────────────────────
-
-  -- what a file that begins with x goes on with
-  module _ {p : Place} {x : List ℕ} (t : Through s p x) (B : Begins s p) where
-    abbrev its : Word
-    its = B .saved .word
-
-    its-most : length its ≤ longestWord
-    its-most = B .saved .savable .most
-
-    its-file : spell its ≡ x ++ drop p (B .file)
-    its-file = sym (B .saved .file) ∙ begins-with t B
-
-  module _ {w : Word} {d : ℕ} {l : List Step} {i : Place} (A : ArrowsAt s w d l i) where
-    abbrev read : ReadBefore s bytes w d l i
-    read = through-arrows s bytes A
-
-    counted : CountAt s w (read .declared .place)
-    counted = read .declared .count-at
-
-    count-small : read .n ≤ greatest
-    count-small = small s bytes (read .declared .place) (read .declared .count-read)
-
-    abbrev bytes-read : List ℕ
-    bytes-read = (headOf w ++ spellNumber (read .n)) ++ spellSteps (read .r)
-
-    -- a file that begins with the arrows that were read, and y, is the word's, which has as many as are declared, and l are y
-    goes-on : (v : Word) → length v ≤ longestWord → (y : List ℕ) → spell v ≡ bytes-read ++ y
-        → (v ≡ w) × (read .n ≡ length (ownSteps w)) × (spellSteps l ≡ y)
-    goes-on v most y e = arrows-begin v most w (read .n) (read .r) l (counted .most) count-small (read .own) y e
-
-    -- and the word's file does begin so, if as many are declared as it has
-    begins-so : read .n ≡ length (ownSteps w) → spell w ≡ bytes-read ++ spellSteps l
-    begins-so e =
-        let N = spellNumber (read .n) in
-        let steps : spellSteps (ownSteps w) ≡ spellSteps (read .r) ++ spellSteps l =
-        ap spellSteps (read .own)
-        ∙ steps-append (read .r) l in
-        let arrows : arrowsOf w ≡ N ++ (spellSteps (read .r) ++ spellSteps l) =
-        ap (λ (k : ℕ). spellNumber k ++ spellSteps (ownSteps w)) (sym e)
-        ∙ ap (λ y. N ++ y) steps in
-        head-of w (counted .most)
-        ∙ ap (λ y. headOf w ++ y) arrows
-        ∙ sym (append-assoc (headOf w) N (spellSteps (read .r) ++ spellSteps l))
-        ∙ sym (append-assoc (headOf w ++ N) (spellSteps (read .r)) (spellSteps l))
-
   -- ── 1. Before the place that is told ─────────────────────────────────────
 
   any-begins : Begins s 0
@@ -114,7 +38,7 @@ module _ (s : List ℕ) (bytes : Bytes s) where
 
   -- up to the number of arrows the file is its word's
   pub letters-right : {w : Word} {p : Place} → CountAt s w p → Begins s p
-  letters-right {w} C = begins (through-letters s bytes C) (arrowsOf w) (shown-saved C) (head-of w (C .most))
+  letters-right {w} C = begins (through-letters s bytes C) (arrowsOf w) (shown-saved s bytes C) (head-of w (C .most))
 
   -- of the arrows, exactly if as many are declared as the word has
   arrows-right : {w : Word} {d : ℕ} {l : List Step} {p : Place} → ArrowsAt s w d l p
@@ -125,8 +49,8 @@ module _ (s : List ℕ) (bytes : Bytes s) where
         R .n,
         R .declared,
         (
-          λ B. goes-on A (its (R .through) B) (its-most (R .through) B) (drop p (B .file)) (its-file (R .through) B) .1,
-          λ e. begins (R .through) (spellSteps l) (shown-saved (counted A)) (begins-so A e),
+          λ B. goes-on s bytes A (its B) (its-most B) (drop p (B .file)) (its-file B p (R .through) (omega arith)) .1,
+          λ e. begins (R .through) (spellSteps l) (shown-saved s bytes (counted s bytes A)) (begins-so s bytes A e),
         ),
       )
 
@@ -135,7 +59,7 @@ module _ (s : List ℕ) (bytes : Bytes s) where
   all-read-right {w} A =
       let R = through-arrows s bytes A in
       let all : R .n ≡ length (ownSteps w) = omega (arith, R .count, ap {B = ℕ} length (R .own), length-append (R .r) []) in
-      begins (R .through) (spellSteps []) (shown-saved (counted A)) (begins-so A all)
+      begins (R .through) (spellSteps []) (shown-saved s bytes (counted s bytes A)) (begins-so s bytes A all)
 
   -- the bytes before a refusal with 7, 8, 9 or 11 are those of some word's file
   pub right-before : {r : ℕ} {p q : Place} → FaultAt s r p q → (r ≡ 5 → ⊥) → (r ≡ 6 → ⊥) → (r ≡ 10 → ⊥) → Begins s p
@@ -169,18 +93,18 @@ module _ (s : List ℕ) (bytes : Bytes s) where
   edition-wrong : {e : ℕ} {q : Place} → Reads s 0 e q → (e ≡ edition → ⊥) → Begins s q → ⊥
   edition-wrong {e} {q} h d B =
       let t : Through s q (spellNumber e) = on s bytes (start s bytes) h in
-      d (sym (edition-begins (its t B) (its-most t B) e (drop q (B .file)) (small s bytes 0 h) (its-file t B) .0))
+      d (sym (edition-begins (its B) (its-most B) e (drop q (B .file)) (small s bytes 0 h) (its-file B q t (omega arith)) .0))
 
   length-wrong : {p : Place} {m : ℕ} {q : Place} → LengthAt s p → Reads s p m q → BadLength m → Begins s q → ⊥
   length-wrong {p} {m} {q} h g d B =
       let t = on s bytes (through-edition s bytes h) g in
-      let w = its t B in
+      let w = its B in
       let y = drop q (B .file) in
       let E = spellNumber edition in
       let M = spellNumber m in
-      let first = edition-begins w (its-most t B) edition (M ++ y) (small s bytes 0 h) (its-file t B ∙ append-assoc E M y) in
-      let same : length w ≡ m = length-begins w (its-most t B) m y (small s bytes p g) (first .1) .0 in
-      clash (rw same at (B .saved .savable .least)) (rw same at (its-most t B)) d
+      let first = edition-begins w (its-most B) edition (M ++ y) (small s bytes 0 h) (its-file B q t (omega arith) ∙ append-assoc E M y) in
+      let same : length w ≡ m = length-begins w (its-most B) m y (small s bytes p g) (first .1) .0 in
+      clash (rw same at (B .saved .savable .least)) (rw same at (its-most B)) d
     where
       clash : leastSaved ≤ m → m ≤ longestWord → BadLength m → ⊥
       clash a b (inl c) = omega arith
@@ -190,11 +114,11 @@ module _ (s : List ℕ) (bytes : Bytes s) where
   unfolding spellSteps
   count-wrong {w} {p} {n} {q} C h d B =
       let t = on s bytes (through-letters s bytes C) h in
-      let v = its t B in
+      let v = its B in
       let y = drop q (B .file) in
       let N = spellNumber n in
-      let begun : spell v ≡ ((headOf w ++ N) ++ []) ++ y = its-file t B ∙ ap (λ x. x ++ y) (sym (append-nil (headOf w ++ N))) in
-      let same = arrows-begin v (its-most t B) w n [] (ownSteps w) (C .most) (small s bytes p h) refl y begun .1 in
+      let begun : spell v ≡ ((headOf w ++ N) ++ []) ++ y = its-file B q t (omega arith) ∙ ap (λ x. x ++ y) (sym (append-nil (headOf w ++ N))) in
+      let same = arrows-begin v (its-most B) w n [] (ownSteps w) (C .most) (small s bytes p h) refl y begun .1 in
       omega (arith, same, own-few w)
 
   -- two numbers behind the arrows that were read would be the word's next
@@ -203,19 +127,19 @@ module _ (s : List ℕ) (bytes : Bytes s) where
   arrow-next {p = p} {a = a} {j = j} {b = b} {q = q} A h g B =
       let R = through-arrows s bytes A in
       let t = on s bytes (on s bytes (R .through) h) g in
-      let x = bytes-read A in
+      let x = bytes-read s bytes A in
       let y = drop q (B .file) in
       let split : ((x ++ spellNumber a) ++ spellNumber b) ++ y ≡ x ++ (spellNumber a ++ (spellNumber b ++ y)) =
       append-assoc (x ++ spellNumber a) (spellNumber b) y
       ∙ append-assoc x (spellNumber a) (spellNumber b ++ y) in
-      goes-on A (its t B) (its-most t B) (spellNumber a ++ (spellNumber b ++ y)) (its-file t B ∙ split) .2
+      goes-on s bytes A (its B) (its-most B) (spellNumber a ++ (spellNumber b ++ y)) (its-file B q t (omega arith) ∙ split) .2
 
   arrow-wrong : {w : Word} {d : ℕ} {t : Step} {l : List Step} {p : Place} {a : ℕ} {j : Place} {b : ℕ} {q : Place}
       → ArrowsAt s w (suc d) (t ∷ l) p → Reads s p a j → Reads s j b q → (a ≡ t .up → b ≡ t .over → ⊥) → Begins s q → ⊥
   arrow-wrong {w} {t = t} {l = l} {p = p} {a = a} {j = j} {b = b} {q = q} A h g d B =
       let R = through-arrows s bytes A in
       let y = drop q (B .file) in
-      let same = arrow-begins w (counted A .most) (R .r) t l (R .own) a b y (small s bytes p h) (small s bytes j g) (arrow-next A h g B) in
+      let same = arrow-begins w (counted s bytes A .most) (R .r) t l (R .own) a b y (small s bytes p h) (small s bytes j g) (arrow-next A h g B) in
       d (same .0) (same .1)
 
   none-left-wrong : {w : Word} {d : ℕ} {p : Place} {a : ℕ} {j : Place} {b : ℕ} {q : Place}
@@ -228,29 +152,27 @@ module _ (s : List ℕ) (bytes : Bytes s) where
   missing-wrong : {w : Word} {t : Step} {l : List Step} {p : Place} → ArrowsAt s w 0 (t ∷ l) p → Begins s p → ⊥
   missing-wrong {w} {t} {l} {p} A B =
       let R = through-arrows s bytes A in
-      let same = goes-on A (its (R .through) B) (its-most (R .through) B) (drop p (B .file)) (its-file (R .through) B) .1 in
+      let same = goes-on s bytes A (its B) (its-most B) (drop p (B .file)) (its-file B p (R .through) (omega arith)) .1 in
       omega (arith, same, R .count, ap {B = ℕ} length (R .own), length-append (R .r) (t ∷ l))
 
   left-wrong : {w : Word} {p : Place} → ArrowsAt s w 0 [] p → Begins s (p + 1) → ⊥
-  unfolding spellSteps begins-before
-  left-wrong {w} {p} A more =
-      let R = through-arrows s bytes A in
-      let B = begins-before p (p + 1) (omega arith) more in
-      let t = R .through in
-      let none = goes-on A (its t B) (its-most t B) (drop p (B .file)) (its-file t B) .2 in
-      let size = ap {B = ℕ} length (begins-with t B) in
-      let parts = length-append (bytes-read A) (drop p (B .file)) in
-      omega (arith, more .inside, size, parts, ap {B = ℕ} length none, t .size)
+  unfolding spellSteps
+  left-wrong {w} {p} A B =
+      let t = through-arrows s bytes A .through in
+      let y = drop p (B .file) in
+      let none = goes-on s bytes A (its B) (its-most B) y (its-file B p t (omega arith)) .2 in
+      let size = ap {B = ℕ} length (begins-with t (omega arith) B) in
+      omega (arith, B .inside, size, length-append (bytes-read s bytes A) y, ap {B = ℕ} length none, t .size)
 
-  -- no word's file begins with the bytes up to the end of a field that is refused with 7 to 11
-  pub wrong-behind : {r : ℕ} {p q : Place} → FaultAt s r p q → (r ≡ 5 → ⊥) → (r ≡ 6 → ⊥) → Begins s q → ⊥
-  wrong-behind (number-cut N c) five six = absurd (five refl)
-  wrong-behind (letters-cut h g d) five six = absurd (five refl)
-  wrong-behind (byte-refused N b) five six = absurd (six refl)
-  wrong-behind (other-edition h d) five six = edition-wrong h d
-  wrong-behind (bad-length h g d) five six = length-wrong h g d
-  wrong-behind (bad-count C h d) five six = count-wrong C h d
-  wrong-behind (other-arrow A h g d) five six = arrow-wrong A h g d
-  wrong-behind (no-arrow-left A h g) five six = none-left-wrong A h g
-  wrong-behind (arrows-missing A) five six = missing-wrong A
-  wrong-behind (bytes-left A h) five six = left-wrong A
+  -- no word's file begins with the bytes up to the end of what is refused with 6 to 11
+  pub wrong-behind : {r : ℕ} {p q : Place} → FaultAt s r p q → (r ≡ 5 → ⊥) → Begins s q → ⊥
+  wrong-behind (number-cut N c) five = absurd (five refl)
+  wrong-behind (letters-cut h g d) five = absurd (five refl)
+  wrong-behind (byte-refused N b) five = λ B. byte-wrong s bytes b B N
+  wrong-behind (other-edition h d) five = edition-wrong h d
+  wrong-behind (bad-length h g d) five = length-wrong h g d
+  wrong-behind (bad-count C h d) five = count-wrong C h d
+  wrong-behind (other-arrow A h g d) five = arrow-wrong A h g d
+  wrong-behind (no-arrow-left A h g) five = none-left-wrong A h g
+  wrong-behind (arrows-missing A) five = missing-wrong A
+  wrong-behind (bytes-left A h) five = left-wrong A

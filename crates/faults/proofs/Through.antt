@@ -5,7 +5,7 @@ use mathlib.Core.List.{List, [], _∷_, _++_, append-assoc, append-nil}
 use Prim.Native.Nat.{ℕ, suc, _+_, _≤_}
 use native.Mathlib.Omega.{arith}
 use lib.ListN.{length, take, drop, take-append-drop, length-append}
-use lib.Seq.{take-at, drop-drop}
+use lib.Seq.{take-at, take-take, drop-drop}
 use Rattle.words.specs.Words.{Word, Place, part}
 use Rattle.words.proofs.Words.{part-length}
 use Rattle.number.specs.Number.{Bytes, greatest, spellNumber}
@@ -128,6 +128,8 @@ module _ {s : List ℕ} {p : Place} {x : List ℕ} (t : Through s p x) where
     same = these ∙ sym (ap (take p) e ∙ take-at x y p (sym (t .size)));
   }
 
-  -- and the other way round
-  pub begins-with : (B : Begins s p) → B .file ≡ x ++ drop p (B .file)
-  begins-with B = sym (take-append-drop p (B .file)) ∙ ap (λ y. y ++ drop p (B .file)) (sym (B .same) ∙ these)
+  -- and the other way round, of one that begins with as many bytes or more
+  pub begins-with : {q : Place} → p ≤ q → (B : Begins s q) → B .file ≡ x ++ drop p (B .file)
+  begins-with {q} h B =
+      let same : x ≡ take p (B .file) = sym these ∙ sym (take-take p q s h) ∙ ap (take p) (B .same) ∙ take-take p q (B .file) h in
+      sym (take-append-drop p (B .file)) ∙ ap (λ y. y ++ drop p (B .file)) (sym same)
