@@ -132,15 +132,10 @@ module _ (file : List ℕ) (text : Word) (R T : List ℕ) (F : List Place) where
         → (w : Word) × (n : ℕ) × Declares file w n × (Begins file p ↔ (n ≡ length (ownSteps w)))
     arrow-right-before bytes = Theorems.arrow-right-before file bytes (offset-of refused .1)
 
-    -- and with the field at fault, up to its end q, they are those of none: there the file stops being right
-    pub wrong-behind : Bytes file → oneOf r (7 ∷ 8 ∷ 9 ∷ 10 ∷ 11 ∷ []) ≡ true → (q : Place) × FaultAt file r p q × (Begins file q → ⊥)
-    unfolding oneOf
-    wrong-behind bytes one =
-        let f = offset-of refused in
-        let wrong = Theorems.wrong-behind file bytes (f .1)
-        (other-than 5 (7 ∷ 8 ∷ 9 ∷ 10 ∷ 11 ∷ []) refl one)
-        (other-than 6 (7 ∷ 8 ∷ 9 ∷ 10 ∷ 11 ∷ []) refl one) in
-        (f .0, f .1, wrong)
+    -- and with what is at fault, up to its end q, the bytes are those of none, whatever follows: the file has stopped being right. Of 5 that
+    -- cannot be said, as a file that is cut is the beginning of one
+    pub wrong-behind : Bytes file → (r ≡ 5 → ⊥) → (q : Place) × FaultAt file r p q × (Begins file q → ⊥)
+    wrong-behind bytes other = let f = offset-of refused in (f .0, f .1, Theorems.wrong-behind file bytes (f .1) other)
 
   -- whatever number of arrows is declared, up to it the bytes are those of the word's file
   pub right-up-to-the-count : Bytes file → {w : Word} {n : ℕ} → (d : Declares file w n) → Begins file (d .place)
@@ -154,7 +149,7 @@ no-arrows-of-ab = 1 ∷ 2 ∷ 97 ∷ 98 ∷ 0 ∷ []
 pub wrong-before : FaultAt no-arrows-of-ab 10 5 5 × (Begins no-arrows-of-ab 5 → ⊥)
 unfolding from only first target walk spine far mend missing extrasAfter extraArrows suffixRule leadsTo extraTargets extrasBefore fileArrows
     refuses see seeNumber numberAt edition stepsFrom ownSteps leastSaved longestWord
-wrong-before = (fault, Theorems.wrong-behind no-arrows-of-ab bytes fault (λ e. omega arith) (λ e. omega arith))
+wrong-before = (fault, Theorems.wrong-behind no-arrows-of-ab bytes fault (λ e. omega arith))
   where
     counted : CountAt no-arrows-of-ab (97 ∷ 98 ∷ []) 4
     counted = record {
