@@ -73,8 +73,8 @@ module _ (file : List ℕ) (text : Word) (R T : List ℕ) (F : List Place) where
   pub same-offset : {r : ℕ} {p : Place} → searchFileSays file text R T F .answer ≡ refusedAt r p → loadSays file R T .answer ≡ refusedAt r p
   same-offset = search-load file text R T F
 
-  -- ── 'of the faulty field's first byte (an arrow's two numbers are one field), or of that byte for 5 and 6; for 10 with missing arrows and
-  --    for 11 it's the first byte after the arrows.' ──
+  -- ── 'of the faulty field's first byte (an arrow's two numbers are one field), or of that byte for 5 and 6; for 10 with missing arrows
+  --    and for 11 it's the first byte after the arrows.' ──
 
   -- a constructor of `FaultAt` for each of these; q is where the field at fault ends
   pub offset-of : {r : ℕ} {p : Place} → loadSays file R T .answer ≡ refusedAt r p → (q : Place) × FaultAt file r p q
@@ -87,8 +87,8 @@ module _ (file : List ℕ) (text : Word) (R T : List ℕ) (F : List Place) where
 
   -- ── 'Numbers and their order stay.' ──────────────────────────────────────
 
-  -- Which number a file shows is said by crates/loaded/specs, where nothing moved; the order is that of the constructors of `LoadCase`, as it
-  -- was. As before, any two files that declare a bad number in the same field have one outcome, and its offset is one too.
+  -- Which number a file shows is said by crates/loaded/specs, where nothing moved; the order is that of the constructors of `LoadCase`, as
+  -- it was. As before, any two files that declare a bad number in the same field have one outcome, and its offset is one too.
   module _ (file′ : List ℕ) {i m j i′ m′ j′ : ℕ}
       (edition-read : Reads file 0 edition i) (length-read : Reads file i m j) (bad : BadLength m)
       (edition-read′ : Reads file′ 0 edition i′) (length-read′ : Reads file′ i′ m′ j′) (bad′ : BadLength m′) where
@@ -132,8 +132,8 @@ module _ (file : List ℕ) (text : Word) (R T : List ℕ) (F : List Place) where
         → (w : Word) × (n : ℕ) × Declares file w n × (Begins file p ↔ (n ≡ length (ownSteps w)))
     arrow-right-before bytes = Theorems.arrow-right-before file bytes (offset-of refused .1)
 
-    -- and with what is at fault, up to its end q, the bytes are those of none, whatever follows: the file has stopped being right. Of 5 that
-    -- cannot be said, as a file that is cut is the beginning of one
+    -- and with what is at fault, up to its end q, the bytes are those of none, whatever follows: the file has stopped being right. Of 5
+    -- that cannot be said, as a file that is cut is the beginning of one
     pub wrong-behind : Bytes file → (r ≡ 5 → ⊥) → (q : Place) × FaultAt file r p q × (Begins file q → ⊥)
     wrong-behind bytes other = let f = offset-of refused in (f .0, f .1, Theorems.wrong-behind file bytes (f .1) other)
 
@@ -141,8 +141,8 @@ module _ (file : List ℕ) (text : Word) (R T : List ℕ) (F : List Place) where
   pub right-up-to-the-count : Bytes file → {w : Word} {n : ℕ} → (d : Declares file w n) → Begins file (d .place)
   right-up-to-the-count bytes d = Theorems.letters-right file bytes (d .count-at)
 
--- An example of 10 whose bytes before the offset begin no file: 01 02 61 62 00 is refused at 5, behind a count that is wrong though no other
--- field is, for the file of ab is 01 02 61 62 01 00 00.
+-- An example of 10 whose bytes before the offset begin no file: 01 02 61 62 00 is refused at 5, behind a count that no check refuses and
+-- that is not the word's, for the file of ab is 01 02 61 62 01 00 00.
 abbrev no-arrows-of-ab : List ℕ
 no-arrows-of-ab = 1 ∷ 2 ∷ 97 ∷ 98 ∷ 0 ∷ []
 

@@ -31,5 +31,6 @@ unfolding from only first same stands occurrences longestWord longestText longes
     readDown afterFind windows steps backward
     groups spellNumber refuses see seeNumber numberAt edition stepsFrom spellSteps ownSteps body spell
     frontWithin twoAt arrowsAt ending verdict loadWithin
-    is isNone walked empty has gives isRefused isRefusedAt loadInRooms leaves shows isDoneWith takenInTurn holds allHold word digit bytes table
+    is isNone walked empty has gives isRefused isRefusedAt loadInRooms leaves shows isDoneWith takenInTurn
+    holds allHold word digit bytes table
 examples-hold = tt

@@ -1,5 +1,5 @@
--- WHAT A WORD'S FILE GOES ON WITH, where it begins with the bytes of the file s up to a field: with the word's own next field. The word that s
--- shows is one of bytes within the limits, so it has a file, which begins so.
+-- WHAT A WORD'S FILE GOES ON WITH, where it begins with the bytes of the file s up to a field: with the word's own next field. The word
+-- that s shows is one of bytes within the limits, so it has a file, which begins so.
 use mathlib.Core.Path.{_≡_, refl, sym, ap, _∙_}
 use mathlib.Core.List.{List, _++_, append-assoc}
 use Prim.Native.Nat.{ℕ, _+_, _≤_, _<_}
@@ -38,7 +38,9 @@ module _ (s : List ℕ) (bytes : Bytes s) where
       i = C .letters-place
 
       by : Dec (j < length w) → at w j < 256
-      by (yes h) = let e : at w j ≡ at s (i + j) = ap (λ (v : Word). at v j) (C .letters) ∙ part-at s i (length w) j h in rw e (bytes (i + j))
+      by (yes h) =
+          let e : at w j ≡ at s (i + j) = ap (λ (v : Word). at v j) (C .letters) ∙ part-at s i (length w) j h in
+          rw e (bytes (i + j))
       by (no h) = rw (List·getD-eq-default w 0 {n = j} (omega arith)) (omega arith)
 
   shown-savable : {w : Word} {p : Place} → CountAt s w p → Savable w

@@ -22,7 +22,8 @@ use Rattle.mark_files.specs.SearchFile.{searchFileSays}
 use Rattle.mark_files.specs.Cases.{LoadCase, SearchFileCase}
 use Rattle.mark_files.proofs.LoadSays.{load-is, load-answers}
 use Rattle.mark_files.proofs.SearchFileSays.{search-file-is}
-use Rattle.faults.specs.Faults.{CountAt, ArrowsAt, none-read, one-read, NumberPlace, edition-at, length-at, count-at, first-at, second-at}
+use Rattle.faults.specs.Faults.{CountAt, ArrowsAt, none-read, one-read}
+use Rattle.faults.specs.Faults.{NumberPlace, edition-at, length-at, count-at, first-at, second-at}
 use Rattle.faults.specs.Faults.{FaultAt, number-cut, letters-cut, byte-refused, other-edition, bad-length, bad-count, other-arrow}
 use Rattle.faults.specs.Faults.{no-arrow-left, arrows-missing, bytes-left}
 

@@ -1,5 +1,5 @@
--- THE THEOREMS on where a file is broken: before the place that is told it is right, and with the field at fault it is no longer. The bytes up
--- to a field are known (`through-arrows` and its neighbours), and so is what a word's file that begins with them goes on with.
+-- THE THEOREMS on where a file is broken: before the place that is told it is right, and with what is at fault it is no longer. The bytes
+-- up to a field are known (`through-arrows` and its neighbours), and so is what a word's file that begins with them goes on with.
 use mathlib.Core.Path.{_≡_, refl, sym, ap, _∙_}
 use mathlib.Core.Logic.{inl, inr, _↔_}
 use mathlib.Core.List.{List, [], _∷_, _++_, append-assoc, append-nil}
@@ -117,7 +117,9 @@ module _ (s : List ℕ) (bytes : Bytes s) where
       let v = its B in
       let y = drop q (B .file) in
       let N = spellNumber n in
-      let begun : spell v ≡ ((headOf w ++ N) ++ []) ++ y = its-file B q t (omega arith) ∙ ap (λ x. x ++ y) (sym (append-nil (headOf w ++ N))) in
+      let begun : spell v ≡ ((headOf w ++ N) ++ []) ++ y =
+      its-file B q t (omega arith)
+      ∙ ap (λ x. x ++ y) (sym (append-nil (headOf w ++ N))) in
       let same = arrows-begin v (its-most B) w n [] (ownSteps w) (C .most) (small s bytes p h) refl y begun .1 in
       omega (arith, same, own-few w)
 
@@ -139,7 +141,8 @@ module _ (s : List ℕ) (bytes : Bytes s) where
   arrow-wrong {w} {t = t} {l = l} {p = p} {a = a} {j = j} {b = b} {q = q} A h g d B =
       let R = through-arrows s bytes A in
       let y = drop q (B .file) in
-      let same = arrow-begins w (counted s bytes A .most) (R .r) t l (R .own) a b y (small s bytes p h) (small s bytes j g) (arrow-next A h g B) in
+      let next = arrow-next A h g B in
+      let same = arrow-begins w (counted s bytes A .most) (R .r) t l (R .own) a b y (small s bytes p h) (small s bytes j g) next in
       d (same .0) (same .1)
 
   none-left-wrong : {w : Word} {d : ℕ} {p : Place} {a : ℕ} {j : Place} {b : ℕ} {q : Place}

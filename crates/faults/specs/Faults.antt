@@ -1,9 +1,10 @@
--- WHERE A FILE IS BROKEN: the place of each fault as 02 words it, and where the field at fault ends. A field is found by reading those before
--- it, and is at fault by its own numbers; no room is asked for.
+-- WHERE A FILE IS BROKEN: the place of each fault as 02 words it, and where the field at fault ends. A field is found by reading those
+-- before it, and is at fault by its own numbers; no room is asked for.
 --
 --   LengthAt s p        the number of letters is the field that starts at p
 --   CountAt s w p       the file shows the word w, and the number of its arrows is the field that starts at p
---   ArrowsAt s w d l p  d of the declared arrows are to be read from p on; those before p are the word's own, and l are its own that are left
+--   ArrowsAt s w d l p  d of the declared arrows are to be read from p on; those before p are the word's own, and l are its own that are
+--                       left
 --   NumberPlace s p     a number is to be read at p
 --   FaultAt s r p q     the file is refused with r: the fault shows at p, and the field at fault ends before q
 --

@@ -1,5 +1,5 @@
--- A refusal of the code, told to C: its number is the result and no answer is given, whether or not it has a place; an offset is given where
--- it has.
+-- A refusal of the code, told to C: its number is the result and no answer is given, whether or not it has a place; an offset is given
+-- where it has.
 use mathlib.Core.Path.{_≡_, refl, _∙_}
 use Prim.Native.Nat.{ℕ}
 use Rattle.words.specs.Words.{Place}
