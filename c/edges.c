@@ -14,35 +14,47 @@
 enum { THREADS = 8, MOST = 64 * 1024, GUARD = MOST, PAINT = 0xa5, TEXT = 65536 };
 
 static uint16_t tables[MARKS_TABLES(1)];
-static uint8_t room[1], out[4], searcher[MARKS_SEARCHER];
+static uint8_t room[1], out[4], searcher[MARKS_SEARCHER], long_text[MARKS_LONGEST_TEXT + 1];
 static uint32_t finds[2];
-static uint64_t count, letters;
+static uint64_t count, letters, offset;
+static const uint64_t nowhere = UINT64_MAX;
+
+/* what was said, and at which offset where one was written; the answers of a search */
+static void print_said(const char *what, uint32_t said)
+{
+    printf("%s: %" PRIu32, what, said);
+    if (offset != nowhere)
+        printf(" at %" PRIu64, offset);
+    if (said == MARKS_OK)
+        printf(", %" PRIu64 " places, %" PRIu64 " letters", count, letters);
+    printf("\n");
+    offset = nowhere;
+}
 
 static void null_buffers(void)
 {
     const uint8_t *a = (const uint8_t *)"a", *aa = (const uint8_t *)"aa", *file = (const uint8_t *)"\1\1a";
     uint64_t n;
-    printf("build, no word: %" PRIu32 "\n", marks_build(NULL, 0, tables, 12, &n));
-    printf("build, no tables: %" PRIu32 "\n", marks_build(a, 1, NULL, 0, &n));
-    printf("save, no word: %" PRIu32 "\n", marks_save(NULL, 0, tables, 12, out, 4, &n));
-    printf("save, no tables: %" PRIu32 "\n", marks_save(a, 1, NULL, 0, out, 4, &n));
-    printf("save, no output: %" PRIu32 "\n", marks_save(a, 1, tables, 12, NULL, 0, &n));
-    printf("load, no file: %" PRIu32 "\n", marks_load(NULL, 0, room, 1, tables, 12, &n));
-    printf("load, no room: %" PRIu32 "\n", marks_load(file, 4, NULL, 0, tables, 12, &n));
-    printf("load, no tables: %" PRIu32 "\n", marks_load(file, 4, room, 1, NULL, 0, &n));
-    printf("search, no word: %" PRIu32 "\n", marks_search(NULL, 0, aa, 2, tables, 12, finds, 2, &count, &letters));
-    printf("search, no tables: %" PRIu32 "\n", marks_search(a, 1, aa, 2, NULL, 0, finds, 2, &count, &letters));
-    printf("search, no text: %" PRIu32, marks_search(a, 1, NULL, 0, tables, 12, finds, 2, &count, &letters));
-    printf(", %" PRIu64 " places, %" PRIu64 " letters\n", count, letters);
-    printf("search, no list: %" PRIu32, marks_search(a, 1, aa, 2, tables, 12, NULL, 0, &count, &letters));
-    printf(", %" PRIu64 " places, %" PRIu64 " letters\n", count, letters);
-    printf("with a file, no file: %" PRIu32 "\n", marks_search_file(NULL, 0, aa, 2, room, 1, tables, 12, finds, 2, &count, &letters));
-    printf("with a file, no room: %" PRIu32 "\n", marks_search_file(file, 4, aa, 2, NULL, 0, tables, 12, finds, 2, &count, &letters));
-    printf("with a file, no tables: %" PRIu32 "\n", marks_search_file(file, 4, aa, 2, room, 1, NULL, 0, finds, 2, &count, &letters));
-    printf("with a file, no text: %" PRIu32, marks_search_file(file, 4, NULL, 0, room, 1, tables, 12, finds, 2, &count, &letters));
-    printf(", %" PRIu64 " places, %" PRIu64 " letters\n", count, letters);
-    printf("with a file, no list: %" PRIu32, marks_search_file(file, 4, aa, 2, room, 1, tables, 12, NULL, 0, &count, &letters));
-    printf(", %" PRIu64 " places, %" PRIu64 " letters\n", count, letters);
+    offset = nowhere;
+    print_said("build, no word", marks_build(NULL, 0, tables, 12, &n));
+    print_said("build, no tables", marks_build(a, 1, NULL, 0, &n));
+    print_said("save, no word", marks_save(NULL, 0, tables, 12, out, 4, &n));
+    print_said("save, no tables", marks_save(a, 1, NULL, 0, out, 4, &n));
+    print_said("save, no output", marks_save(a, 1, tables, 12, NULL, 0, &n));
+    print_said("load, no file", marks_load(NULL, 0, room, 1, tables, 12, &n, &offset));
+    print_said("load, no room", marks_load(file, 4, NULL, 0, tables, 12, &n, &offset));
+    print_said("load, no tables", marks_load(file, 4, room, 1, NULL, 0, &n, &offset));
+    print_said("search, no word", marks_search(NULL, 0, aa, 2, tables, 12, finds, 2, &count, &letters));
+    print_said("search, no tables", marks_search(a, 1, aa, 2, NULL, 0, finds, 2, &count, &letters));
+    print_said("search, no text", marks_search(a, 1, NULL, 0, tables, 12, finds, 2, &count, &letters));
+    print_said("search, no list", marks_search(a, 1, aa, 2, tables, 12, NULL, 0, &count, &letters));
+    print_said("with a file, no file", marks_search_file(NULL, 0, aa, 2, room, 1, tables, 12, finds, 2, &count, &letters, &offset));
+    print_said("with a file, no room", marks_search_file(file, 4, aa, 2, NULL, 0, tables, 12, finds, 2, &count, &letters, &offset));
+    print_said("with a file, no tables", marks_search_file(file, 4, aa, 2, room, 1, NULL, 0, finds, 2, &count, &letters, &offset));
+    print_said("with a file, no text", marks_search_file(file, 4, NULL, 0, room, 1, tables, 12, finds, 2, &count, &letters, &offset));
+    print_said("with a file, no list", marks_search_file(file, 4, aa, 2, room, 1, tables, 12, NULL, 0, &count, &letters, &offset));
+    print_said("with a file, no file and too long a text",
+               marks_search_file(NULL, 0, long_text, sizeof long_text, room, 1, tables, 12, finds, 2, &count, &letters, &offset));
 }
 
 static void null_buffers_of_streams(void)
@@ -68,7 +80,7 @@ struct work {
     uint16_t tables[MARKS_MOST_TABLES];
     uint8_t searcher[MARKS_SEARCHER];
     uint32_t finds[2], file_finds[2], stream_finds[2], said;
-    uint64_t m, length, count, file_count, before_cut, stream_count, letters;
+    uint64_t m, length, count, file_count, before_cut, stream_count, letters, offset;
     size_t cut;
     uint8_t *stack;
 };
@@ -95,10 +107,10 @@ static void *deepest(void *mine)
     struct work *w = mine;
     w->said = marks_build(w->word, MARKS_LONGEST_WORD, w->tables, MARKS_MOST_TABLES, &w->m);
     w->said += marks_save(w->word, MARKS_LONGEST_WORD, w->tables, MARKS_MOST_TABLES, w->file, MARKS_MOST_FILE, &w->length);
-    w->said += marks_load(w->file, w->length, w->room, MARKS_LONGEST_WORD, w->tables, MARKS_MOST_TABLES, &w->m);
+    w->said += marks_load(w->file, w->length, w->room, MARKS_LONGEST_WORD, w->tables, MARKS_MOST_TABLES, &w->m, &w->offset);
     w->said += marks_search(w->mirror, MARKS_LONGEST_WORD, w->text, TEXT, w->tables, MARKS_MOST_TABLES, w->finds, 2, &w->count, &w->letters);
     w->said += marks_search_file(w->file, w->length, w->text, TEXT, w->room, MARKS_LONGEST_WORD, w->tables, MARKS_MOST_TABLES, w->file_finds, 2,
-                                 &w->file_count, &w->letters);
+                                 &w->file_count, &w->letters, &w->offset);
     w->said += marks_open(w->mirror, MARKS_LONGEST_STREAMED, w->searcher, MARKS_SEARCHER);
     w->said += marks_take(w->searcher, MARKS_SEARCHER, w->text, w->cut, w->stream_finds, 2, &w->before_cut);
     w->said += marks_take(w->searcher, MARKS_SEARCHER, w->text + w->cut, TEXT - w->cut, w->stream_finds, 2, &w->stream_count);

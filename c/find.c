@@ -1,5 +1,5 @@
-/* A program to start from: an index is built, saved, loaded and searched with, and a damaged file is refused. All room is the caller's own, and enough for
- * every word and every file. */
+/* A program to start from: an index is built, saved, loaded and searched with, and a damaged file is refused, with the byte where it is broken. All room
+ * is the caller's own, and enough for every word and every file. */
 #include <inttypes.h>
 #include <stdio.h>
 
@@ -10,6 +10,7 @@ enum { MARK = 7, LIST = 2 };
 static const uint8_t mark[] = "lap-lap";
 static const uint8_t text[] = "lap-lap-lap-lap 12:07 lap-lap";
 static const size_t text_len = sizeof text - 1;
+static const uint64_t nowhere = UINT64_MAX; /* an offset that no file has */
 
 struct rooms {
     uint8_t word[MARKS_LONGEST_WORD];
@@ -24,6 +25,15 @@ static int refused(const char *what, uint32_t said)
     return said != MARKS_OK;
 }
 
+/* The offset was nowhere before the call, and still is where nothing in the file is to blame: the text may be too long, or the rooms too short. */
+static int file_refused(const char *what, uint32_t said, const uint64_t *offset)
+{
+    int no = refused(what, said);
+    if (*offset != nowhere)
+        printf("%s: the file is broken at byte %" PRIu64 "\n", what, *offset);
+    return no;
+}
+
 static void print_finds(const struct rooms *rooms, uint64_t count, uint64_t letters)
 {
     printf("found: %" PRIu64 " places, %" PRIu64 " letters read; the first:", count, letters);
@@ -32,11 +42,11 @@ static void print_finds(const struct rooms *rooms, uint64_t count, uint64_t lett
     printf("\n");
 }
 
-static uint32_t search_with(const uint8_t *file, size_t length, struct rooms *rooms)
+static uint32_t search_with(const uint8_t *file, size_t length, struct rooms *rooms, uint64_t *offset)
 {
     uint64_t count, letters;
     uint32_t said = marks_search_file(file, length, text, text_len, rooms->word, MARKS_LONGEST_WORD, rooms->tables, MARKS_MOST_TABLES,
-                                      rooms->finds, LIST, &count, &letters);
+                                      rooms->finds, LIST, &count, &letters, offset);
     if (said == MARKS_OK)
         print_finds(rooms, count, letters);
     return said;
@@ -46,7 +56,7 @@ int main(void)
 {
     struct rooms rooms;
     uint8_t mirror[MARK], file[MARKS_MOST_FILE];
-    uint64_t m, length, count, letters;
+    uint64_t m, length, count, letters, offset = nowhere;
 
     if (refused("build", marks_build(mark, MARK, rooms.tables, MARKS_MOST_TABLES, &m)))
         return 1;
@@ -61,12 +71,12 @@ int main(void)
     if (refused("save", marks_save(mirror, MARK, rooms.tables, MARKS_MOST_TABLES, file, MARKS_MOST_FILE, &length)))
         return 1;
     printf("saved: %" PRIu64 " bytes\n", length);
-    if (refused("load", marks_load(file, length, rooms.word, MARKS_LONGEST_WORD, rooms.tables, MARKS_MOST_TABLES, &m)))
+    if (file_refused("load", marks_load(file, length, rooms.word, MARKS_LONGEST_WORD, rooms.tables, MARKS_MOST_TABLES, &m, &offset), &offset))
         return 1;
     printf("loaded: %.*s\n", (int)m, (const char *)rooms.word);
-    if (refused("search with the file", search_with(file, length, &rooms)))
+    if (file_refused("search with the file", search_with(file, length, &rooms, &offset), &offset))
         return 1;
 
     file[length - 1] ^= 1;
-    return !refused("search with a damaged file", search_with(file, length, &rooms));
+    return !file_refused("search with a damaged file", search_with(file, length, &rooms, &offset), &offset);
 }

@@ -1,6 +1,6 @@
-/* Asks the proved library and the second implementation the same things and compares whole outcomes: the number, the answers, every
-   byte of every lent buffer, and the guard zones before and behind each. The first difference is printed with its input and ends the
-   run with status 1, and so does a refusal that an entry can give and that no case brought about.
+/* Asks the proved library and the second implementation the same things and compares whole outcomes: the number, the answers, the
+   offset, every byte of every lent buffer, and the guard zones before and behind each. The first difference is printed with its input and
+   ends the run with status 1, and so does a refusal that an entry can give and that no case brought about.
 
    compare [--seed N] [--seconds N] [--long]: the cases are the same for the same seed. --seconds goes on with mixed cases until so
    many seconds have passed; --long adds the costly ones.
@@ -10,13 +10,12 @@
      slip 32: a byte behind the library's tables is changed after the call
      slip 67: a byte behind the searcher, inside what is lent, is changed on both sides after the call
      slip 68: past the worked examples, a piece has one find fewer on both sides
-     slip 69: past the worked examples, both sides say that they took what nobody can have made */
+     slip 69: past the worked examples, both sides say that they took what nobody can have made
+     slip 84: past the worked examples, both sides write an offset beside 3
+     slip 85: past the worked examples, both sides show a wrong arrow one byte late */
 #define _DEFAULT_SOURCE
 #include "entries.h"
 
-#include <inttypes.h>
-#include <stdbool.h>
-#include <stdio.h>
 #include <stdlib.h>
 #include <string.h>
 #include <sys/mman.h>
@@ -56,6 +55,82 @@ static size_t some_length(size_t most)
         digits++;
     size_t l = below((size_t)1 << below(digits + 1));
     return l > most ? most : l;
+}
+
+/* ---- where a file is broken, found without the second implementation's reading: by the file of the word that it shows ---- */
+
+/* the file of a word, by the second implementation; its length */
+static size_t file_of(const uint8_t *word, size_t m, uint8_t *file)
+{
+    static uint16_t tables[6 * (MOST_LETTERS + 1)];
+    uint64_t length;
+    if (second_save(word, m, tables, sizeof tables / sizeof *tables, file, MOST_FILE, &length) != 0) {
+        fprintf(stderr, "compare: no file of a word of %zu letters\n", m);
+        exit(2);
+    }
+    return length;
+}
+
+/* where the number at a place ends, or the file */
+static size_t behind_number(const uint8_t *file, size_t len, size_t at)
+{
+    while (at < len && file[at] >= 128)
+        at++;
+    return at < len ? at + 1 : len;
+}
+
+/* the number at a place, where it has one group or two */
+static size_t small_number(const uint8_t *file, size_t at)
+{
+    return file[at] < 128 ? file[at] : file[at] % 128 + (size_t)128 * file[at + 1];
+}
+
+/* whether no number has the byte at its place: zero behind a group, or above 15 behind four */
+static bool is_no_group(const uint8_t *file, size_t at)
+{
+    size_t before = 0;
+    while (before < at && file[at - 1 - before] >= 128)
+        before++;
+    return (before > 0 && file[at] == 0) || (before >= 4 && file[at] > 15);
+}
+
+/* Where the first arrow that the word does not have there begins, or where the declared ones end. Numbers have one spelling, so it is
+   enough to compare bytes, from where the first arrow begins in either file. */
+static size_t other_arrow(const uint8_t *file, size_t len, size_t at, size_t declared, const uint8_t *own, size_t own_len, size_t own_at)
+{
+    for (; declared > 0; declared--) {
+        size_t to = behind_number(file, len, behind_number(file, len, at));
+        size_t own_to = behind_number(own, own_len, behind_number(own, own_len, own_at));
+        if (to - at != own_to - own_at || memcmp(file + at, own + own_at, to - at) != 0)
+            return at;
+        at = to;
+        own_at = own_to;
+    }
+    return at;
+}
+
+/* where a file that is refused with 9, 10 or 11, so one that has its letters and a count, must show it */
+static size_t broken_at(const uint8_t *file, size_t len, uint32_t number)
+{
+    static uint8_t own[MOST_FILE];
+    size_t letters = behind_number(file, len, 1), m = small_number(file, 1), count = letters + m;
+    if (number == 9)
+        return count;
+    size_t own_len = file_of(file + letters, m, own);
+    return other_arrow(file, len, behind_number(file, len, count), small_number(file, count), own, own_len,
+                       behind_number(own, own_len, count));
+}
+
+/* whether a refusal may show at an offset, which is not behind the file's end */
+static bool breaks_at(const uint8_t *file, size_t len, uint32_t number, size_t offset)
+{
+    switch (number) {
+    case 5: return offset == len;
+    case 6: return is_no_group(file, offset);
+    case 7: return offset == 0 && file[0] != 1;
+    case 8: return offset == 1 && file[0] == 1;
+    default: return offset == broken_at(file, len, number);
+    }
 }
 
 /* ---- one case ---- */
@@ -153,8 +228,9 @@ static void print_asked(const struct asked *a)
 static void fail(const struct asked *a, const char *what, const struct outcome *m, const struct outcome *s)
 {
     printf("DIFFERENT: %s\n", what);
-    printf("  library: %" PRIu32 ", answers %" PRIu64 " %" PRIu64 "; second opinion: %" PRIu32 ", answers %" PRIu64 " %" PRIu64 "\n",
-           m->number, m->answer[0], m->answer[1], s->number, s->answer[0], s->answer[1]);
+    print_outcome("  library", m);
+    print_outcome("; second opinion", s);
+    printf("\n");
     print_asked(a);
     exit(1);
 }
@@ -225,6 +301,10 @@ static void slip_after(enum entry entry, struct outcome *m, struct outcome *s)
         m->number = s->number = 0;
         m->answer[0] = s->answer[0] = 0;
     }
+    if (SLIP == 84 && past_examples && m->number == 3)
+        m->offset = s->offset = 0;
+    if (SLIP == 85 && past_examples && m->number == 10 && m->offset + 1 < zones[INPUT].bytes)
+        s->offset = ++m->offset;
 }
 
 /* runs a case on both sides; ends the program at a difference. What the library left stays in zones[..].marks. */
@@ -237,15 +317,16 @@ static struct outcome compare(const struct asked *a)
     struct outcome m = ask_marks(a->entry, &for_marks);
     struct outcome s = ask_second(a->entry, &for_second);
     slip_after(a->entry, &m, &s);
-    if (m.number != s.number || m.answer[0] != s.answer[0] || m.answer[1] != s.answer[1])
-        fail(a, "the number or the answers", &m, &s);
+    if (!same_outcome(&m, &s))
+        fail(a, "the number, the answers or the offset", &m, &s);
     for (int i = 0; i < SLICES; i++)
         if ((lent_slices[a->entry] & 1u << i) && !(a->inside && i == INPUT) && slice_differs(a->entry, i, m.number, what, sizeof what))
             fail(a, what, &m, &s);
-    if (m.number >= NUMBERS || !(can_give[a->entry] & 1u << m.number))
-        fail(a, "both sides give a number that the entry cannot give", &m, &s);
-    if (m.number != 0 && (m.answer[0] != UNTOUCHED || m.answer[1] != UNTOUCHED))
-        fail(a, "both sides answer beside a refusal", &m, &s);
+    const char *wrong = wrong_in_itself(a->entry, &m, a->len[INPUT]);
+    if (wrong != NULL)
+        fail(a, wrong, &m, &s);
+    if (has_offset(m.number) && !breaks_at(a->input, a->len[INPUT], m.number, m.offset))
+        fail(a, "both sides show the file broken where it is not", &m, &s);
     seen[a->entry][m.number]++;
     return m;
 }
@@ -255,18 +336,6 @@ static struct outcome compare(const struct asked *a)
 static size_t entries(size_t m)
 {
     return 6 * (m + 1);
-}
-
-/* the file of a word, by the second implementation; its length */
-static size_t file_of(const uint8_t *word, size_t m, uint8_t *file)
-{
-    static uint16_t tables[6 * (MOST_LETTERS + 1)];
-    uint64_t length;
-    if (second_save(word, m, tables, sizeof tables / sizeof *tables, file, MOST_FILE, &length) != 0) {
-        fprintf(stderr, "compare: no file of a word of %zu letters\n", m);
-        exit(2);
-    }
-    return length;
 }
 
 /* a number in so many groups, zeros at the end where it needs fewer */
@@ -517,10 +586,18 @@ static void example_file(const char *word, const char *hex)
     expect(o.number == 0 && o.answer[0] == m && memcmp(zones[ROOM].marks + zones[ROOM].at, word, m) == 0, hex);
 }
 
-static void example_refused(const char *hex, uint32_t number)
+/* loading, and searching with, a file, in rooms for m letters; the offset is UNTOUCHED where the number has none */
+static void example_loading(const uint8_t *file, size_t len, size_t m, uint32_t number, uint64_t offset, const char *what)
+{
+    struct outcome loaded = run_plain(LOAD, file, len, m), sought = run_search(SEARCH_FILE, file, len, m, NULL, 0, 0);
+    expect(loaded.number == number && loaded.offset == offset, what);
+    expect(sought.number == number && sought.offset == offset, what);
+}
+
+static void example_refused(const char *hex, uint32_t number, uint64_t offset)
 {
     uint8_t file[64];
-    expect(run_plain(LOAD, file, from_hex(hex, file), MOST_LETTERS).number == number, hex);
+    example_loading(file, from_hex(hex, file), MOST_LETTERS, number, offset, hex);
 }
 
 static void expect_finds(struct outcome o, const char *word, uint64_t count, const uint32_t *places, uint64_t letters)
@@ -554,31 +631,30 @@ static void example_arrows(const char *word, const uint16_t *pairs, size_t arrow
         expect(t[n + i] == supplies[i - 1], word);
 }
 
-/* loading, and searching with, a file: its first bytes, so many letters, each an a, and the bytes behind; in rooms for m letters */
-static void example_long(const char *front, size_t letters, const char *behind, size_t m, uint32_t number)
+/* a file: its first bytes, so many letters, each an a, and the bytes behind */
+static void example_long(const char *front, size_t letters, const char *behind, size_t m, uint32_t number, uint64_t offset)
 {
     uint8_t file[MOST_FILE];
     size_t len = from_hex(front, file);
     memset(file + len, 'a', letters);
     len += letters;
     len += from_hex(behind, file + len);
-    expect(run_plain(LOAD, file, len, m).number == number, front);
-    expect(run_search(SEARCH_FILE, file, len, m, NULL, 0, 0).number == number, front);
+    example_loading(file, len, m, number, offset, front);
 }
 
-/* a declared length, m, that is let through to the fields behind it */
+/* a declared length, m, that is let through to the fields behind it; with the edition it has three bytes */
 static void example_goes_on(const char *front, size_t m)
 {
-    example_long(front, 0, "", m, 5);
-    example_long(front, m - 1, "", m, 5);
-    example_long(front, m - 1, "", m - 1, 5);
-    example_long(front, m, "", m - 1, 3);
-    example_long(front, m, "", m, 5);
-    example_long(front, m, "00", m, 0);
-    example_long(front, m, "00 61", m, 11);
-    example_long(front, m, "01", m, 5);
-    example_long(front, m, "01 00 00", m, 10);
-    example_long(front, m + 1, "00", m, 5);
+    example_long(front, 0, "", m, 5, 3);
+    example_long(front, m - 1, "", m, 5, m + 2);
+    example_long(front, m - 1, "", m - 1, 5, m + 2);
+    example_long(front, m, "", m - 1, 3, UNTOUCHED);
+    example_long(front, m, "", m, 5, m + 3);
+    example_long(front, m, "00", m, 0, UNTOUCHED);
+    example_long(front, m, "00 61", m, 11, m + 4);
+    example_long(front, m, "01", m, 5, m + 4);
+    example_long(front, m, "01 00 00", m, 10, m + 4);
+    example_long(front, m + 1, "00", m, 5, m + 5);
 }
 
 /* a word of so many letters, each an a, built, saved and searched for */
@@ -600,9 +676,9 @@ static void examples_at_the_limit(void)
     example_goes_on("01 81 08", 1025);
     example_goes_on("01 FF 1F", 4095);
     example_goes_on("01 80 20", 4096);
-    example_long("01 81 20", 0, "", MOST_LETTERS + 1, 8);
-    example_long("01 81 20", 4096, "", MOST_LETTERS, 8);
-    example_long("01 81 20", 4097, "00", MOST_LETTERS + 1, 8);
+    example_long("01 81 20", 0, "", MOST_LETTERS + 1, 8, 1);
+    example_long("01 81 20", 4096, "", MOST_LETTERS, 8, 1);
+    example_long("01 81 20", 4097, "00", MOST_LETTERS + 1, 8, 1);
     example_word(1024, 0);
     example_word(1025, 0);
     example_word(4095, 0);
@@ -610,17 +686,99 @@ static void examples_at_the_limit(void)
     example_word(4097, 2);
 }
 
+/* the scope document's refused files, and where each is broken */
+static void examples_refused(void)
+{
+    example_refused("", 5, 0);
+    example_refused("01 00", 8, 1);
+    example_refused("01 FF FF FF FF 0F", 8, 1);
+    example_refused("01 83 00 61 61 61 00", 6, 2);
+    example_refused("01 03 61 61 61 03", 9, 5);
+    example_refused("01 03 61 61 61", 5, 5);
+    example_refused("01 03 61 61 61 01 00 00", 10, 6);
+    example_refused("01 03 61 61 61 00 00", 11, 6);
+    example_refused("01 02 61 62 00", 10, 5);
+}
+
+/* numbers that are cut, badly spelled or wrong, and letters that are missing */
+static void examples_of_fronts(void)
+{
+    example_refused("00", 7, 0);
+    example_refused("02 03 61 61 61 00", 7, 0);
+    example_refused("80 01", 7, 0);
+    example_refused("80", 5, 1);
+    example_refused("81 00", 6, 1);
+    example_refused("FF FF FF FF 10", 6, 4);
+    example_refused("01", 5, 1);
+    example_refused("01 80", 5, 2);
+    example_refused("01 80 80 80 80", 5, 5);
+    example_refused("01 80 80 80 80 00", 6, 5);
+    example_refused("01 FF FF FF FF 8F 00", 6, 5);
+    example_refused("01 03", 5, 2);
+    example_refused("01 03 61 61", 5, 4);
+}
+
+/* the letters of abbbaab and what stands behind them: in its own file 04 00 00 01 03 01 01 01 00, the count at 9 and the arrows at 10,
+   12, 14 and 16 */
+static void example_behind(const char *behind, uint32_t number, uint64_t offset)
+{
+    uint8_t file[64];
+    size_t len = from_hex("01 07 61 62 62 62 61 61 62", file);
+    len += from_hex(behind, file + len);
+    example_loading(file, len, 7, number, offset, behind);
+}
+
+static void examples_of_arrows(void)
+{
+    example_behind("84", 5, 10);
+    example_behind("84 00 00 00", 6, 10);
+    example_behind("07 00 00", 9, 9);
+    example_behind("80 01 00 00", 9, 9);
+    example_behind("04 00 00 01", 5, 13);
+    example_behind("04 00 00 01 83 00 01 01 01 00", 6, 14);
+    example_behind("04 00 00 02 83 00 01 01 01 00", 6, 14);
+    example_behind("04 00 00 02", 5, 13);
+    example_behind("04 00 00 02 03 01 01 01 00", 10, 12);
+    example_behind("04 00 00 01 02 01 01 01 00", 10, 12);
+    example_behind("04 00 00 01 83 01 01 01 01 00", 10, 12);
+    example_behind("04 00 00 01 03 81 01 01 01 00", 10, 14);
+    example_behind("04 00 00 01 03 01 01 01 01", 10, 16);
+    example_behind("05 00 00 01 03 01 01 01 00 00 00", 10, 18);
+    example_behind("03 00 00 01 03 01 01", 10, 16);
+    example_behind("03 00 00 01 03 01 01 01 00", 10, 16);
+    example_behind("00", 10, 10);
+    example_behind("00 00 00 01 03 01 01 01 00", 10, 10);
+    example_behind("04 00 00 01 03 01 01 01 00 00", 11, 18);
+    example_behind("04 00 00 01 03 01 01 01 00 61 62 63", 11, 18);
+}
+
+/* 4,095 a's and a b: each of the first 4,095 states has an arrow to the last. 128 of the arrows have two bytes and the others three, so
+   the file has 16,258 bytes. */
+static void example_last_arrow(void)
+{
+    static uint8_t word[4096], file[MOST_FILE];
+    const char *what = "the last arrow of 4,096 letters";
+    memset(word, 'a', 4095);
+    word[4095] = 'b';
+    size_t len = file_of(word, 4096, file);
+    expect(len == 16258 && file[16256] == 1 && file[16257] == 0, what);
+    example_loading(file, len, 4096, 0, UNTOUCHED, what);
+    example_loading(file, len - 1, 4096, 5, 16257, what);
+    example_loading(file, len - 2, 4096, 5, 16256, what);
+    file[16257] = 1;
+    example_loading(file, len, 4096, 10, 16256, what);
+    file[16256] = 0;
+    example_loading(file, len, 4096, 10, 16256, what);
+    file[16257] = 0;
+    example_loading(file, len, 4096, 10, 16256, what);
+}
+
 static void examples_of_loading(void)
 {
-    example_refused("", 5);
-    example_refused("01 00", 8);
-    example_refused("01 FF FF FF FF 0F", 8);
-    example_refused("01 83 00 61 61 61 00", 6);
-    example_refused("01 03 61 61 61 03", 9);
-    example_refused("01 03 61 61 61", 5);
-    example_refused("01 03 61 61 61 01 00 00", 10);
-    example_refused("01 03 61 61 61 00 00", 11);
-    example_refused("01 02 61 62 00", 10);
+    examples_refused();
+    examples_of_fronts();
+    examples_of_arrows();
+    example_last_arrow();
     examples_at_the_limit();
 }
 
@@ -1715,8 +1873,8 @@ static void vast_slice(enum entry entry, int slice, const uint8_t *input, size_t
             second_open(input, input_len, l[side].at[SEARCHER], SEARCHER_BYTES);
         o[side] = side == 0 ? ask_marks(entry, &l[side]) : ask_second(entry, &l[side]);
     }
-    if (o[0].number != o[1].number || o[0].answer[0] != o[1].answer[0] || o[0].answer[1] != o[1].answer[1])
-        fail(&a, "the number or the answers, with a slice past 32 bits", &o[0], &o[1]);
+    if (!same_outcome(&o[0], &o[1]))
+        fail(&a, "the number, the answers or the offset, with a slice past 32 bits", &o[0], &o[1]);
     for (int s = 0; s < SLICES; s++)
         if (memcmp(l[0].at[s], l[1].at[s], LOOKED_AT) != 0)
             fail(&a, "a buffer, with a slice past 32 bits", &o[0], &o[1]);

@@ -6,6 +6,10 @@
 #include "marks.h"
 #include "second.h"
 
+#include <inttypes.h>
+#include <stdbool.h>
+#include <stdio.h>
+
 enum entry { BUILD, SAVE, LOAD, SEARCH, SEARCH_FILE, OPEN, TAKE, ENTRIES };
 
 static const char *const entry_name[ENTRIES] = {"build", "save", "load", "search", "search_file", "open", "take"};
@@ -48,7 +52,7 @@ static size_t may_write(enum entry entry, int slice, size_t len, uint32_t number
     return slice == SEARCHER && len > SEARCHER_BYTES ? SEARCHER_BYTES : len;
 }
 
-/* an answer that no entry gives: what is handed over under the last pointers */
+/* an answer and an offset that no entry gives: what is handed over under the last pointers */
 #define UNTOUCHED UINT64_C(0xA5C3A5C35A3C5A3C)
 
 /* what an entry is lent: a pointer and a number of elements for each slice */
@@ -60,11 +64,55 @@ struct lent {
 struct outcome {
     uint32_t number;
     uint64_t answer[2];
+    uint64_t offset;
 };
+
+static bool same_outcome(const struct outcome *a, const struct outcome *b)
+{
+    return a->number == b->number && a->answer[0] == b->answer[0] && a->answer[1] == b->answer[1] && a->offset == b->offset;
+}
+
+/* the number, both answers and the offset, a dash for each that was not written */
+static void print_outcome(const char *side, const struct outcome *o)
+{
+    const uint64_t beside[] = {o->answer[0], o->answer[1], o->offset};
+    printf("%s: %" PRIu32 ", answers and offset", side, o->number);
+    for (int i = 0; i < 3; i++)
+        if (beside[i] == UNTOUCHED)
+            printf(" -");
+        else
+            printf(" %" PRIu64, beside[i]);
+}
+
+/* whether the refusal shows at a place in the file */
+static bool has_offset(uint32_t number)
+{
+    return number >= 5 && number <= 11;
+}
+
+/* 5 shows at the file's end and the others at a byte of it, but for 10, where arrows may be missing at its end. */
+static bool offset_can_be(uint32_t number, uint64_t offset, size_t file_len)
+{
+    return number == 5 ? offset == file_len : offset < file_len || (number == 10 && offset == file_len);
+}
+
+/* what an outcome cannot be, whatever the other side says; NULL where it can be. The input has so many bytes. */
+static const char *wrong_in_itself(enum entry entry, const struct outcome *o, size_t input_len)
+{
+    if (o->number >= NUMBERS || !(can_give[entry] & 1u << o->number))
+        return "both sides give a number that the entry cannot give";
+    if (o->number != 0 && (o->answer[0] != UNTOUCHED || o->answer[1] != UNTOUCHED))
+        return "both sides answer beside a refusal";
+    if (has_offset(o->number) != (o->offset != UNTOUCHED))
+        return "both sides write an offset where there is none, or none where there is one";
+    if (has_offset(o->number) && !offset_can_be(o->number, o->offset, input_len))
+        return "both sides give an offset that the refusal cannot have";
+    return NULL;
+}
 
 #define ASK(SIDE)                                                                                                                          \
     static struct outcome ask_##SIDE(enum entry entry, const struct lent *l) {                                                             \
-        struct outcome o = {99, {UNTOUCHED, UNTOUCHED}};                                                                                   \
+        struct outcome o = {99, {UNTOUCHED, UNTOUCHED}, UNTOUCHED};                                                                        \
         const uint8_t *input = l->at[INPUT], *text = l->at[TEXT];                                                                          \
         size_t input_len = l->len[INPUT], text_len = l->len[TEXT], room_len = l->len[ROOM], tables_len = l->len[TABLES];                   \
         uint16_t *tables = l->at[TABLES];                                                                                                  \
@@ -72,13 +120,13 @@ struct outcome {
         switch (entry) {                                                                                                                   \
         case BUILD: o.number = SIDE##_build(input, input_len, tables, tables_len, a); break;                                               \
         case SAVE: o.number = SIDE##_save(input, input_len, tables, tables_len, l->at[OUT], l->len[OUT], a); break;                        \
-        case LOAD: o.number = SIDE##_load(input, input_len, l->at[ROOM], room_len, tables, tables_len, a); break;                          \
+        case LOAD: o.number = SIDE##_load(input, input_len, l->at[ROOM], room_len, tables, tables_len, a, &o.offset); break;               \
         case SEARCH:                                                                                                                       \
             o.number = SIDE##_search(input, input_len, text, text_len, tables, tables_len, l->at[FINDS], l->len[FINDS], a, b);             \
             break;                                                                                                                         \
         case SEARCH_FILE:                                                                                                                  \
             o.number = SIDE##_search_file(input, input_len, text, text_len, l->at[ROOM], room_len, tables, tables_len, l->at[FINDS],       \
-                                          l->len[FINDS], a, b);                                                                            \
+                                          l->len[FINDS], a, b, &o.offset);                                                                 \
             break;                                                                                                                         \
         case OPEN: o.number = SIDE##_open(input, input_len, l->at[SEARCHER], l->len[SEARCHER]); break;                                     \
         case TAKE: o.number = SIDE##_take(l->at[SEARCHER], l->len[SEARCHER], text, text_len, l->at[FINDS], l->len[FINDS], a); break;       \

@@ -16,9 +16,6 @@
 #define _GNU_SOURCE
 #include "entries.h"
 
-#include <inttypes.h>
-#include <stdbool.h>
-#include <stdio.h>
 #include <stdlib.h>
 #include <string.h>
 #include <sys/mman.h>
@@ -122,8 +119,9 @@ static void lend_second(const struct asked *a, int s, struct lent *l)
 static void stop(const struct asked *a, const char *what, int s, const struct outcome *m, const struct outcome *o)
 {
     printf("DIFFERENT: %s: %s%s\n", entry_name[a->entry], what, s < 0 ? "" : slice_name[s]);
-    printf("  library: %" PRIu32 ", answers %" PRIu64 " %" PRIu64 "; second opinion: %" PRIu32 ", answers %" PRIu64 " %" PRIu64 "\n",
-           m->number, m->answer[0], m->answer[1], o->number, o->answer[0], o->answer[1]);
+    print_outcome("  library", m);
+    print_outcome("; second opinion", o);
+    printf("\n");
     for (int i = 0; i < SLICES; i++)
         if (lent_slices[a->entry] & 1u << i)
             printf("  %s: %zu elements\n", slice_name[i], a->len[i]);
@@ -163,11 +161,11 @@ static void call_both(const struct asked *a)
     if (a->whole)
         library.at[TEXT] = second.at[TEXT] = whole_text;
     struct outcome m = ask_marks(a->entry, &library), o = ask_second(a->entry, &second);
-    if (m.number != o.number || m.answer[0] != o.answer[0] || m.answer[1] != o.answer[1])
-        stop(a, "the number or the answers", -1, &m, &o);
-    if (m.number >= NUMBERS || !(can_give[a->entry] & 1u << m.number) ||
-        (m.number != 0 && (m.answer[0] != UNTOUCHED || m.answer[1] != UNTOUCHED)))
-        stop(a, "a number that cannot be given, or an answer beside a refusal", -1, &m, &o);
+    if (!same_outcome(&m, &o))
+        stop(a, "the number, the answers or the offset", -1, &m, &o);
+    const char *wrong = wrong_in_itself(a->entry, &m, a->len[INPUT]);
+    if (wrong != NULL)
+        stop(a, wrong, -1, &m, &o);
     for (int s = 0; s < SLICES; s++)
         if (is_lent(a, s)) {
             check_slice(a, s, &second, &m, &o);
@@ -561,7 +559,10 @@ static void write_seeds(void)
                                         "0103616161010000",
                                         "01036161610000",
                                         "0102616200",
-                                        "01026162010000"};
+                                        "01026162010000",
+                                        "010761626262616162040000010201010100",
+                                        "010761626262616162030000010301010100",
+                                        "0107616262626161620500000103010101000000"};
     static const size_t lengths[] = {16, 64, 65, 127, 128, 129, 300, 1024, 1025, MOST_LETTERS - 1, MOST_LETTERS, MOST_LETTERS + 1};
     static const size_t periodic[][2] = {{1, 1}, {3, 1}, {3, 2}, {4, 4}, {7, 3}, {8, 5}, {64, 8}, {256, 64}, {MOST_LETTERS, 2},
                                          {MOST_LETTERS, MOST_LETTERS / 2}};

@@ -66,7 +66,20 @@
      slip 64: a searcher is refused where more bytes are lent than it needs
      slip 65: the shortest beginning that is not empty is kept, not the longest
      slip 66: a find that ends with the piece's last byte is not counted
-   slip 31, slip 32, slip 67, slip 68 and slip 69 stand in compare.c, slip 33, slip 34 and slip 70 in fuzz.c. */
+     slip 71: an arrow whose second number alone differs shows at that number
+     slip 72: 8 shows behind the declared length
+     slip 73: 9 shows behind the count
+     slip 74: 6 shows at the first byte of its number
+     slip 75: 5 shows at the file's last byte
+     slip 76: a number that is cut shows at its first byte
+     slip 77: missing letters show at the first letter
+     slip 78: missing arrows show at the count
+     slip 79: leftovers show at the file's end
+     slip 80: 3 writes an offset of 0
+     slip 81: success writes an offset of 0
+     slip 82: a search with a file writes no offset
+     slip 83: 4 writes an offset of 0
+   slip 31, slip 32, slip 67, slip 68, slip 69, slip 84 and slip 85 stand in compare.c, slip 33, slip 34 and slip 70 in fuzz.c. */
 #include "second.h"
 
 #include <stdbool.h>
@@ -236,72 +249,90 @@ static size_t spell_file(const uint8_t *p, size_t m, uint8_t *out)
     return at;
 }
 
-/* reads a number at *at; 0, or the refusal 5 or 6, whichever its bytes show first */
-static uint32_t read_number(const uint8_t *file, size_t file_len, size_t *at, uint32_t *number)
+/* a refusal that shows at a place in the file */
+static uint32_t shows(uint32_t number, size_t place, uint64_t *offset)
 {
+    *offset = place;
+    return number;
+}
+
+/* Reads a number at *at, which is then behind it: 0, or the refusal 5 or 6, whichever its bytes show first. 5 shows where the file ends,
+   6 at the byte that no number has there. */
+static uint32_t read_number(const uint8_t *file, size_t file_len, size_t *at, uint32_t *number, uint64_t *offset)
+{
+    size_t first = *at;
     *number = 0;
     for (unsigned group = 0;; group++) {
         if (*at >= file_len)
-            return 5;
-        uint8_t byte = file[(*at)++];
-        if (group == 4 && byte > (SLIP == 12 ? 16 : 15))
-            return 6;
+            return shows(5, SLIP == 75 && file_len > 0 ? file_len - 1 : SLIP == 76 ? first : file_len, offset);
+        uint8_t byte = file[*at];
+        bool too_great = group == 4 && byte > (SLIP == 12 ? 16 : 15), too_long = group > 0 && byte == 0 && SLIP != 2;
+        if (too_great || too_long)
+            return shows(6, SLIP == 74 ? first : *at, offset);
         *number |= (uint32_t)(byte % 128) << (7 * group);
+        (*at)++;
         if (byte < 128)
-            return group > 0 && byte == 0 && SLIP != 2 ? 6 : 0;
+            return 0;
     }
 }
 
-/* reads edition, m and letters, and judges the rooms; on 0 *at is behind the letters */
-static uint32_t read_front(const uint8_t *file, size_t file_len, size_t room_len, size_t tables_len, size_t *at, size_t *m)
+/* Reads edition, m and letters, and judges the rooms; on 0 *at is behind the letters. Only 3, the rooms' refusal, shows nowhere. */
+static uint32_t read_front(const uint8_t *file, size_t file_len, size_t room_len, size_t tables_len, size_t *at, size_t *m,
+                           uint64_t *offset)
 {
     uint32_t no, number;
     *at = 0;
-    if ((no = read_number(file, file_len, at, &number)) != 0)
+    if ((no = read_number(file, file_len, at, &number, offset)) != 0)
         return no;
     if (number != 1 && SLIP != 27)
-        return 7;
-    if ((no = read_number(file, file_len, at, &number)) != 0)
+        return shows(7, 0, offset);
+    size_t length_at = *at;
+    if ((no = read_number(file, file_len, at, &number, offset)) != 0)
         return no;
     if (number < 1 || number > MOST_LETTERS - (SLIP == 26))
-        return 8;
+        return shows(8, SLIP == 72 ? *at : length_at, offset);
     *m = number;
     bool short_room = tables_len < entries(*m) || room_len < *m;
     if (SLIP == 1 && short_room)
         return 3;
     if (file_len - *at < *m)
-        return 5;
+        return shows(5, SLIP == 77 ? *at : file_len, offset);
     if (short_room)
-        return 3;
+        return SLIP == 80 ? shows(3, 0, offset) : 3;
     *at += *m;
     return 0;
 }
 
-/* reads the count and the arrows from *at on, against the oracle at hand */
-static uint32_t read_arrows(const uint8_t *file, size_t file_len, size_t at, size_t m)
+/* Reads the count and the arrows from at on, against the oracle at hand. An arrow is one field, so it shows at its first number. */
+static uint32_t read_arrows(const uint8_t *file, size_t file_len, size_t at, size_t m, uint64_t *offset)
 {
     uint32_t no, count, up, over;
     unsigned source = 0;
-    if ((no = read_number(file, file_len, &at, &count)) != 0)
+    size_t count_at = at;
+    if ((no = read_number(file, file_len, &at, &count, offset)) != 0)
         return no;
     if (count > m - 1)
-        return 9;
+        return shows(9, SLIP == 73 ? at : count_at, offset);
     for (size_t e = 0; e < count; e++) {
-        if ((no = read_number(file, file_len, &at, &up)) != 0)
+        size_t arrow_at = at;
+        if ((no = read_number(file, file_len, &at, &up, offset)) != 0)
             return no;
-        if (SLIP == 9 && (e >= extras || up != (unsigned)(extra[e].source - source)))
-            return 10;
-        if ((no = read_number(file, file_len, &at, &over)) != 0)
+        bool differs = e >= extras || up != (unsigned)(extra[e].source - source);
+        if (SLIP == 9 && differs)
+            return shows(10, arrow_at, offset);
+        if (SLIP == 71 && !differs)
+            arrow_at = at;
+        if ((no = read_number(file, file_len, &at, &over, offset)) != 0)
             return no;
-        if (e >= extras || up != (unsigned)(extra[e].source - source) || over != (unsigned)(extra[e].target - extra[e].source - 2))
-            return 10;
+        if (differs || over != (unsigned)(extra[e].target - extra[e].source - 2))
+            return shows(10, arrow_at, offset);
         source = extra[e].source;
     }
     if (SLIP == 25 && at < file_len)
-        return 11;
+        return shows(11, at, offset);
     if (count < extras && SLIP != 13)
-        return 10;
-    return at < file_len && SLIP != 10 ? 11 : 0;
+        return shows(10, SLIP == 78 ? count_at : at, offset);
+    return at < file_len && SLIP != 10 ? shows(11, SLIP == 79 ? file_len : at, offset) : 0;
 }
 
 /* ---- the search ---- */
@@ -527,15 +558,16 @@ uint32_t second_save(const uint8_t *word, size_t word_len, uint16_t *tables, siz
     return 0;
 }
 
-uint32_t second_load(const uint8_t *file, size_t file_len, uint8_t *room, size_t room_len, uint16_t *tables, size_t tables_len, uint64_t *m)
+uint32_t second_load(const uint8_t *file, size_t file_len, uint8_t *room, size_t room_len, uint16_t *tables, size_t tables_len,
+                     uint64_t *m, uint64_t *offset)
 {
     size_t at, letters = 0;
-    uint32_t no = read_front(file, file_len, room_len, tables_len, &at, &letters);
+    uint32_t no = read_front(file, file_len, room_len, tables_len, &at, &letters, offset);
     if (no != 0)
         return no;
     const uint8_t *word = file + at - letters;
     make_oracle(word, letters);
-    no = read_arrows(file, file_len, at, letters);
+    no = read_arrows(file, file_len, at, letters, offset);
     if (no != 0) {
         if (SLIP != 14)
             clear(room, letters);
@@ -548,6 +580,8 @@ uint32_t second_load(const uint8_t *file, size_t file_len, uint8_t *room, size_t
 #if SLIP == 21
     ((uint8_t *)file)[file_len - 1] ^= 1;
 #endif
+    if (SLIP == 81)
+        *offset = 0;
     *m = letters;
     return 0;
 }
@@ -580,13 +614,14 @@ uint32_t second_search(const uint8_t *word, size_t word_len, const uint8_t *text
 }
 
 uint32_t second_search_file(const uint8_t *file, size_t file_len, const uint8_t *text, size_t text_len, uint8_t *room, size_t room_len,
-                            uint16_t *tables, size_t tables_len, uint32_t *finds, size_t finds_len, uint64_t *count, uint64_t *letters)
+                            uint16_t *tables, size_t tables_len, uint32_t *finds, size_t finds_len, uint64_t *count, uint64_t *letters,
+                            uint64_t *offset)
 {
     uint8_t sought[MOST_LETTERS];
-    uint64_t m;
+    uint64_t m, kept_here;
     if (text_len > LONGEST_TEXT)
-        return 4;
-    uint32_t no = second_load(file, file_len, room, room_len, tables, tables_len, &m);
+        return SLIP == 83 ? shows(4, 0, offset) : 4;
+    uint32_t no = second_load(file, file_len, room, room_len, tables, tables_len, &m, SLIP == 82 ? &kept_here : offset);
     if (no != 0)
         return no;
     mirror(room, m, sought); /* the oracle at hand is of the file's word, so of the mirror of what is sought */

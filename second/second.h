@@ -2,7 +2,8 @@
    docs/TABLE.md and docs/FILE.md where those leave the layout of the tables and of a searcher open, as plainly as can be.
    It shares no code and no definition with the proved library, is quadratic where that is simpler, and keeps its oracle in static
    memory (one caller at a time). Each answers the refusal's number, 0 for success; what is answered beside it goes through the last
-   pointers, which a refusal leaves alone. */
+   pointers, which a refusal leaves alone. The offset is the other way round: a refusal that shows at a place in the file writes it, and
+   nothing else does. */
 #ifndef SECOND_H
 #define SECOND_H
 
@@ -30,13 +31,14 @@ uint32_t second_save(const uint8_t *word, size_t word_len, uint16_t *tables, siz
                      uint64_t *length);
 
 uint32_t second_load(const uint8_t *file, size_t file_len, uint8_t *room, size_t room_len, uint16_t *tables, size_t tables_len,
-                     uint64_t *m);
+                     uint64_t *m, uint64_t *offset);
 
 uint32_t second_search(const uint8_t *word, size_t word_len, const uint8_t *text, size_t text_len, uint16_t *tables, size_t tables_len,
                        uint32_t *finds, size_t finds_len, uint64_t *count, uint64_t *letters);
 
 uint32_t second_search_file(const uint8_t *file, size_t file_len, const uint8_t *text, size_t text_len, uint8_t *room, size_t room_len,
-                            uint16_t *tables, size_t tables_len, uint32_t *finds, size_t finds_len, uint64_t *count, uint64_t *letters);
+                            uint16_t *tables, size_t tables_len, uint32_t *finds, size_t finds_len, uint64_t *count, uint64_t *letters,
+                            uint64_t *offset);
 
 uint32_t second_open(const uint8_t *word, size_t word_len, uint8_t *searcher, size_t searcher_len);
 
