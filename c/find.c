@@ -1,4 +1,4 @@
-/* A program to start from: an index is built, saved, loaded and searched with, and a damaged file is refused, with the byte where it is broken. All room
+/* A program to start from: an index is built, saved, loaded and searched with, and a damaged file is refused, with the offset where it is broken. All room
  * is the caller's own, and enough for every word and every file. */
 #include <inttypes.h>
 #include <stdio.h>
@@ -30,7 +30,7 @@ static int file_refused(const char *what, uint32_t said, const uint64_t *offset)
 {
     int no = refused(what, said);
     if (*offset != nowhere)
-        printf("%s: the file is broken at byte %" PRIu64 "\n", what, *offset);
+        printf("%s: the file is broken at offset %" PRIu64 "\n", what, *offset);
     return no;
 }
 
