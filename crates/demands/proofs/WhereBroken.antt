@@ -22,7 +22,7 @@ use Rattle.number.proofs.Theorems as Numbers
 use Rattle.saved.specs.File.{edition, stepsFrom, ownSteps}
 use Rattle.loaded.specs.Load.{letters}
 use Rattle.loaded.specs.Cases.{Reads, BadLength, FrontCase}
-use Rattle.answers.specs.Answers.{Answer, refusedAt, refusesWith, oneOf}
+use Rattle.answers.specs.Answers.{refusedAt, refusesWith, oneOf}
 use Rattle.mark_files.specs.Load
 use Rattle.mark_files.specs.Load.{loadSays}
 use Rattle.mark_files.specs.SearchFile.{searchFileSays}

@@ -3,7 +3,7 @@ use mathlib.Core.Path.{_≡_, refl, sym, ap, _∙_}
 use mathlib.Core.List.{List, [], _∷_, _++_, append-assoc, List·Memᴰ·head, Memᴰ·append-right}
 use Prim.Native.Nat.{ℕ, suc, _+_, _≤_, _<_}
 use native.Mathlib.Omega.{arith}
-use lib.ListN.{length, take, drop, length-append, length-drop}
+use lib.ListN.{length, drop, length-append, length-drop}
 use lib.Seq.{getD-take}
 use Rattle.words.specs.Lists.{at}
 use Rattle.words.specs.Words.{Word, Place}
@@ -18,7 +18,7 @@ use Rattle.saved.proofs.Spelled.{edition-number}
 use Rattle.faults.specs.Faults.{ArrowsAt, NumberPlace, edition-at, length-at, count-at, first-at, second-at}
 use Rattle.faults.specs.Beginnings.{Begins}
 use Rattle.faults.proofs.Through.{Through, start, on, small, through-edition, through-letters, through-arrows}
-use Rattle.faults.proofs.Spelled.{Small, arrowsOf, own-small, edition-begins, head-begins}
+use Rattle.faults.proofs.Spelled.{SmallStep, arrowsOf, own-small, edition-begins, letters-begin}
 use Rattle.faults.proofs.GoingOn.{its, its-most, its-file, counted, bytes-read, goes-on}
 
 module _ (s : List ℕ) (bytes : Bytes s) {i p : Place} (b : BadByte s i p) (B : Begins s (p + 1)) where
@@ -57,7 +57,7 @@ module _ (s : List ℕ) (bytes : Bytes s) {i p : Place} (b : BadByte s i p) (B :
   goes t = its-file B i t (omega (arith, before))
 
   -- the arrows that are left of a word's own are small enough to be spelled
-  left-small : {w : Word} {d : ℕ} {t : Step} {l : List Step} {j : Place} → ArrowsAt s w d (t ∷ l) j → Small t
+  left-small : {w : Word} {d : ℕ} {t : Step} {l : List Step} {j : Place} → ArrowsAt s w d (t ∷ l) j → SmallStep t
   left-small {w} {t = t} A =
       let R = through-arrows s bytes A in
       own-small w (counted s bytes A .most) t (rw (R .own) (Memᴰ·append-right (R .r) (List·Memᴰ·head refl)))
@@ -86,7 +86,7 @@ module _ (s : List ℕ) (bytes : Bytes s) {i p : Place} (b : BadByte s i p) (B :
       let w = its B in
       let t = rw q at (through-letters s bytes C) in
       none-stands (length (ownSteps w)) (spellSteps (ownSteps w)) (omega (arith, own-few w, its-most B, words-fit))
-      (head-begins w (its-most B) v (drop i f) (C .most) (goes t) .1)
+      (letters-begin w (its-most B) v (drop i f) (C .most) (goes t) .1)
   no-number (first-at {w = v} {d = d} {l = l} A) q =
       let here : ArrowsAt s v (suc d) l i = rw q at A in
       let t = through-arrows s bytes here .through in

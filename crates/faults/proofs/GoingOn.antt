@@ -14,8 +14,8 @@ use Rattle.number.specs.Number.{Bytes, greatest, spellNumber}
 use Rattle.saved.specs.File.{Step, spellSteps, ownSteps, spell, Savable, Saved}
 use Rattle.faults.specs.Faults.{CountAt, ArrowsAt}
 use Rattle.faults.specs.Beginnings.{Begins}
-use Rattle.faults.proofs.Through.{Through, headOf, steps-append, small, ReadBefore, through-arrows, begins-with}
-use Rattle.faults.proofs.Spelled.{arrowsOf, head-of, arrows-begin}
+use Rattle.faults.proofs.Through.{Through, upToCount, steps-append, small, ReadBefore, through-arrows, begins-with}
+use Rattle.faults.proofs.Spelled.{arrowsOf, spell-parts, arrows-begin}
 
 -- a word's file that begins with the first q bytes of s
 module _ {s : List ℕ} {q : Place} (B : Begins s q) where
@@ -62,7 +62,7 @@ module _ (s : List ℕ) (bytes : Bytes s) where
     count-small = small s bytes (read .declared .place) (read .declared .count-read)
 
     abbrev pub bytes-read : List ℕ
-    bytes-read = (headOf w ++ spellNumber (read .n)) ++ spellSteps (read .r)
+    bytes-read = (upToCount w ++ spellNumber (read .n)) ++ spellSteps (read .r)
 
     -- a file that begins with the arrows that were read, and y, is the word's, which has as many as are declared, and l are y
     pub goes-on : (v : Word) → length v ≤ longestWord → (y : List ℕ) → spell v ≡ bytes-read ++ y
@@ -79,7 +79,7 @@ module _ (s : List ℕ) (bytes : Bytes s) where
         let arrows : arrowsOf w ≡ N ++ (spellSteps (read .r) ++ spellSteps l) =
         ap (λ (k : ℕ). spellNumber k ++ spellSteps (ownSteps w)) (sym e)
         ∙ ap (λ y. N ++ y) steps in
-        head-of w (counted .most)
-        ∙ ap (λ y. headOf w ++ y) arrows
-        ∙ sym (append-assoc (headOf w) N (spellSteps (read .r) ++ spellSteps l))
-        ∙ sym (append-assoc (headOf w ++ N) (spellSteps (read .r)) (spellSteps l))
+        spell-parts w (counted .most)
+        ∙ ap (λ y. upToCount w ++ y) arrows
+        ∙ sym (append-assoc (upToCount w) N (spellSteps (read .r) ++ spellSteps l))
+        ∙ sym (append-assoc (upToCount w ++ N) (spellSteps (read .r)) (spellSteps l))

@@ -1,7 +1,7 @@
 -- EVERY FAULT SHOWS WITHIN THE FILE, and its field ends there: a number that is read ends within the file.
 use mathlib.Core.Path.{_≡_, refl}
 use mathlib.Core.List.{List}
-use Prim.Native.Nat.{ℕ, _+_, _≤_, _<_}
+use Prim.Native.Nat.{ℕ, _≤_, _<_}
 use native.Mathlib.Omega.{arith}
 use lib.ListN.{length}
 use Rattle.words.specs.Words.{Word, Place}

@@ -18,9 +18,9 @@ use Rattle.faults.specs.Faults.{LengthAt, CountAt, ArrowsAt}
 use Rattle.faults.specs.Faults.{FaultAt, number-cut, letters-cut, byte-refused, other-edition, bad-length, bad-count, other-arrow}
 use Rattle.faults.specs.Faults.{no-arrow-left, arrows-missing, bytes-left}
 use Rattle.faults.specs.Beginnings.{Begins, Declares}
-use Rattle.faults.proofs.Through.{Through, headOf, start, on, small, through-edition, through-letters, through-arrows}
+use Rattle.faults.proofs.Through.{Through, upToCount, start, on, small, through-edition, through-letters, through-arrows}
 use Rattle.faults.proofs.Through.{begins, begins-with}
-use Rattle.faults.proofs.Spelled.{arrowsOf, edition-begins, length-begins, head-of, arrows-begin, arrow-begins}
+use Rattle.faults.proofs.Spelled.{arrowsOf, edition-begins, length-begins, spell-parts, arrows-begin, arrow-begins}
 use Rattle.faults.proofs.GoingOn.{its, its-most, its-file, shown-saved, counted, bytes-read, goes-on, begins-so}
 use Rattle.faults.proofs.BadBytes.{byte-wrong}
 
@@ -38,7 +38,7 @@ module _ (s : List ℕ) (bytes : Bytes s) where
 
   -- up to the number of arrows the file is its word's
   pub letters-right : {w : Word} {p : Place} → CountAt s w p → Begins s p
-  letters-right {w} C = begins (through-letters s bytes C) (arrowsOf w) (shown-saved s bytes C) (head-of w (C .most))
+  letters-right {w} C = begins (through-letters s bytes C) (arrowsOf w) (shown-saved s bytes C) (spell-parts w (C .most))
 
   -- of the arrows, exactly if as many are declared as the word has
   arrows-right : {w : Word} {d : ℕ} {l : List Step} {p : Place} → ArrowsAt s w d l p
@@ -117,9 +117,9 @@ module _ (s : List ℕ) (bytes : Bytes s) where
       let v = its B in
       let y = drop q (B .file) in
       let N = spellNumber n in
-      let begun : spell v ≡ ((headOf w ++ N) ++ []) ++ y =
+      let begun : spell v ≡ ((upToCount w ++ N) ++ []) ++ y =
       its-file B q t (omega arith)
-      ∙ ap (λ x. x ++ y) (sym (append-nil (headOf w ++ N))) in
+      ∙ ap (λ x. x ++ y) (sym (append-nil (upToCount w ++ N))) in
       let same = arrows-begin v (its-most B) w n [] (ownSteps w) (C .most) (small s bytes p h) refl y begun .1 in
       omega (arith, same, own-few w)
 

@@ -2,7 +2,7 @@
 -- was read, one behind the other.
 use mathlib.Core.Path.{_≡_, refl, sym, ap, _∙_}
 use mathlib.Core.List.{List, [], _∷_, _++_, append-assoc, append-nil}
-use Prim.Native.Nat.{ℕ, suc, _+_, _≤_}
+use Prim.Native.Nat.{ℕ, _+_, _≤_}
 use native.Mathlib.Omega.{arith}
 use lib.ListN.{length, take, drop, take-append-drop, length-append}
 use lib.Seq.{take-at, take-take, drop-drop}
@@ -23,8 +23,8 @@ pub record Through (s : List ℕ) (p : Place) (x : List ℕ) : Type 0 where
 -- ── Spellings one behind the other ─────────────────────────────────────────
 
 -- a word's file up to the number of its arrows
-abbrev pub headOf : Word → List ℕ
-headOf w = (spellNumber edition ++ spellNumber (length w)) ++ w
+abbrev pub upToCount : Word → List ℕ
+upToCount w = (spellNumber edition ++ spellNumber (length w)) ++ w
 
 pub steps-append : (a b : List Step) → spellSteps (a ++ b) ≡ spellSteps a ++ spellSteps b
 unfolding spellSteps
@@ -66,7 +66,7 @@ module _ (s : List ℕ) (bytes : Bytes s) where
   pub through-edition : {p : Place} → LengthAt s p → Through s p (spellNumber edition)
   through-edition h = on start h
 
-  pub through-letters : {w : Word} {p : Place} → CountAt s w p → Through s p (headOf w)
+  pub through-letters : {w : Word} {p : Place} → CountAt s w p → Through s p (upToCount w)
   through-letters {w} {p} C =
       let t = on (on start (C .length-at)) (C .length-read) in
       let h : C .letters-place + length w ≤ length s = omega (arith, C .place, C .inside) in
@@ -79,7 +79,7 @@ module _ (s : List ℕ) (bytes : Bytes s) where
     pub declared : Declares s w n
     pub count : n ≡ length r + d
     pub own : ownSteps w ≡ r ++ l
-    pub through : Through s p ((headOf w ++ spellNumber n) ++ spellSteps r)
+    pub through : Through s p ((upToCount w ++ spellNumber n) ++ spellSteps r)
 
   pub through-arrows : {w : Word} {d : ℕ} {l : List Step} {p : Place} → ArrowsAt s w d l p → ReadBefore w d l p
   unfolding spellSteps
@@ -91,11 +91,11 @@ module _ (s : List ℕ) (bytes : Bytes s) where
         declared = record { place = c; after = p; count-at = C; count-read = h };
         count = omega arith;
         own = refl;
-        through = rw (append-nil (headOf w ++ spellNumber n)) t;
+        through = rw (append-nil (upToCount w ++ spellNumber n)) t;
       }
   through-arrows {w} {d} {l} {p} (one-read {t = t} A h g) =
       let B = through-arrows A in
-      let x = headOf w ++ spellNumber (B .n) in
+      let x = upToCount w ++ spellNumber (B .n) in
       let next : List Step = t ∷ [] in
       let spelled : spellSteps (B .r ++ next) ≡ spellSteps (B .r) ++ (spellNumber (t .up) ++ spellNumber (t .over)) =
       steps-append (B .r) next

@@ -10,21 +10,20 @@ use Rattle.number.specs.Number.{Seen, number, ends, refused, withGroup, see, se
 use Rattle.number.specs.declared.Cursor.{Cursor}
 use Rattle.number.specs.declared.Number.the-variants.{Value}
 use Rattle.number.proofs.Seeing.{Kind, is-refused, is-last, is-followed, kind-of, see-refused, see-last, see-follows}
-use Rattle.saved.specs.File.{edition}
 use Rattle.loaded.specs.Load.{letters}
 use Rattle.loaded.specs.Cases.{Reads, FrontCase, letters-there}
 
 -- how v is shown by bytes that stand behind n others and take k with them: by one group, or by a group and the bytes behind it
-data Shown (n v k : ℕ) : List ℕ → Type 0 where
-  single : {b : ℕ} {l : List ℕ} → v < 128 → (0 < n → 0 < v) → k ≡ suc n → Shown n v k (b ∷ l)
-  several : {b : ℕ} {l : List ℕ} (x u : ℕ) → x < 128 → v ≡ x + 128 * u → see (suc n) l ≡ number u k → Shown n v k (b ∷ l)
+data Grouped (n v k : ℕ) : List ℕ → Type 0 where
+  single : {b : ℕ} {l : List ℕ} → v < 128 → (0 < n → 0 < v) → k ≡ suc n → Grouped n v k (b ∷ l)
+  several : {b : ℕ} {l : List ℕ} (x u : ℕ) → x < 128 → v ≡ x + 128 * u → see (suc n) l ≡ number u k → Grouped n v k (b ∷ l)
 
-seen-shown : (n : ℕ) (l : List ℕ) {v k : ℕ} → see n l ≡ number v k → Shown n v k l
+seen-grouped : (n : ℕ) (l : List ℕ) {v k : ℕ} → see n l ≡ number v k → Grouped n v k l
 unfolding see
-seen-shown n [] e = let z : _≡_ {A = ℕ} 0 1 = cc in absurd (omega arith)
-seen-shown n (b ∷ l) {v} {k} e = by (kind-of n b)
+seen-grouped n [] e = let z : _≡_ {A = ℕ} 0 1 = cc in absurd (omega arith)
+seen-grouped n (b ∷ l) {v} {k} e = by (kind-of n b)
   where
-    behind : (g : Seen) → see (suc n) l ≡ g → withGroup (b % 128) g ≡ number v k → Shown n v k (b ∷ l)
+    behind : (g : Seen) → see (suc n) l ≡ g → withGroup (b % 128) g ≡ number v k → Grouped n v k (b ∷ l)
     behind (number u m) s q =
         let value : v ≡ b % 128 + 128 * u = cc in
         let end : m ≡ k = cc in
@@ -32,7 +31,7 @@ seen-shown n (b ∷ l) {v} {k} e = by (kind-of n b)
     behind ends s q = let z : _≡_ {A = ℕ} 0 1 = cc in absurd (omega arith)
     behind (refused m) s q = let z : _≡_ {A = ℕ} 0 1 = cc in absurd (omega arith)
 
-    by : Kind n b → Shown n v k (b ∷ l)
+    by : Kind n b → Grouped n v k (b ∷ l)
     by (is-refused r) = let q = sym (see-refused n b l r) ∙ e in let z : _≡_ {A = ℕ} 0 1 = cc in absurd (omega arith)
     by (is-last p h) =
         let q : number b (suc n) ≡ number v k = sym (see-last l p h) ∙ e in
@@ -42,21 +41,21 @@ seen-shown n (b ∷ l) {v} {k} e = by (kind-of n b)
 
 -- behind others no number is 0
 above-0 : (n : ℕ) (l : List ℕ) (v k : ℕ) → see (suc n) l ≡ number v k → 0 < v
-above-0 n [] v k e = elim (seen-shown (suc n) [] e) [ ]
-above-0 n (b ∷ l) v k e = by (seen-shown (suc n) (b ∷ l) e) (λ u. above-0 (suc n) l u k)
+above-0 n [] v k e = elim (seen-grouped (suc n) [] e) [ ]
+above-0 n (b ∷ l) v k e = by (seen-grouped (suc n) (b ∷ l) e) (λ u. above-0 (suc n) l u k)
   where
-    by : Shown (suc n) v k (b ∷ l) → ((u : ℕ) → see (suc (suc n)) l ≡ number u k → 0 < u) → 0 < v
+    by : Grouped (suc n) v k (b ∷ l) → ((u : ℕ) → see (suc (suc n)) l ≡ number u k → 0 < u) → 0 < v
     by (single h c q) later = c (omega arith)
     by (several x u h q s) later = omega (arith, later u s)
 
 -- the same value takes equally many bytes
 see-width : (n : ℕ) (l l′ : List ℕ) (v k k′ : ℕ) → see n l ≡ number v k → see n l′ ≡ number v k′ → k ≡ k′
-see-width n [] l′ v k k′ e e′ = elim (seen-shown n [] e) [ ]
-see-width n (b ∷ l) [] v k k′ e e′ = elim (seen-shown n [] e′) [ ]
+see-width n [] l′ v k k′ e e′ = elim (seen-grouped n [] e) [ ]
+see-width n (b ∷ l) [] v k k′ e e′ = elim (seen-grouped n [] e′) [ ]
 see-width n (b ∷ l) (b′ ∷ l′) v k k′ e e′ =
-    by (seen-shown n (b ∷ l) e) (seen-shown n (b′ ∷ l′) e′) (λ u. see-width (suc n) l l′ u k k′)
+    by (seen-grouped n (b ∷ l) e) (seen-grouped n (b′ ∷ l′) e′) (λ u. see-width (suc n) l l′ u k k′)
   where
-    by : Shown n v k (b ∷ l) → Shown n v k′ (b′ ∷ l′)
+    by : Grouped n v k (b ∷ l) → Grouped n v k′ (b′ ∷ l′)
         → ((u : ℕ) → see (suc n) l ≡ number u k → see (suc n) l′ ≡ number u k′ → k ≡ k′) → k ≡ k′
     by (single h c q) (single h′ c′ q′) later = q ∙ sym q′
     by (single h c q) (several x u g r s) later = absurd (omega (arith, above-0 n l′ u k′ s))

@@ -7,7 +7,6 @@ use mathlib.Core.List.{List, [], _∷_}
 use Prim.Native.Nat.{ℕ}
 use native.Mathlib.Omega.{arith}
 use Rattle.words.specs.Words.{Word, Place}
-use Rattle.finds.specs.declared.Tally.{Tally}
 use Rattle.answers.specs.Answers.{Answer, done, refused, refusedAt, Succeeds, refusesWith, oneOf}
 use Rattle.answers.proofs.Answers.{done-not-refused, done-not-placed}
 use Rattle.marks.specs.Build.{buildSays}
