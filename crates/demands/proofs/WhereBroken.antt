@@ -19,7 +19,7 @@ use Rattle.number.specs.declared.Number.the-variants.{Value, Refused}
 use Rattle.number.specs.Number.{Bytes, spellNumber, refuses, see, seeNumber, numberAt}
 use Rattle.number.specs.Exactly.{StandsAt, CutOff, BadByte}
 use Rattle.number.proofs.Theorems as Numbers
-use Rattle.saved.specs.File.{edition, stepsFrom, ownSteps}
+use Rattle.saved.specs.File.{edition, Step, stepsFrom, ownSteps}
 use Rattle.loaded.specs.Load.{letters}
 use Rattle.loaded.specs.Cases.{Reads, BadLength, FrontCase}
 use Rattle.answers.specs.Answers.{refusedAt, refusesWith, oneOf}
@@ -27,7 +27,7 @@ use Rattle.mark_files.specs.Load
 use Rattle.mark_files.specs.Load.{loadSays}
 use Rattle.mark_files.specs.SearchFile.{searchFileSays}
 use Rattle.mark_files.specs.Cases.{LoadCase}
-use Rattle.faults.specs.Faults.{FaultAt, CountAt, none-read, arrows-missing}
+use Rattle.faults.specs.Faults.{FaultAt, CountAt, ArrowsAt, none-read, arrows-missing}
 use Rattle.faults.specs.Beginnings.{Begins, Declares}
 use Rattle.faults.proofs.Shown.{load-fault, search-load}
 use Rattle.faults.proofs.Inside
@@ -105,14 +105,14 @@ module _ (file : List ℕ) (text : Word) (R T : List ℕ) (F : List Place) where
   -- ── How far a refused file is right ──────────────────────────────────────
 
   module _ {r : ℕ} {p : Place} (refused : loadSays file R T .answer ≡ refusedAt r p) where
-    -- no offset is beyond the file's length; that of 5 is the length, and all others are below it, but for missing arrows
+    -- no offset is beyond the file's length; that of 5 is the length, and all others are below it, but where arrows are missing
     pub never-beyond : p ≤ length file
     never-beyond = let f = offset-of refused in omega (arith, Inside.fault-inside file (f .1))
 
     pub five-is-the-length : r ≡ 5 → p ≡ length file
     five-is-the-length = Inside.cut-at-the-end file (offset-of refused .1)
 
-    pub others-are-below : (r ≡ 5 → ⊥) → (r ≡ 10 → ⊥) → p < length file
+    pub others-are-below : (r ≡ 5 → ⊥) → (p < length file) ⊎ ((w : Word) × (t : Step) × (l : List Step) × ArrowsAt file w 0 (t ∷ l) p)
     others-are-below = Inside.others-before-the-end file (offset-of refused .1)
 
     other-than : (k : ℕ) (l : List ℕ) → oneOf k l ≡ false → oneOf r l ≡ true → r ≡ k → ⊥

@@ -1,6 +1,7 @@
 -- EVERY FAULT SHOWS WITHIN THE FILE, and its field ends there: a number that is read ends within the file.
 use mathlib.Core.Path.{_≡_, refl}
-use mathlib.Core.List.{List}
+use mathlib.Core.Logic.{_⊎_, inl, inr}
+use mathlib.Core.List.{List, _∷_}
 use Prim.Native.Nat.{ℕ, _≤_, _<_}
 use native.Mathlib.Omega.{arith}
 use lib.ListN.{length}
@@ -19,6 +20,9 @@ module _ (s : List ℕ) where
 
   one : (p : Place) {v : ℕ} {q : Place} → Reads s p v q → (p < q) × (q ≤ length s)
   one p h = reads-inside s p h
+
+  before : (p : Place) {v : ℕ} {q : Place} → Reads s p v q → p < length s
+  before p h = let i = one p h in omega (arith, i .0, i .1)
 
   pub fault-inside : {r : ℕ} {p q : Place} → FaultAt s r p q → (p ≤ q) × (q ≤ length s)
   fault-inside (number-cut N c) = (omega arith, omega arith)
@@ -45,14 +49,15 @@ module _ (s : List ℕ) where
   cut-at-the-end (arrows-missing A) e = absurd (omega arith)
   cut-at-the-end (bytes-left A h) e = absurd (omega arith)
 
-  pub others-before-the-end : {r : ℕ} {p q : Place} → FaultAt s r p q → (r ≡ 5 → ⊥) → (r ≡ 10 → ⊥) → p < length s
-  others-before-the-end (number-cut N c) n t = absurd (n refl)
-  others-before-the-end (letters-cut h g d) n t = absurd (n refl)
-  others-before-the-end (byte-refused N b) n t = b .inside
-  others-before-the-end (other-edition h d) n t = let i = one 0 h in omega (arith, i .0, i .1)
-  others-before-the-end (bad-length {p = p} h g d) n t = let i = one p g in omega (arith, i .0, i .1)
-  others-before-the-end (bad-count {p = p} C h d) n t = let i = one p h in omega (arith, i .0, i .1)
-  others-before-the-end (other-arrow A h g d) n t = absurd (t refl)
-  others-before-the-end (no-arrow-left A h g) n t = absurd (t refl)
-  others-before-the-end (arrows-missing A) n t = absurd (t refl)
-  others-before-the-end (bytes-left A h) n t = h
+  pub others-before-the-end : {r : ℕ} {p q : Place} → FaultAt s r p q → (r ≡ 5 → ⊥)
+      → (p < length s) ⊎ ((w : Word) × (t : Step) × (l : List Step) × ArrowsAt s w 0 (t ∷ l) p)
+  others-before-the-end (number-cut N c) other = absurd (other refl)
+  others-before-the-end (letters-cut h g d) other = absurd (other refl)
+  others-before-the-end (byte-refused N b) other = inl (b .inside)
+  others-before-the-end (other-edition h d) other = inl (before 0 h)
+  others-before-the-end (bad-length {p = p} h g d) other = inl (before p g)
+  others-before-the-end (bad-count {p = p} C h d) other = inl (before p h)
+  others-before-the-end (other-arrow {p = p} A h g d) other = inl (before p h)
+  others-before-the-end (no-arrow-left {p = p} A h g) other = inl (before p h)
+  others-before-the-end (arrows-missing {w = w} {t = t} {l = l} A) other = inr (w, t, l, A)
+  others-before-the-end (bytes-left A h) other = inl h
