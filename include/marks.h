@@ -66,8 +66,8 @@ uint32_t marks_save(const uint8_t *word, size_t word_len, uint16_t *tables, size
 
 /* The file's word in the first m bytes of room, and its table, as marks_build makes it, in the first MARKS_TABLES(m) entries of tables. The answer is m.
  * Refusals, field by field: the edition (5 or 6, then 7), m (5 or 6, then 8), the letters (5), the rooms (3), the number of arrows (5 or 6, then 9), each
- * arrow (5 or 6, then 10), missing arrows (10), bytes behind the last (11). Those up to 3 in this order change nothing; the others leave the first m bytes
- * of room and the first MARKS_TABLES(m) entries of tables zero.
+ * arrow (5 or 6, then 10), missing arrows (10), bytes behind the last (11). Those up to 3 in this order leave room and tables as they were; the others
+ * leave the first m bytes of room and the first MARKS_TABLES(m) entries of tables zero.
  * 5 to 11 also write to offset where in the file they show, counted from 0: the first byte of the faulty field, where an arrow's two numbers are one field;
  * for 5 the file's length; for 6 the byte that is refused; for missing arrows and for 11 the first byte behind the arrows. Nothing else writes it: 3 shows
  * nowhere in a file. docs/FILE.md has an example of each. */
