@@ -1,11 +1,13 @@
--- THE THEOREMS on calls from C: a call's promise allows one outcome, and its result is 0 exactly if the entry is done. The second rests on
--- the numbers that each entry may refuse with, none of which is 0.
+-- THE THEOREMS on calls from C: a call's promise allows one outcome, its result is 0 exactly if the entry is done, and it says whether an
+-- offset was written. The last two rest on the numbers that each entry may refuse with.
 use mathlib.Core.Path.{_≡_, refl, sym, _∙_}
-use mathlib.Core.Bool.{Bool, true, false}
+use mathlib.Core.Bool.{Bool, true, false, _||_}
 use mathlib.Core.Logic.{_↔_}
 use mathlib.Core.List.{List, [], _∷_}
 use Prim.Native.Nat.{ℕ}
 use native.Mathlib.Omega.{arith}
+use lib.Dec.{eqb}
+use borrow.Author.Tests.{eqb-true}
 use Rattle.words.specs.Words.{Word, Place}
 use Rattle.answers.specs.Answers.{Answer, done, refused, refusedAt, Succeeds, refusesWith, oneOf}
 use Rattle.answers.proofs.Answers.{done-not-refused, done-not-placed}
@@ -21,7 +23,8 @@ use Rattle.searcher_bytes.specs.TakeBytes.{takeBytesSays}
 use Rattle.searcher_bytes.proofs.OpenBytesSays.{open-numbers}
 use Rattle.searcher_bytes.proofs.TakeBytesSays.{take-numbers}
 use Rattle.marks_c.specs.Streams.{openCallSays, takeCallSays}
-use Rattle.marks_c.specs.Calls.{resultOf, buildCallSays, saveCallSays, loadCallSays, searchCallSays, searchFileCallSays}
+use Rattle.marks_c.specs.Calls.{resultOf, offsetGiven}
+use Rattle.marks_c.specs.Calls.{buildCallSays, saveCallSays, loadCallSays, searchCallSays, searchFileCallSays}
 
 -- two outcomes that a call's promise allows are equal, whichever call it is
 pub call-one : {C : Type 0} {said o o′ : C} → o ≡ said → o′ ≡ said → o ≡ o′
@@ -71,3 +74,43 @@ pub take-done : (B : List ℕ) (piece : Word) (F : List Place) (c : ℕ)
     → (takeCallSays B piece F c .result ≡ 0) ↔ Succeeds (takeBytesSays B piece F .answer)
 unfolding oneOf
 take-done B piece F c = done-exactly (16 ∷ 4 ∷ []) [] refl refl _ (take-numbers B piece F)
+
+-- ── An offset is written exactly by the results 5 to 11 ────────────────────
+
+-- what a result says of the offset, v before the call: one of these is a refusal at a place, which it then is; any other leaves it alone
+pub record Offset {A : Type 0} (a : Answer A) (result : ℕ) (v offset : Place) : Type 0 where
+  pub written : oneOf result shown ≡ true → a ≡ refusedAt result offset
+  pub alone : oneOf result shown ≡ false → offset ≡ v
+
+offset-told : {A : Type 0} (l : List ℕ) → ((n : ℕ) → oneOf n l ≡ true → oneOf n shown ≡ false) → (v : Place) (a : Answer A)
+    → refusesWith l shown a ≡ true → Offset a (resultOf a) v (offsetGiven v a)
+unfolding oneOf
+offset-told l apart v (done x) only = record { written = λ e. false-not-true e; alone = λ e. refl }
+offset-told l apart v (refused n) only = record { written = λ e. false-not-true (sym (apart n only) ∙ e); alone = λ e. refl }
+offset-told l apart v (refusedAt n p) only = record { written = λ e. refl; alone = λ e. false-not-true (sym e ∙ only) }
+
+-- no refusal of the rooms or the text is one of the file's
+four-and-three-apart : (n : ℕ) → oneOf n (4 ∷ 3 ∷ []) ≡ true → oneOf n shown ≡ false
+unfolding oneOf
+four-and-three-apart n e = by (eqb n 4) (eqb n 3) refl refl e
+  where
+    by : (x y : Bool) → eqb n 4 ≡ x → eqb n 3 ≡ y → x || (y || false) ≡ true → oneOf n shown ≡ false
+    by true y f g h = rw (eqb-true n 4 f)
+    by false true f g h = rw (eqb-true n 3 g)
+    by false false f g h = false-not-true h
+
+three-apart : (n : ℕ) → oneOf n (3 ∷ []) ≡ true → oneOf n shown ≡ false
+unfolding oneOf
+three-apart n e = four-and-three-apart n (or-right (eqb n 4) e)
+  where
+    or-right : (x : Bool) {y : Bool} → y ≡ true → x || y ≡ true
+    or-right true h = refl
+    or-right false h = h
+
+pub load-offset : (file R T : List ℕ) (m : ℕ) (v : Place)
+    → Offset (loadSays file R T .answer) (loadCallSays file R T m v .result) v (loadCallSays file R T m v .offset)
+load-offset file R T m v = offset-told (3 ∷ []) three-apart v _ (load-numbers file R T)
+
+pub search-file-offset : (file : List ℕ) (text : Word) (R T : List ℕ) (F : List Place) (c l : ℕ) (v : Place)
+    → let call = searchFileCallSays file text R T F c l v in Offset (searchFileSays file text R T F .answer) (call .result) v (call .offset)
+search-file-offset file text R T F c l v = offset-told (4 ∷ 3 ∷ []) four-and-three-apart v _ (search-file-numbers file text R T F)
