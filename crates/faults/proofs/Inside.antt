@@ -57,7 +57,7 @@ module _ (s : List ℕ) where
   others-before-the-end (other-edition h d) other = inl (before 0 h)
   others-before-the-end (bad-length {p = p} h g d) other = inl (before p g)
   others-before-the-end (bad-count {p = p} C h d) other = inl (before p h)
-  others-before-the-end (other-arrow {p = p} A h g d) other = inl (before p h)
+  others-before-the-end (other-arrow {p = p} {j = j} A h g d) other = inl (omega (arith, before p h, before j g))
   others-before-the-end (no-arrow-left {p = p} A h g) other = inl (before p h)
   others-before-the-end (arrows-missing {w = w} {t = t} {l = l} A) other = inr (w, t, l, A)
   others-before-the-end (bytes-left A h) other = inl h
