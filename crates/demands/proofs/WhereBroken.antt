@@ -14,6 +14,7 @@ use Rattle.words.proofs.Lists.{true-not-false}
 use Rattle.oracle.specs.Arrows.{target, walk, spine}
 use Rattle.oracle.specs.SuffixRule.{far, mend, missing, extrasAfter, extraArrows, suffixRule}
 use Rattle.oracle.specs.FileOrder.{leadsTo, extraTargets, extrasBefore, fileArrows}
+use Rattle.table.specs.Table.{room}
 use Rattle.number.specs.declared.Cursor.{Cursor}
 use Rattle.number.specs.declared.Number.the-variants.{Value, Refused}
 use Rattle.number.specs.Number.{Bytes, spellNumber, refuses, see, seeNumber, numberAt}
@@ -30,6 +31,7 @@ use Rattle.mark_files.specs.Cases.{LoadCase}
 use Rattle.faults.specs.Faults.{FaultAt, CountAt, ArrowsAt, none-read, arrows-missing}
 use Rattle.faults.specs.Beginnings.{Begins, Declares}
 use Rattle.faults.proofs.Shown.{load-fault, search-load}
+use Rattle.faults.proofs.Told
 use Rattle.faults.proofs.Inside
 use Rattle.faults.proofs.Theorems
 use Rattle.demands.proofs.Demand1
@@ -79,6 +81,14 @@ module _ (file : List ℕ) (text : Word) (R T : List ℕ) (F : List Place) where
   -- a constructor of `FaultAt` for each of these; q is where the field at fault ends
   pub offset-of : {r : ℕ} {p : Place} → loadSays file R T .answer ≡ refusedAt r p → (q : Place) × FaultAt file r p q
   offset-of = load-fault file R T
+
+  -- and the other way round: with rooms for every word a file is refused with r at p exactly if that is its fault
+  pub fault-exactly : longestWord ≤ length R → room longestWord ≤ length T → (r : ℕ) (p : Place)
+      → (loadSays file R T .answer ≡ refusedAt r p) ↔ ((q : Place) × FaultAt file r p q)
+  fault-exactly = Told.refused-exactly file R T
+
+  pub one-fault : {r r′ : ℕ} {p p′ q q′ : Place} → FaultAt file r p q → FaultAt file r′ p′ q′ → (r ≡ r′) × (p ≡ p′)
+  one-fault = Told.one-fault file
 
   -- the number and its offset are given exactly when a case that has both applies
   pub offset-exactly : (r : ℕ) (p : Place) → (loadSays file R T .answer ≡ refusedAt r p)

@@ -26,7 +26,7 @@ module _ (s : List ℕ) where
 
   pub fault-inside : {r : ℕ} {p q : Place} → FaultAt s r p q → (p ≤ q) × (q ≤ length s)
   fault-inside (number-cut N c) = (omega arith, omega arith)
-  fault-inside (letters-cut h g d) = (omega arith, omega arith)
+  fault-inside (letters-cut h g l k d) = (omega arith, omega arith)
   fault-inside (byte-refused N b) = (omega arith, omega (arith, b .inside))
   fault-inside (other-edition h d) = (omega arith, one 0 h .1)
   fault-inside (bad-length {p = p} h g d) = let i = one p g in (omega (arith, i .0), i .1)
@@ -39,7 +39,7 @@ module _ (s : List ℕ) where
   -- 5 shows at the end, and all others before it, but for missing arrows
   pub cut-at-the-end : {r : ℕ} {p q : Place} → FaultAt s r p q → r ≡ 5 → p ≡ length s
   cut-at-the-end (number-cut N c) e = refl
-  cut-at-the-end (letters-cut h g d) e = refl
+  cut-at-the-end (letters-cut h g l k d) e = refl
   cut-at-the-end (byte-refused N b) e = absurd (omega arith)
   cut-at-the-end (other-edition h d) e = absurd (omega arith)
   cut-at-the-end (bad-length h g d) e = absurd (omega arith)
@@ -52,7 +52,7 @@ module _ (s : List ℕ) where
   pub others-before-the-end : {r : ℕ} {p q : Place} → FaultAt s r p q → (r ≡ 5 → ⊥)
       → (p < length s) ⊎ ((w : Word) × (t : Step) × (l : List Step) × ArrowsAt s w 0 (t ∷ l) p)
   others-before-the-end (number-cut N c) other = absurd (other refl)
-  others-before-the-end (letters-cut h g d) other = absurd (other refl)
+  others-before-the-end (letters-cut h g l k d) other = absurd (other refl)
   others-before-the-end (byte-refused N b) other = inl (b .inside)
   others-before-the-end (other-edition h d) other = inl (before 0 h)
   others-before-the-end (bad-length {p = p} h g d) other = inl (before p g)

@@ -1,4 +1,5 @@
 pub mod Shown
+pub mod Told
 pub mod Inside
 pub mod Through
 pub mod Spelled

@@ -43,7 +43,7 @@ module _ {s : List ℕ} where
   front-fault (edition-other h d) = (_, other-edition h d)
   front-fault (length-unread h u) = unread-fault (length-at h) u
   front-fault (length-bad h g d) = (_, bad-length h g d)
-  front-fault (letters-missing h g l k d) = (_, letters-cut h g d)
+  front-fault (letters-missing h g l k d) = (_, letters-cut h g l k d)
 
   count-place : {m : ℕ} {i : Place} → FrontCase s (letters m i) → CountAt s (part s i m) (i + m)
   count-place {m} {i} (letters-there {i = k} h g l t d) =

@@ -64,7 +64,7 @@ module _ (s : List ℕ) (bytes : Bytes s) where
   -- the bytes before a refusal with 7, 8, 9 or 11 are those of some word's file
   pub right-before : {r : ℕ} {p q : Place} → FaultAt s r p q → (r ≡ 5 → ⊥) → (r ≡ 6 → ⊥) → (r ≡ 10 → ⊥) → Begins s p
   right-before (number-cut N c) five six ten = absurd (five refl)
-  right-before (letters-cut h g d) five six ten = absurd (five refl)
+  right-before (letters-cut h g l k d) five six ten = absurd (five refl)
   right-before (byte-refused N b) five six ten = absurd (six refl)
   right-before (other-edition h d) five six ten = any-begins
   right-before (bad-length h g d) five six ten = edition-right h
@@ -78,7 +78,7 @@ module _ (s : List ℕ) (bytes : Bytes s) where
   pub arrow-right-before : {r : ℕ} {p q : Place} → FaultAt s r p q → r ≡ 10
       → (w : Word) × (n : ℕ) × Declares s w n × (Begins s p ↔ (n ≡ length (ownSteps w)))
   arrow-right-before (number-cut N c) e = absurd (omega arith)
-  arrow-right-before (letters-cut h g d) e = absurd (omega arith)
+  arrow-right-before (letters-cut h g l k d) e = absurd (omega arith)
   arrow-right-before (byte-refused N b) e = absurd (omega arith)
   arrow-right-before (other-edition h d) e = absurd (omega arith)
   arrow-right-before (bad-length h g d) e = absurd (omega arith)
@@ -170,7 +170,7 @@ module _ (s : List ℕ) (bytes : Bytes s) where
   -- no word's file begins with the bytes up to the end of what is refused with 6 to 11
   pub wrong-behind : {r : ℕ} {p q : Place} → FaultAt s r p q → (r ≡ 5 → ⊥) → Begins s q → ⊥
   wrong-behind (number-cut N c) five = absurd (five refl)
-  wrong-behind (letters-cut h g d) five = absurd (five refl)
+  wrong-behind (letters-cut h g l k d) five = absurd (five refl)
   wrong-behind (byte-refused N b) five = λ B. byte-wrong s bytes b B N
   wrong-behind (other-edition h d) five = edition-wrong h d
   wrong-behind (bad-length h g d) five = length-wrong h g d

@@ -54,7 +54,8 @@ pub data NumberPlace (s : List ℕ) : Place → Type 0 where
 pub data FaultAt (s : List ℕ) : ℕ → Place → Place → Type 0 where
   -- '(the file's length for 5)'
   number-cut : {i : Place} → NumberPlace s i → CutOff s i → FaultAt s 5 (length s) (length s)
-  letters-cut : {i : Place} {m : ℕ} {j : Place} → LengthAt s i → Reads s i m j → length s < j + m → FaultAt s 5 (length s) (length s)
+  letters-cut : {i : Place} {m : ℕ} {j : Place} → LengthAt s i → Reads s i m j → leastSaved ≤ m → m ≤ longestWord → length s < j + m
+      → FaultAt s 5 (length s) (length s)
   -- 'or of that byte for 5 and 6'
   byte-refused : {i p : Place} → NumberPlace s i → BadByte s i p → FaultAt s 6 p (p + 1)
   -- 'the offset of the faulty field's first byte'
