@@ -1,8 +1,11 @@
 /* Finding marks in broken ride files, for C99 and C++.
  *
- * A mark is a word of 1 to 4,096 bytes. marks_search lists every place where it stands in a text. marks_save writes its index to a file of at most 20,481
- * bytes, marks_load reads such a file, and marks_search_file searches with one. c/find.c is a program to start from. For a text that comes in pieces there
- * are marks_open and marks_take, for marks of 1 to 64 bytes, and c/pieces.c.
+ * A mark is a word of 1 to 4,096 bytes. marks_search lists every place where it stands in a text; so does marks_turbo, in linear time whatever the text.
+ * marks_save writes its index to a file of at most 20,481 bytes, marks_load reads such a file, and marks_search_file searches with one. c/find.c is a
+ * program to start from. For a text that comes in pieces there are marks_open and marks_take, for marks of 1 to 64 bytes, and c/pieces.c.
+ *
+ * Which search: marks_turbo where strangers choose the text or the mark, as it reads no more than two letters for each letter of the text. marks_search
+ * where you know both, as it is a little quicker on most texts, but may read m letters for each of a hostile one.
  *
  * Any bytes and any lengths may be handed to every entry. It returns MARKS_OK and writes its answers through the last pointers; or it refuses: it returns
  * the number of the first refusal in the order given below, and leaves those pointers alone, but for an offset, which only a refusal writes. What is not
@@ -80,7 +83,12 @@ uint32_t marks_load(const uint8_t *file, size_t file_len, uint8_t *room, size_t 
 uint32_t marks_search(const uint8_t *word, size_t word_len, const uint8_t *text, size_t text_len, uint16_t *tables, size_t tables_len,
                       uint32_t *finds, size_t finds_len, uint64_t *count, uint64_t *letters);
 
-/* The same for the mirror of the file's word: to look for a mark with a file, save the mark's letters from last to first. room and tables are left as by
+/* The same, but that at most two letters are read for each letter of the text, whatever the word and the text. Only the answer letters differs.
+ * Refusals: 1, 2, 4, 3. They change nothing. */
+uint32_t marks_turbo(const uint8_t *word, size_t word_len, const uint8_t *text, size_t text_len, uint16_t *tables, size_t tables_len,
+                     uint32_t *finds, size_t finds_len, uint64_t *count, uint64_t *letters);
+
+/* As marks_search, for the mirror of the file's word: to look for a mark with a file, save the mark's letters from last to first. room and tables are left as by
  * marks_load.
  * Refusals: 4, which changes nothing, then as marks_load, with what they leave there and what they write to offset; finds are as they were. */
 uint32_t marks_search_file(const uint8_t *file, size_t file_len, const uint8_t *text, size_t text_len, uint8_t *room, size_t room_len,

@@ -37,6 +37,18 @@ extern "C" {
         count: *mut u64,
         letters: *mut u64,
     ) -> u32;
+    fn marks_turbo(
+        word: *const u8,
+        word_len: usize,
+        text: *const u8,
+        text_len: usize,
+        tables: *mut u16,
+        tables_len: usize,
+        finds: *mut u32,
+        finds_len: usize,
+        count: *mut u64,
+        letters: *mut u64,
+    ) -> u32;
     fn marks_search_file(
         file: *const u8,
         file_len: usize,
@@ -117,6 +129,27 @@ pub fn search(word: &[u8], text: &[u8], tables: &mut [u16], finds: &mut [u32]) -
     // SAFETY: as above.
     let said = unsafe {
         marks_search(
+            word.as_ptr(),
+            word.len(),
+            text.as_ptr(),
+            text.len(),
+            tables.as_mut_ptr(),
+            tables.len(),
+            finds.as_mut_ptr(),
+            finds.len(),
+            &mut tally.count,
+            &mut tally.letters,
+        )
+    };
+    told(said, tally)
+}
+
+/// The same as [`search`], but that at most two letters are read for each letter of the text, whatever the word and the text.
+pub fn turbo(word: &[u8], text: &[u8], tables: &mut [u16], finds: &mut [u32]) -> Result<Tally, Refusal> {
+    let mut tally = Tally { count: 0, letters: 0 };
+    // SAFETY: as above.
+    let said = unsafe {
+        marks_turbo(
             word.as_ptr(),
             word.len(),
             text.as_ptr(),
