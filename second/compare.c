@@ -12,7 +12,12 @@
      slip 68: past the worked examples, a piece has one find fewer on both sides
      slip 69: past the worked examples, both sides say that they took what nobody can have made
      slip 84: past the worked examples, both sides write an offset beside 3
-     slip 85: past the worked examples, both sides show a wrong arrow one byte late */
+     slip 85: past the worked examples, both sides show a wrong arrow one byte late
+     slip 116: past the worked examples, turbo has one find fewer on both sides
+     slip 117: past the worked examples, turbo lists its first find one place late on both sides
+     slip 118: past the worked examples, turbo clears the first entry of the tables on both sides
+     slip 119: past the worked examples, turbo reads 2n+1 letters on both sides
+     slip 120: where turbo is not held against the library's search, it has one find fewer on both sides */
 #define _DEFAULT_SOURCE
 #include "entries.h"
 
@@ -286,6 +291,26 @@ static void lend(const struct asked *a, struct lent *m, struct lent *s)
     }
 }
 
+/* whether the library's search, which may read m letters for each of the text, is asked what turbo is asked */
+static bool also_searched(const struct asked *a)
+{
+    return (uint64_t)a->len[INPUT] * a->len[TEXT] <= 1 << 22;
+}
+
+static void slip_turbo(const struct asked *a, struct outcome *m, struct outcome *s)
+{
+    const struct zone *list = &zones[FINDS], *tables = &zones[TABLES];
+    bool finds = m->number == 0 && m->answer[0] > 0, past_examples = cases > 1000;
+    if (finds && ((SLIP == 116 && past_examples) || (SLIP == 120 && !also_searched(a))))
+        s->answer[0] = --m->answer[0];
+    if (SLIP == 117 && past_examples && finds && list->bytes > 0)
+        list->second[list->at] = ++list->marks[list->at];
+    if (SLIP == 118 && past_examples && m->number == 0)
+        tables->second[tables->at + 2] = tables->marks[tables->at + 2] = 0;
+    if (SLIP == 119 && past_examples && m->number == 0)
+        m->answer[1] = s->answer[1] = 2 * (uint64_t)a->len[TEXT] + 1;
+}
+
 /* the mistakes of this file that happen after the call */
 static void slip_after(enum entry entry, struct outcome *m, struct outcome *s)
 {
@@ -307,6 +332,44 @@ static void slip_after(enum entry entry, struct outcome *m, struct outcome *s)
         s->offset = ++m->offset;
 }
 
+/* what the second side is lent, as it was before */
+static void lend_again(const struct asked *a)
+{
+    for (int i = 0; i < SLICES; i++)
+        if ((lent_slices[a->entry] & 1u << i) && !(a->inside && i == INPUT))
+            memcpy(zones[i].second, zones[i].was, zones[i].at + zones[i].bytes + GUARD);
+}
+
+/* whether the second side was left what the library left */
+static bool left_alike(const struct asked *a)
+{
+    bool alike = true;
+    for (int i = 0; i < SLICES; i++)
+        if ((lent_slices[a->entry] & 1u << i) && !(a->inside && i == INPUT))
+            alike = alike && memcmp(zones[i].marks, zones[i].second, zones[i].at + zones[i].bytes + GUARD) == 0;
+    return alike;
+}
+
+/* What turbo is asked is asked twice more. Of the library's search, where that does not take too long, only the letters may differ;
+   where it would, the finds are held against the text. Where h is carried nothing may differ. */
+static void check_turbo(const struct asked *a, const struct lent *l, const struct outcome *m)
+{
+    struct outcome carried = {99, {UNTOUCHED, UNTOUCHED}, UNTOUCHED};
+    if (m->number != 0 || also_searched(a)) {
+        lend_again(a);
+        struct outcome sought = ask_marks(SEARCH, l);
+        sought.answer[1] = m->answer[1];
+        if (!same_outcome(m, &sought) || !left_alike(a))
+            fail(a, "more than the letters between turbo and the library's search, given here as second opinion", m, &sought);
+    } else if (!lists_places(l, m->answer[0]))
+        fail(a, "both sides find other places than those where the word stands", m, m);
+    lend_again(a);
+    carried.number = second_turbo_carried(l->at[INPUT], l->len[INPUT], l->at[TEXT], l->len[TEXT], l->at[TABLES], l->len[TABLES],
+                                          l->at[FINDS], l->len[FINDS], &carried.answer[0], &carried.answer[1]);
+    if (!same_outcome(m, &carried) || !left_alike(a))
+        fail(a, "turbo where h is carried, given here as second opinion", m, &carried);
+}
+
 /* runs a case on both sides; ends the program at a difference. What the library left stays in zones[..].marks. */
 static struct outcome compare(const struct asked *a)
 {
@@ -317,16 +380,20 @@ static struct outcome compare(const struct asked *a)
     struct outcome m = ask_marks(a->entry, &for_marks);
     struct outcome s = ask_second(a->entry, &for_second);
     slip_after(a->entry, &m, &s);
+    if (a->entry == TURBO)
+        slip_turbo(a, &m, &s);
     if (!same_outcome(&m, &s))
         fail(a, "the number, the answers or the offset", &m, &s);
     for (int i = 0; i < SLICES; i++)
         if ((lent_slices[a->entry] & 1u << i) && !(a->inside && i == INPUT) && slice_differs(a->entry, i, m.number, what, sizeof what))
             fail(a, what, &m, &s);
-    const char *wrong = wrong_in_itself(a->entry, &m, a->len[INPUT]);
+    const char *wrong = wrong_in_itself(a->entry, &m, a->len);
     if (wrong != NULL)
         fail(a, wrong, &m, &s);
     if (has_offset(m.number) && !breaks_at(a->input, a->len[INPUT], m.number, m.offset))
         fail(a, "both sides show the file broken where it is not", &m, &s);
+    if (a->entry == TURBO)
+        check_turbo(a, &for_second, &m);
     seen[a->entry][m.number]++;
     return m;
 }
@@ -411,17 +478,29 @@ static void overlap(uint8_t *out, size_t len, const uint8_t *word, size_t m)
         out[i] = i < m ? word[i] : out[i - (m - border)];
 }
 
-/* a text for a word: by itself, or with the word in it, whole, overlapping, or all but a letter, or overlapping by a border throughout */
+/* pieces of the word one behind the other, mostly beginnings */
+static void put_pieces(uint8_t *out, size_t len, const uint8_t *word, size_t m)
+{
+    for (size_t at = 0, piece; at < len; at += piece) {
+        size_t from = below(3) ? 0 : below(m);
+        piece = 1 + below(m - from);
+        piece = piece < len - at ? piece : len - at;
+        memcpy(out + at, word + from, piece);
+    }
+}
+
+/* a text for a word: by itself, or with the word in it, whole, overlapping, or all but a letter, or overlapping by a border throughout, or
+   of pieces of the word */
 static void make_text(uint8_t *out, size_t len, const uint8_t *word, size_t m, unsigned kind)
 {
-    unsigned how = kind / KINDS % 4;
+    unsigned how = kind / KINDS % 5;
     make_word(out, len, (enum kind)(kind % KINDS));
     if (kind % 7 == 3 && m > 0)
         memset(out, word[m - 1], len);
     if (how == 0 || m == 0 || m > len)
         return;
-    if (how == 3) {
-        overlap(out, len, word, m);
+    if (how > 2) {
+        (how == 3 ? overlap : put_pieces)(out, len, word, m);
         return;
     }
     for (size_t turns = 1 + below(2 + len / m), at = below(len - m + 1); turns > 0; turns--) {
@@ -513,8 +592,8 @@ static size_t there_and_back(const uint8_t *word, size_t m, uint8_t *file)
     return size;
 }
 
-/* both searches for a word in a text, with a list of 0, fewer, exactly enough, or more entries */
-static void both_searches(const uint8_t *word, size_t m, const uint8_t *text, size_t n)
+/* each search for a word in a text, with a list of 0, fewer, exactly enough, or more entries */
+static void each_search(const uint8_t *word, size_t m, const uint8_t *text, size_t n)
 {
     uint8_t mirrored[MOST_LETTERS], file[MOST_FILE];
     mirror(word, m, mirrored);
@@ -522,10 +601,11 @@ static void both_searches(const uint8_t *word, size_t m, const uint8_t *text, si
     size_t count = run_search(SEARCH, word, m, m, text, n, 0).answer[0];
     size_t lists[3] = {count > 0 ? below(count) : 0, count, count + 1 + below(4)};
     run_search(SEARCH, word, m, m, text, n, lists[below(3)]);
+    run_search(TURBO, word, m, m, text, n, lists[below(3)]);
     run_search(SEARCH_FILE, file, size, m, text, n, lists[below(3)]);
 }
 
-/* both searches with lists of no entry, of one, one fewer than the finds, as many, one more */
+/* each search with lists of no entry, of one, one fewer than the finds, as many, one more */
 static void every_list(const uint8_t *word, size_t m, const uint8_t *text, size_t n)
 {
     uint8_t mirrored[MOST_LETTERS], file[MOST_FILE];
@@ -535,6 +615,7 @@ static void every_list(const uint8_t *word, size_t m, const uint8_t *text, size_
     size_t lists[] = {0, 1, count > 0 ? count - 1 : 0, count, count + 1};
     for (size_t i = 0; i < sizeof lists / sizeof *lists; i++) {
         run_search(SEARCH, word, m, m, text, n, lists[i]);
+        run_search(TURBO, word, m, m, text, n, lists[i]);
         run_search(SEARCH_FILE, file, size, m, text, n, lists[i]);
     }
 }
@@ -618,6 +699,13 @@ static void example_search(const char *word, const char *text, uint64_t count, c
     expect_finds(run_search(SEARCH_FILE, file, size, m, t, n, count), word, count, places, letters);
 }
 
+static void example_turbo(const char *word, const char *text, uint64_t count, const uint32_t *places, uint64_t letters)
+{
+    size_t m = strlen(word);
+    struct outcome o = run_search(TURBO, (const uint8_t *)word, m, m, (const uint8_t *)text, strlen(text), count);
+    expect_finds(o, word, count, places, letters);
+}
+
 /* pairs: source and target of each extra arrow in the file's order */
 static void example_arrows(const char *word, const uint16_t *pairs, size_t arrows, const uint16_t *supplies)
 {
@@ -663,10 +751,11 @@ static void example_word(size_t m, uint32_t number)
     static uint8_t text[MOST_LETTERS + 8];
     memset(text, 'a', sizeof text);
     struct outcome built = run_plain(BUILD, text, m, m), saved = run_save(text, m, ALWAYS_ENOUGH);
-    struct outcome sought = run_search(SEARCH, text, m, m, text, m + 2, 3);
+    struct outcome sought = run_search(SEARCH, text, m, m, text, m + 2, 3), turbo = run_search(TURBO, text, m, m, text, m + 2, 3);
     expect(built.number == number && saved.number == number && sought.number == number, "a word of many letters");
     expect(number != 0 || (built.answer[0] == m && saved.answer[0] == m + 4), "a word of many letters");
     expect(number != 0 || (sought.answer[0] == 3 && sought.answer[1] == 3 * m), "a word of many letters");
+    expect(turbo.number == number && (number != 0 || (turbo.answer[0] == 3 && turbo.answer[1] == m + m + 2)), "a word of many letters");
 }
 
 static void examples_at_the_limit(void)
@@ -852,6 +941,22 @@ static void examples_of_streams(void)
     example_at_the_end();
 }
 
+/* Backward and forward letters of each window: 3 and 3, then 2 and 2 in the first; 3 and 3, the last of them behind the window's end, where
+   the next window would not end inside the text, in the second; 2 and 1; 2 and 2. */
+static void examples_of_turbo(void)
+{
+    example_turbo("aba", "ababa", 2, (const uint32_t[]){0, 2}, 10);
+    example_turbo("aaaa", "abaaa", 0, (const uint32_t[]){0}, 6);
+    example_turbo("aa", "ba", 0, (const uint32_t[]){0}, 3);
+    example_turbo("ab", "ab", 1, (const uint32_t[]){0}, 4);
+    example_turbo("a", "aaaa", 4, (const uint32_t[]){0, 1, 2, 3}, 8);
+    example_turbo("aa", "aaaa", 3, (const uint32_t[]){0, 1, 2}, 6);
+    example_turbo("ab", "aab", 1, (const uint32_t[]){1}, 4);
+    example_turbo("ab", "abxa", 1, (const uint32_t[]){0}, 7);
+    example_turbo("abc", "xxxxxx", 0, (const uint32_t[]){0}, 2);
+    example_turbo("abc", "ab", 0, (const uint32_t[]){0}, 0);
+}
+
 static void examples(void)
 {
     static const uint16_t first[] = {0, 2, 1, 6, 2, 5, 3, 5}, supplies[] = {0, 0, 2, 3, 1, 1, 2};
@@ -870,6 +975,7 @@ static void examples(void)
     example_search("ab", "abxa", 1, (const uint32_t[]){0}, 4);
     example_search("abc", "xxxxxx", 0, (const uint32_t[]){0}, 2);
     example_search("abc", "ab", 0, (const uint32_t[]){0}, 0);
+    examples_of_turbo();
     examples_of_loading();
     examples_of_streams();
 }
@@ -880,16 +986,16 @@ static void short_word(const uint8_t *word, size_t m)
 {
     uint8_t file[MOST_FILE], text[48];
     there_and_back(word, m, file);
-    both_searches(word, m, word, m - below(2));
+    each_search(word, m, word, m - below(2));
     for (size_t i = 0; i < 40; i++)
         text[i] = word[i % m];
-    both_searches(word, m, text, 40);
+    each_search(word, m, text, 40);
     for (size_t i = 0; i < 40; i++)
         text[i] = (uint8_t)('a' + below(3));
     memcpy(text + below(40 - m + 1), word, m);
-    both_searches(word, m, text, 40);
+    each_search(word, m, text, 40);
     memset(text, 'a', 20);
-    both_searches(word, m, text, 20);
+    each_search(word, m, text, 20);
 }
 
 static void short_words(void)
@@ -905,11 +1011,16 @@ static void short_words(void)
 
 /* ---- every word up to 6 letters over 2, in every text up to 10 ---- */
 
-/* a number's binary digits as letters */
+/* a number's digits, of so many, as letters */
+static void spell_in_base(size_t base, size_t number, size_t len, uint8_t *out)
+{
+    for (size_t i = 0; i < len; i++, number /= base)
+        out[i] = (uint8_t)('a' + number % base);
+}
+
 static void spell_digits(size_t number, size_t len, uint8_t *out)
 {
-    for (size_t i = 0; i < len; i++)
-        out[i] = (uint8_t)('a' + (number >> i) % 2);
+    spell_in_base(2, number, len, out);
 }
 
 static void every_text(const uint8_t *word, size_t m)
@@ -935,6 +1046,37 @@ static void short_texts(void)
         }
 }
 
+/* turbo alone: every word of 1 to so many letters in every text of up to so many; lists that are as long as the finds can be, or shorter */
+static void every_turbo(size_t base, size_t longest_word, size_t longest_text)
+{
+    uint8_t word[16], text[16];
+    for (size_t m = 1, words = base; m <= longest_word; m++, words *= base)
+        for (size_t number = 0; number < words; number++) {
+            spell_in_base(base, number, m, word);
+            for (size_t n = 0, texts = 1; n <= longest_text; n++, texts *= base)
+                for (size_t other = 0; other < texts; other++) {
+                    spell_in_base(base, other, n, text);
+                    run_search(TURBO, word, m, m, text, n, below(4) ? n : below(3));
+                }
+        }
+}
+
+static void short_texts_turbo(void)
+{
+    every_turbo(2, 7, 12);
+}
+
+static void short_texts_over_3(void)
+{
+    every_turbo(3, 5, 8);
+}
+
+static void longer_texts_turbo(void)
+{
+    every_turbo(2, 8, 14);
+    every_turbo(3, 5, 9);
+}
+
 /* ---- words in texts of the same period, where each find overlaps the one before by a border ---- */
 
 /* A word of m letters in a text of the same period, and there again with a letter of the text changed. Where the period's first letter
@@ -946,9 +1088,9 @@ static void same_period(size_t m, size_t period, bool first_again)
     for (size_t i = 0; i < n; i++)
         text[i] = i >= period ? text[i - period] : i == 0 && !first_again ? 'c' : (uint8_t)('a' + below(2));
     memcpy(word, text + (first_again ? below(period) : 0), m);
-    both_searches(word, m, text, n);
+    each_search(word, m, text, n);
     text[below(n)] = (uint8_t)('a' + below(3));
-    both_searches(word, m, text, n);
+    each_search(word, m, text, n);
 }
 
 static void same_periods(void)
@@ -966,6 +1108,94 @@ static void same_periods(void)
             same_period(m, periods[p], true);
         }
     }
+}
+
+/* ---- words and texts by strangers, where a plain search reads most letters many times: turbo alone ---- */
+
+enum hostile { ALL_A, FIRST_B, LAST_B, MIDDLE_B, ALTERNATING, OF_FIBONACCI, HOSTILES };
+
+static void make_hostile(uint8_t *word, size_t m, enum hostile kind)
+{
+    memset(word, 'a', m);
+    if (kind == FIRST_B || kind == LAST_B || kind == MIDDLE_B)
+        word[kind == FIRST_B ? 0 : kind == LAST_B ? m - 1 : m / 2] = 'b';
+    for (size_t i = 1; i < m && kind == ALTERNATING; i += 2)
+        word[i] = 'b';
+    if (kind == OF_FIBONACCI) {
+        palette[0] = 'a';
+        palette[1] = 'b';
+        fibonacci(word, m);
+    }
+}
+
+/* the word's own text: itself over and over, whole, overlapping by a border, without its last letter, or with one letter more */
+enum own { WHOLE, OVERLAPPING, WITHOUT_LAST, ONE_MORE, OWNS };
+
+static void make_own_text(uint8_t *text, size_t n, const uint8_t *word, size_t m, enum own own)
+{
+    size_t period = own == WITHOUT_LAST && m > 1 ? m - 1 : own == ONE_MORE ? m + 1 : m;
+    if (own == OVERLAPPING)
+        overlap(text, n, word, m);
+    else
+        for (size_t i = 0; i < n; i++)
+            text[i] = i % period < m ? word[i % period] : 'a';
+}
+
+/* in a's, in its own texts and in that of Fibonacci, there again with a letter changed, and in one of its pieces */
+static void hostile_texts(const uint8_t *word, size_t m, size_t n)
+{
+    static uint8_t text[4 * MOST_LETTERS];
+    for (int kind = 0; kind < OWNS + 3; kind++) {
+        if (kind < OWNS)
+            make_own_text(text, n, word, m, (enum own)kind);
+        else if (kind == OWNS)
+            put_pieces(text, n, word, m);
+        else
+            make_hostile(text, n, kind == OWNS + 1 ? ALL_A : OF_FIBONACCI);
+        run_search(TURBO, word, m, m, text, n, below(2) ? n : below(5));
+        text[below(n)] = (uint8_t)('a' + below(3));
+        run_search(TURBO, word, m, m, text, n, below(2) ? n : below(5));
+    }
+}
+
+static void hostile_words(void)
+{
+    static const size_t lengths[] = {64, 89, 90, 100, 127, 128, 129, 255, 256, 257, 500, LONG_EDGES};
+    static uint8_t word[MOST_LETTERS];
+    for (size_t l = 0; l < 48 + sizeof lengths / sizeof *lengths; l++)
+        for (int kind = 0; kind < HOSTILES; kind++) {
+            size_t m = l < 48 ? 1 + l : lengths[l - 48];
+            make_hostile(word, m, (enum hostile)kind);
+            hostile_texts(word, m, m + below(3 * m + 1));
+            hostile_texts(word, m, 2 * m + below(2 * m + 1));
+        }
+}
+
+/* the most letters in the longest text: in a's, in the word's own texts, and in that of Fibonacci */
+static void longest_hostile(enum hostile kind)
+{
+    static uint8_t word[MOST_LETTERS];
+    uint8_t *text = reserve(NULL, MOST_TEXT);
+    make_hostile(word, MOST_LETTERS, kind);
+    make_hostile(text, MOST_TEXT, ALL_A);
+    struct outcome o = run_search(TURBO, word, MOST_LETTERS, MOST_LETTERS, text, MOST_TEXT, MOST_TEXT);
+    if (kind == ALL_A) {
+        expect(o.answer[0] == MOST_TEXT - MOST_LETTERS + 1, "the most a's in as many a's as may be");
+        expect(o.answer[1] == MOST_TEXT + MOST_LETTERS, "the most a's in as many a's as may be");
+    }
+    for (int own = 0; own < OWNS; own++) {
+        make_own_text(text, MOST_TEXT, word, MOST_LETTERS, (enum own)own);
+        run_search(TURBO, word, MOST_LETTERS, MOST_LETTERS, text, MOST_TEXT, below(2) ? MOST_TEXT : below(1000));
+    }
+    make_hostile(text, MOST_TEXT, OF_FIBONACCI);
+    run_search(TURBO, word, MOST_LETTERS, MOST_LETTERS, text, MOST_TEXT, MOST_TEXT);
+    free(text);
+}
+
+static void longest_hostiles(void)
+{
+    for (int kind = 0; kind < HOSTILES; kind++)
+        longest_hostile((enum hostile)kind);
 }
 
 /* ---- streams: texts that are taken in pieces ---- */
@@ -1437,7 +1667,7 @@ static void longer_words(void)
                 size_t size = there_and_back(word, m, file);
                 run_save(word, m, ALWAYS_ENOUGH);
                 make_text(text, n, word, m, (unsigned)chance());
-                both_searches(word, m, text, n);
+                each_search(word, m, text, n);
                 for (size_t cut = 0; m > 1000 && cut < size; cut += 1 + size / 20)
                     try_file(file, cut, m);
             }
@@ -1536,6 +1766,7 @@ static void rooms_of_word(const uint8_t *word, size_t m)
     rooms_for(BUILD, word, m, m, 0, NULL);
     rooms_for(SAVE, word, m, m, size, NULL);
     rooms_for(SEARCH, word, m, m, 0, word);
+    rooms_for(TURBO, word, m, m, 0, word);
     if (good) {
         mirror(word, m, mirrored);
         rooms_for(LOAD, file, size, m, 0, NULL);
@@ -1803,18 +2034,21 @@ static void texts_at_the_limit(void)
     memcpy(text, word, m);
     memcpy(text + MOST_TEXT - m, word, m);
     for (size_t past = 0; past <= 1; past++) {
-        run_search(SEARCH, word, m, m, text, MOST_TEXT + past, 10000);
+        for (enum entry entry = SEARCH; entry <= TURBO; entry++) {
+            run_search(entry, word, m, m, text, MOST_TEXT + past, 10000);
+            run_search(entry, word, m, m - 1, text, MOST_TEXT + past, 10);
+            run_search(entry, word, 0, m, text, MOST_TEXT + past, 10);
+            run_search(entry, text, MOST_LETTERS + 1, m, text, MOST_TEXT + past, 10);
+        }
         run_search(SEARCH_FILE, file, size, m, text, MOST_TEXT + past, 10000);
-        run_search(SEARCH, word, m, m - 1, text, MOST_TEXT + past, 10);
         run_search(SEARCH_FILE, file, size - 1, m, text, MOST_TEXT + past, 10);
         run_search(SEARCH_FILE, file, size, m - 1, text, MOST_TEXT + past, 10);
-        run_search(SEARCH, word, 0, m, text, MOST_TEXT + past, 10);
-        run_search(SEARCH, text, MOST_LETTERS + 1, m, text, MOST_TEXT + past, 10);
     }
-    both_searches(text + MOST_TEXT - 1025, 1025, text, MOST_TEXT);
-    both_searches(text + MOST_TEXT - MOST_LETTERS, MOST_LETTERS, text, MOST_TEXT);
+    each_search(text + MOST_TEXT - 1025, 1025, text, MOST_TEXT);
+    each_search(text + MOST_TEXT - MOST_LETTERS, MOST_LETTERS, text, MOST_TEXT);
     memset(text, 'a', MOST_TEXT);
     run_search(SEARCH, text, 4, 4, text, MOST_TEXT, 1000);
+    run_search(TURBO, text, 4, 4, text, MOST_TEXT, 1000);
     free(text);
 }
 
@@ -2013,7 +2247,7 @@ static void mixed_case(void)
     a.len[OUT] = some_room(size);
     a.len[FINDS] = some_length(n);
     a.fill = (enum fill)below(FILLS);
-    a.inside = entry == SEARCH && m <= n && below(20) == 0;
+    a.inside = (entry == SEARCH || entry == TURBO) && m <= n && below(20) == 0;
     if (a.inside)
         a.input = text;
     if (entry == LOAD || entry == SEARCH_FILE) {
@@ -2045,9 +2279,9 @@ static void part(const char *name, void (*run)(void))
 
 static void mixed_cases(void)
 {
-    for (int i = 0; i < 500000; i++) {
+    for (int i = 0; i < 600000; i++) {
         mixed_case();
-        if (i % 20 == 0)
+        if (i % 24 == 0)
             mixed_stream();
     }
 }
@@ -2113,8 +2347,11 @@ static void all_parts(bool costly)
     if (SLIP == 31)
         return;
     part("every word of 1 to 8 letters over 3: build, save, load back, search", short_words);
-    part("every word of 1 to 6 letters over 2 in every text of up to 10", short_texts);
+    part("every word of 1 to 6 letters over 2 in every text of up to 10: both searches", short_texts);
+    part("every word of 1 to 7 letters over 2 in every text of up to 12: turbo", short_texts_turbo);
+    part("every word of 1 to 5 letters over 3 in every text of up to 8: turbo", short_texts_over_3);
     part("words of 1 to 64 letters, of every period, and longer ones, in texts of the same period", same_periods);
+    part("words of 1 letter to the most, and texts, by strangers: turbo", hostile_words);
     part("openings of streams", openings);
     part("every text of 8 letters over 2 cut in every way, words of 1 to 5", short_texts_cut);
     part("texts of 12 letters over 2 cut in every way, words of 1 to 8", texts_of_12_cut);
@@ -2133,6 +2370,8 @@ static void all_parts(bool costly)
     if (costly) {
         part("damaged files of the most letters, of half as many, and of 1,025", long_damaged_files);
         part("every text of 12 letters over 2 cut in every way, words of 1 to 3", every_text_of_12_cut);
+        part("words of 1 to 8 letters over 2 in every text of up to 14, of 1 to 5 over 3 in every one of up to 9: turbo", longer_texts_turbo);
+        part("words of the most letters and texts of the most bytes, by strangers: turbo", longest_hostiles);
         part("300 a's in the longest text, of a's alone", hostile_text);
         part("4,096 a's in a text of 2,097,152 a's", hostile_word);
     }

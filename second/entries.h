@@ -1,4 +1,4 @@
-/* The seven entries of both sides by number, so that the comparison and the attack can ask either side the same thing in one line.
+/* The eight entries of both sides by number, so that the comparison and the attack can ask either side the same thing in one line.
    This is all that the two share with each other; neither implementation sees it. */
 #ifndef ENTRIES_H
 #define ENTRIES_H
@@ -9,10 +9,11 @@
 #include <inttypes.h>
 #include <stdbool.h>
 #include <stdio.h>
+#include <string.h>
 
-enum entry { BUILD, SAVE, LOAD, SEARCH, SEARCH_FILE, OPEN, TAKE, ENTRIES };
+enum entry { BUILD, SAVE, LOAD, SEARCH, TURBO, SEARCH_FILE, OPEN, TAKE, ENTRIES };
 
-static const char *const entry_name[ENTRIES] = {"build", "save", "load", "search", "search_file", "open", "take"};
+static const char *const entry_name[ENTRIES] = {"build", "save", "load", "search", "turbo", "search_file", "open", "take"};
 
 /* the slices that an entry may be lent; input is the word, or the file of load and search_file; text is also the piece of take */
 enum slice { INPUT, TEXT, ROOM, OUT, TABLES, FINDS, SEARCHER, SLICES };
@@ -26,6 +27,7 @@ static const unsigned lent_slices[ENTRIES] = {
     1 << INPUT | 1 << OUT | 1 << TABLES,
     1 << INPUT | 1 << ROOM | 1 << TABLES,
     1 << INPUT | 1 << TEXT | 1 << TABLES | 1 << FINDS,
+    1 << INPUT | 1 << TEXT | 1 << TABLES | 1 << FINDS,
     1 << INPUT | 1 << TEXT | 1 << ROOM | 1 << TABLES | 1 << FINDS,
     1 << INPUT | 1 << SEARCHER,
     1 << TEXT | 1 << FINDS | 1 << SEARCHER,
@@ -37,10 +39,10 @@ static const unsigned read_slices = 1 << INPUT | 1 << TEXT;
 enum { NUMBERS = 17 };
 
 static const unsigned can_give[ENTRIES] = {
-    1 << 0 | 1 << 1 | 1 << 2 | 1 << 3, 1 << 0 | 1 << 1 | 1 << 2 | 1 << 3 | 1 << 12,
-    1 << 0 | 1 << 3 | 0xFE0,           1 << 0 | 1 << 1 | 1 << 2 | 1 << 3 | 1 << 4,
-    1 << 0 | 1 << 3 | 1 << 4 | 0xFE0,  1 << 0 | 1 << 1 | 1 << 2 | 1 << 3,
-    1 << 0 | 1 << 4 | 1 << 16,
+    1 << 0 | 1 << 1 | 1 << 2 | 1 << 3,          1 << 0 | 1 << 1 | 1 << 2 | 1 << 3 | 1 << 12,
+    1 << 0 | 1 << 3 | 0xFE0,                    1 << 0 | 1 << 1 | 1 << 2 | 1 << 3 | 1 << 4,
+    1 << 0 | 1 << 1 | 1 << 2 | 1 << 3 | 1 << 4, 1 << 0 | 1 << 3 | 1 << 4 | 0xFE0,
+    1 << 0 | 1 << 1 | 1 << 2 | 1 << 3,          1 << 0 | 1 << 4 | 1 << 16,
 };
 
 /* How many of the elements that a slice is lent an entry may write when it answers with the number: none of an input, those of the
@@ -96,8 +98,8 @@ static bool offset_can_be(uint32_t number, uint64_t offset, size_t file_len)
     return number == 5 ? offset == file_len : offset < file_len || (number == 10 && offset == file_len);
 }
 
-/* what an outcome cannot be, whatever the other side says; NULL where it can be. The input has so many bytes. */
-static const char *wrong_in_itself(enum entry entry, const struct outcome *o, size_t input_len)
+/* what an outcome cannot be, whatever the other side says; NULL where it can be. Slices of so many elements were lent. */
+static const char *wrong_in_itself(enum entry entry, const struct outcome *o, const size_t *len)
 {
     if (o->number >= NUMBERS || !(can_give[entry] & 1u << o->number))
         return "both sides give a number that the entry cannot give";
@@ -105,9 +107,26 @@ static const char *wrong_in_itself(enum entry entry, const struct outcome *o, si
         return "both sides answer beside a refusal";
     if (has_offset(o->number) != (o->offset != UNTOUCHED))
         return "both sides write an offset where there is none, or none where there is one";
-    if (has_offset(o->number) && !offset_can_be(o->number, o->offset, input_len))
+    if (has_offset(o->number) && !offset_can_be(o->number, o->offset, len[INPUT]))
         return "both sides give an offset that the refusal cannot have";
+    if (entry == TURBO && o->number == 0 && o->answer[1] > 2 * (uint64_t)len[TEXT])
+        return "both sides read more than two letters for each of the text";
     return NULL;
+}
+
+/* whether the word stands in the text in so many places, and the first of them are listed; found by comparing letters */
+static bool lists_places(const struct lent *l, uint64_t count)
+{
+    const uint8_t *text = l->at[TEXT];
+    const uint32_t *list = l->at[FINDS];
+    uint64_t found = 0;
+    for (size_t at = 0; at + l->len[INPUT] <= l->len[TEXT]; at++)
+        if (memcmp(text + at, l->at[INPUT], l->len[INPUT]) == 0) {
+            if (found < l->len[FINDS] && list[found] != at)
+                return false;
+            found++;
+        }
+    return found == count;
 }
 
 #define ASK(SIDE)                                                                                                                          \
@@ -123,6 +142,9 @@ static const char *wrong_in_itself(enum entry entry, const struct outcome *o, si
         case LOAD: o.number = SIDE##_load(input, input_len, l->at[ROOM], room_len, tables, tables_len, a, &o.offset); break;               \
         case SEARCH:                                                                                                                       \
             o.number = SIDE##_search(input, input_len, text, text_len, tables, tables_len, l->at[FINDS], l->len[FINDS], a, b);             \
+            break;                                                                                                                         \
+        case TURBO:                                                                                                                        \
+            o.number = SIDE##_turbo(input, input_len, text, text_len, tables, tables_len, l->at[FINDS], l->len[FINDS], a, b);              \
             break;                                                                                                                         \
         case SEARCH_FILE:                                                                                                                  \
             o.number = SIDE##_search_file(input, input_len, text, text_len, l->at[ROOM], room_len, tables, tables_len, l->at[FINDS],       \

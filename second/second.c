@@ -1,7 +1,7 @@
 /* The second implementation: what an oracle is by the suffix rule, a supply by 001's definition, an occurrence by comparing bytes at
    each place, a border by comparing the word's beginning with its end, the letters read by going through the published steps, what a
-   stream ends with by comparing the word's beginnings, the longest first. Nothing here is clever, so that it can be held against the
-   scope document and the requests line by line.
+   stream, or a text read so far, ends with by comparing the word's beginnings, the longest first. Nothing here is clever, so that it can
+   be held against the scope document and the requests line by line.
 
    Compiled with -DSLIP=n it has one mistake on purpose, to show that the comparison finds it (tools/second-opinion --slips). The mistakes:
      slip 1: the letters of a file are asked for after the rooms (5 and 3 exchanged)
@@ -79,7 +79,38 @@
      slip 81: success writes an offset of 0
      slip 82: a search with a file writes no offset
      slip 83: 4 writes an offset of 0
-   slip 31, slip 32, slip 67, slip 68, slip 69, slip 84 and slip 85 stand in compare.c, slip 33, slip 34 and slip 70 in fuzz.c. */
+     slip 86: turbo reads backward to the window's start, below c
+     slip 87: turbo forgets h after a find
+     slip 88: turbo does not count what it reads forward
+     slip 89: turbo moves c past f+1
+     slip 90: turbo keeps h where an arrow is missing
+     slip 91: turbo goes on forward while 2h is above m
+     slip 92: turbo goes on forward while h is at least m/2, rounded down
+     slip 93: turbo goes on forward only while the window at hand ends inside the text
+     slip 94: turbo looks at the next window's end before it reads forward
+     slip 95: turbo goes on forward past the text
+     slip 96: turbo never goes on past the window's end
+     slip 97: turbo reads nothing forward where an arrow is missing
+     slip 98: turbo leaves c where it is when an arrow is missing
+     slip 99: turbo lets h be all of the word after a find
+     slip 100: turbo's h after a find is the longest border's own longest border
+     slip 101: turbo starts its window at c
+     slip 102: turbo does not count the letter without an arrow
+     slip 103: turbo does not look at a window that ends with the text
+     slip 104: turbo lists no find that ends past its window
+     slip 105: turbo reads with the arrows of the word and not of its mirror
+     slip 106: turbo leaves the tables of the word and not of its mirror
+     slip 107: turbo answers a short text before the tables are filled
+     slip 108: turbo judges 3 before 4
+     slip 109: turbo judges 4 before 2
+     slip 110: turbo takes a text one byte too long
+     slip 111: turbo counts finds as far as they fit
+     slip 112: turbo lists a find behind the list's end
+     slip 113: turbo answers beside 4
+     slip 114: turbo takes one beginning too short, where h is looked for
+     slip 115: turbo falls to one border only, where h is carried
+   slip 31, slip 32, slip 67, slip 68, slip 69, slip 84, slip 85 and slip 116 to slip 120 stand in compare.c, slip 33, slip 34 and slip 70 in
+   fuzz.c. */
 #include "second.h"
 
 #include <stdbool.h>
@@ -415,6 +446,119 @@ static void mirror(const uint8_t *word, size_t m, uint8_t *out)
         out[i] = word[m - 1 - i];
 }
 
+/* ---- the search that is linear on hostile text ---- */
+
+struct turbo {
+    const uint8_t *word, *text;
+    size_t m, n;
+    bool looks;       /* h is looked for; else it is carried along the borders */
+    size_t border;    /* the word's longest */
+    size_t c, h, low; /* low is the last f+1 */
+    uint64_t letters, count;
+    uint32_t *finds;
+    size_t finds_len;
+};
+
+/* the longest beginning of the word, all of it too, that ends at c and starts no sooner than low */
+static size_t look_for_h(const struct turbo *t)
+{
+    size_t k = t->c - t->low < t->m ? t->c - t->low : t->m;
+    while (memcmp(t->word, t->text + t->c - k, k) != 0)
+        k--;
+    return SLIP == 114 && k > 2 && k < t->m ? k - 1 : k;
+}
+
+/* h after one letter more, where borders[k] is the longest border of the word's first k letters, known up to h */
+static size_t carry_h(const uint8_t *word, const uint16_t *borders, size_t h, uint8_t letter)
+{
+    while (h > 0 && word[h] != letter) {
+        h = borders[h];
+        if (SLIP == 115)
+            break;
+    }
+    return word[h] == letter ? h + 1 : 0;
+}
+
+static const uint16_t *all_borders(const uint8_t *word, size_t m)
+{
+    static uint16_t borders[STATES];
+    borders[0] = borders[1] = 0;
+    for (size_t k = 2; k <= m; k++)
+        borders[k] = (uint16_t)carry_h(word, borders, borders[k - 1], word[k - 1]);
+    return borders;
+}
+
+/* from the window's end down to c; whether an arrow is missing */
+static bool read_backward(struct turbo *t, size_t end)
+{
+    unsigned state = 0;
+    for (size_t f = end; f-- > (SLIP == 86 ? end - t->m : t->c);) {
+        t->letters++;
+        state = arrow(state, t->text[f]);
+        if (state != 0)
+            continue;
+        t->letters -= SLIP == 102;
+        if (SLIP != 98)
+            t->c = t->low = f + 1 + (SLIP == 89);
+        if (SLIP != 90)
+            t->h = 0;
+        return true;
+    }
+    return false;
+}
+
+static void turbo_find(struct turbo *t, size_t end)
+{
+    if (SLIP == 104 && t->c > end)
+        return;
+    if (t->count < t->finds_len + (SLIP == 112 && t->finds_len > 0))
+        t->finds[t->count] = (uint32_t)(t->c - t->m);
+    if (SLIP != 111 || t->count < t->finds_len)
+        t->count++;
+}
+
+/* whether to read on behind the window's end */
+static bool goes_on(const struct turbo *t)
+{
+    bool far = SLIP == 91 ? 2 * t->h > t->m : SLIP == 92 ? t->h >= t->m / 2 : 2 * t->h >= t->m;
+    if (SLIP == 93 && t->c - t->h + t->m > t->n)
+        return false;
+    return far && SLIP != 96 && t->c < t->n + (SLIP == 95);
+}
+
+/* from c to the window's end, and on */
+static void read_forward(struct turbo *t, size_t end, const uint16_t *borders)
+{
+    while (t->c < end || goes_on(t)) {
+        t->letters += SLIP != 88;
+        t->c++;
+        t->h = t->looks ? look_for_h(t) : carry_h(t->word, borders, t->h, t->text[t->c - 1]);
+        if (t->h == t->m) {
+            turbo_find(t, end);
+            t->h = SLIP == 87 ? 0 : SLIP == 99 && t->c < t->n ? t->m : t->border;
+        }
+    }
+}
+
+/* the steps, with the oracle at hand, which is of the mirror of the word */
+static void turbo_steps(struct turbo *t)
+{
+    const uint16_t *borders = t->looks ? NULL : all_borders(t->word, t->m);
+    t->border = longest_border(t->word, t->m);
+    if (SLIP == 100 && t->border > 0)
+        t->border = longest_border(t->word, t->border);
+    for (;;) {
+        size_t end = t->c - (SLIP == 101 ? 0 : t->h) + t->m;
+        if (end + (SLIP == 103) > t->n)
+            return;
+        bool missing = read_backward(t, end);
+        if (SLIP == 94 && t->c - t->h + t->m > t->n)
+            return;
+        if (SLIP != 97 || !missing)
+            read_forward(t, end, borders);
+    }
+}
+
 /* ---- streams ---- */
 
 static uint64_t bytes_taken(const uint8_t *searcher)
@@ -512,7 +656,7 @@ static uint64_t take_piece(uint8_t *searcher, const uint8_t *piece, size_t piece
     return SLIP == 60 && count > finds_len ? finds_len : count;
 }
 
-/* ---- the seven entries ---- */
+/* ---- the eight entries ---- */
 
 uint32_t second_build(const uint8_t *word, size_t word_len, uint16_t *tables, size_t tables_len, uint64_t *m)
 {
@@ -611,6 +755,50 @@ uint32_t second_search(const uint8_t *word, size_t word_len, const uint8_t *text
     *count = list_occurrences(word, word_len, text, text_len, 0, finds, finds_len);
     *letters = letters_read(word, word_len, text, text_len);
     return 0;
+}
+
+static uint32_t turbo(bool looks, const uint8_t *word, size_t word_len, const uint8_t *text, size_t text_len, uint16_t *tables,
+                      size_t tables_len, uint32_t *finds, size_t finds_len, uint64_t *count, uint64_t *letters)
+{
+    uint8_t mirrored[MOST_LETTERS];
+    struct turbo t = {.word = word, .text = text, .m = word_len, .n = text_len, .looks = looks, .finds = finds, .finds_len = finds_len};
+    if (word_len == 0)
+        return 1;
+    if (SLIP == 109 && text_len > MOST_TEXT)
+        return 4;
+    if (word_len > MOST_LETTERS)
+        return 2;
+    if (SLIP == 108 && tables_len < entries(word_len))
+        return 3;
+    if (text_len > MOST_TEXT + (SLIP == 110)) {
+        if (SLIP == 113)
+            *count = 0;
+        return 4;
+    }
+    if (tables_len < entries(word_len))
+        return 3;
+    mirror(word, word_len, mirrored);
+    make_oracle(SLIP == 106 ? word : mirrored, word_len);
+    if (SLIP != 107 || text_len >= word_len)
+        write_tables(SLIP == 106 ? word : mirrored, word_len, tables);
+    make_oracle(SLIP == 105 ? word : mirrored, word_len);
+    turbo_steps(&t);
+    *count = t.count;
+    *letters = t.letters;
+    return 0;
+}
+
+uint32_t second_turbo(const uint8_t *word, size_t word_len, const uint8_t *text, size_t text_len, uint16_t *tables, size_t tables_len,
+                      uint32_t *finds, size_t finds_len, uint64_t *count, uint64_t *letters)
+{
+    bool looks = (uint64_t)word_len * text_len <= MOST_LOOKED_FOR;
+    return turbo(looks, word, word_len, text, text_len, tables, tables_len, finds, finds_len, count, letters);
+}
+
+uint32_t second_turbo_carried(const uint8_t *word, size_t word_len, const uint8_t *text, size_t text_len, uint16_t *tables,
+                              size_t tables_len, uint32_t *finds, size_t finds_len, uint64_t *count, uint64_t *letters)
+{
+    return turbo(false, word, word_len, text, text_len, tables, tables_len, finds, finds_len, count, letters);
 }
 
 uint32_t second_search_file(const uint8_t *file, size_t file_len, const uint8_t *text, size_t text_len, uint8_t *room, size_t room_len,

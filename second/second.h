@@ -1,4 +1,4 @@
-/* A second opinion on the library: the same seven entries, written once more from the scope document and the requests, and from
+/* A second opinion on the library: the same eight entries, written once more from the scope document and the requests, and from
    docs/TABLE.md and docs/FILE.md where those leave the layout of the tables and of a searcher open, as plainly as can be.
    It shares no code and no definition with the proved library, is quadratic where that is simpler, and keeps its oracle in static
    memory (one caller at a time). Each answers the refusal's number, 0 for success; what is answered beside it goes through the last
@@ -20,6 +20,10 @@ enum {
     MOST_FILE = 8 * MOST_LETTERS /* a room of our own for a file: more than any has */
 };
 
+/* m times n, up to which second_turbo looks for h by comparing the word's beginnings with the text; above, it carries h along the word's
+   borders, as second_turbo_carried always does. The two must agree. */
+enum { MOST_LOOKED_FOR = 1 << 22 };
+
 /* Where a searcher has the word's letters, the longest border of each of the word's beginnings, how many letters the word has, how many
    of them are kept, and how many bytes were taken, low byte first. Kept is the longest beginning of the word, short of all of it, that
    ends with the last byte taken. */
@@ -35,6 +39,12 @@ uint32_t second_load(const uint8_t *file, size_t file_len, uint8_t *room, size_t
 
 uint32_t second_search(const uint8_t *word, size_t word_len, const uint8_t *text, size_t text_len, uint16_t *tables, size_t tables_len,
                        uint32_t *finds, size_t finds_len, uint64_t *count, uint64_t *letters);
+
+uint32_t second_turbo(const uint8_t *word, size_t word_len, const uint8_t *text, size_t text_len, uint16_t *tables, size_t tables_len,
+                      uint32_t *finds, size_t finds_len, uint64_t *count, uint64_t *letters);
+
+uint32_t second_turbo_carried(const uint8_t *word, size_t word_len, const uint8_t *text, size_t text_len, uint16_t *tables,
+                              size_t tables_len, uint32_t *finds, size_t finds_len, uint64_t *count, uint64_t *letters);
 
 uint32_t second_search_file(const uint8_t *file, size_t file_len, const uint8_t *text, size_t text_len, uint8_t *room, size_t room_len,
                             uint16_t *tables, size_t tables_len, uint32_t *finds, size_t finds_len, uint64_t *count, uint64_t *letters,
