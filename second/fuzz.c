@@ -1,4 +1,4 @@
-/* A target for a coverage-guided fuzzer (libFuzzer): its bytes become one call of one of the seven entries, which the proved library and
+/* A target for a coverage-guided fuzzer (libFuzzer): its bytes become one call of one of the eight entries, which the proved library and
    the second implementation both answer; whole outcomes must agree.
 
    What sees a stray access: the second implementation and this file are compiled with AddressSanitizer and UndefinedBehaviorSanitizer,
@@ -148,6 +148,16 @@ static void check_slice(const struct asked *a, int s, const struct lent *second,
             stop(a, "written beside: ", s, m, o);
 }
 
+/* whether turbo, after success on the second side, has the places where the word stands, and is the same where h is carried */
+static bool turbo_agrees(const struct lent *l, const struct outcome *o)
+{
+    static uint16_t tables[6 * (MOST_LETTERS + 1)];
+    uint64_t count = 0, letters = 0;
+    second_turbo_carried(l->at[INPUT], l->len[INPUT], l->at[TEXT], l->len[TEXT], tables, sizeof tables / sizeof *tables, NULL, 0, &count,
+                         &letters);
+    return count == o->answer[0] && letters == o->answer[1] && lists_places(l, count);
+}
+
 static void call_both(const struct asked *a)
 {
     struct lent library = {0}, second = {0};
@@ -163,9 +173,11 @@ static void call_both(const struct asked *a)
     struct outcome m = ask_marks(a->entry, &library), o = ask_second(a->entry, &second);
     if (!same_outcome(&m, &o))
         stop(a, "the number, the answers or the offset", -1, &m, &o);
-    const char *wrong = wrong_in_itself(a->entry, &m, a->len[INPUT]);
+    const char *wrong = wrong_in_itself(a->entry, &m, a->len);
     if (wrong != NULL)
         stop(a, wrong, -1, &m, &o);
+    if (a->entry == TURBO && m.number == 0 && !turbo_agrees(&second, &o))
+        stop(a, "other places than those where the word stands, or another outcome where h is carried", -1, &m, &o);
     for (int s = 0; s < SLICES; s++)
         if (is_lent(a, s)) {
             check_slice(a, s, &second, &m, &o);
@@ -178,7 +190,7 @@ static void call_both(const struct asked *a)
 /* the head: which call; flags; choices of tables, word room, output or searcher, and list; length of word, file or searcher, two bytes */
 enum { WHICH, FLAGS, TABLES_CHOICE, ROOM_CHOICE, OUT_CHOICE, LIST, INPUT_LOW, INPUT_HIGH, HEAD };
 
-/* the calls: seven entries on what is there; two on the file of a word, and one on the searcher of a word, changed at a few places */
+/* the calls: eight entries on what is there; two on the file of a word, and one on the searcher of a word, changed at a few places */
 enum { LOAD_CHANGED = ENTRIES, SEARCH_FILE_CHANGED, TAKE_CHANGED, CALLS };
 
 static enum entry entry_of(unsigned call)
@@ -428,6 +440,8 @@ static void seed_word(const uint8_t *word, size_t m)
     seed(OPEN, 1, word, m, text, 0);
     seed(SEARCH, 0, word, m, text, n);
     seed(SEARCH, 0xF0, word, m, text, 0);
+    seed(TURBO, 0, word, m, text, n);
+    seed(TURBO, 0xF0, word, m, text, 0);
     if (size > 0 && m <= MOST_STREAMED)
         seed_stream(word, m);
     if (size == 0)
@@ -494,7 +508,42 @@ static void seed_periodic(size_t m, size_t period)
     for (size_t i = 0; i < m; i++)
         mirrored[i] = text[m - 1 - i];
     seed(SEARCH, 0, text, m, text, n);
+    seed(TURBO, 1, text, m, text, n);
     seed(SEARCH_FILE, 1, file, file_of(mirrored, m, file), text, n);
+}
+
+/* a's, with a b in the first place, or the last, or every second one, or where a Fibonacci word has it */
+static void make_hostile(uint8_t *word, size_t m, unsigned kind)
+{
+    memset(word, 'a', m);
+    if (kind == 1 || kind == 2)
+        word[kind == 1 ? 0 : m - 1] = 'b';
+    for (size_t i = 1; i < m && kind == 3; i += 2)
+        word[i] = 'b';
+    for (size_t before = 1, last = 2, i = 1; i < m && kind == 4; i++) {
+        if (i == before + last) {
+            before = last;
+            last = i;
+        }
+        word[i] = i == 1 ? 'b' : word[i - last];
+    }
+}
+
+/* words and texts by strangers: each word in a's, in itself over and over, and in a Fibonacci text, against either page */
+static void seed_hostile(size_t m)
+{
+    uint8_t word[MOST_LETTERS], text[4 * MOST_LETTERS];
+    size_t n = 4 * m;
+    for (unsigned kind = 0; kind < 5; kind++) {
+        make_hostile(word, m, kind);
+        memset(text, 'a', n);
+        seed(TURBO, 0, word, m, text, n);
+        for (size_t i = 0; i < n; i++)
+            text[i] = word[i % m];
+        seed(TURBO, 1, word, m, text, n);
+        make_hostile(text, n, 4);
+        seed(TURBO, 0, word, m, text, n);
+    }
 }
 
 static void seed_hex(const char *hex)
@@ -566,6 +615,7 @@ static void write_seeds(void)
     static const size_t lengths[] = {16, 64, 65, 127, 128, 129, 300, 1024, 1025, MOST_LETTERS - 1, MOST_LETTERS, MOST_LETTERS + 1};
     static const size_t periodic[][2] = {{1, 1}, {3, 1}, {3, 2}, {4, 4}, {7, 3}, {8, 5}, {64, 8}, {256, 64}, {MOST_LETTERS, 2},
                                          {MOST_LETTERS, MOST_LETTERS / 2}};
+    static const size_t hostile[] = {1, 2, 3, 4, 5, 8, 13, 64, 256, MOST_LETTERS};
     uint8_t word[MOST_LETTERS + 1];
     uint32_t state = 1;
     for (size_t i = 0; i < sizeof words / sizeof *words; i++)
@@ -575,6 +625,8 @@ static void write_seeds(void)
     seed_spellings((const uint8_t *)"abbbaab", 7);
     for (size_t i = 0; i < sizeof periodic / sizeof *periodic; i++)
         seed_periodic(periodic[i][0], periodic[i][1]);
+    for (size_t i = 0; i < sizeof hostile / sizeof *hostile; i++)
+        seed_hostile(hostile[i]);
     for (size_t l = 0; l < sizeof lengths / sizeof *lengths; l++)
         for (unsigned kind = 0; kind < (lengths[l] <= 300 || lengths[l] == MOST_LETTERS ? 4 : 1); kind++) {
             for (size_t i = 0; i < lengths[l]; i++) {
