@@ -1,6 +1,6 @@
-/* What only a caller in C can hand over, a null pointer with length 0 for each buffer, and the deepest calls there are, every entry on eight threads at
- * once. Each thread has a stack of 64 KiB, or the least that the system gives where that is more, above a page that nobody may touch. It is painted before, and
- * less than 64 KiB of it may be touched, by the calls and by what a thread needs of its own. */
+/* What only a caller in C can hand over, a null pointer with length 0 for each buffer; turbo at its edges; and the deepest calls there are, every entry on
+ * eight threads at once. Each thread has a stack of 64 KiB, or the least that the system gives where that is more, above a page that nobody may touch. It is
+ * painted before, and less than 64 KiB of it may be touched, by the calls and by what a thread needs of its own. */
 #define _DEFAULT_SOURCE
 #include <inttypes.h>
 #include <pthread.h>
@@ -13,7 +13,7 @@
 
 enum { THREADS = 8, MOST = 64 * 1024, GUARD = MOST, PAINT = 0xa5, TEXT = 65536 };
 
-static uint16_t tables[MARKS_TABLES(1)];
+static uint16_t tables[MARKS_TABLES(1)], all_tables[MARKS_MOST_TABLES];
 static uint8_t room[1], out[4], searcher[MARKS_SEARCHER], long_text[MARKS_LONGEST_TEXT + 1];
 static uint32_t finds[2];
 static uint64_t count, letters, offset;
@@ -48,6 +48,10 @@ static void null_buffers(void)
     print_said("search, no tables", marks_search(a, 1, aa, 2, NULL, 0, finds, 2, &count, &letters));
     print_said("search, no text", marks_search(a, 1, NULL, 0, tables, 12, finds, 2, &count, &letters));
     print_said("search, no list", marks_search(a, 1, aa, 2, tables, 12, NULL, 0, &count, &letters));
+    print_said("turbo, no word", marks_turbo(NULL, 0, aa, 2, tables, 12, finds, 2, &count, &letters));
+    print_said("turbo, no tables", marks_turbo(a, 1, aa, 2, NULL, 0, finds, 2, &count, &letters));
+    print_said("turbo, no text", marks_turbo(a, 1, NULL, 0, tables, 12, finds, 2, &count, &letters));
+    print_said("turbo, no list", marks_turbo(a, 1, aa, 2, tables, 12, NULL, 0, &count, &letters));
     print_said("with a file, no file", marks_search_file(NULL, 0, aa, 2, room, 1, tables, 12, finds, 2, &count, &letters, &offset));
     print_said("with a file, no room", marks_search_file(file, 4, aa, 2, NULL, 0, tables, 12, finds, 2, &count, &letters, &offset));
     print_said("with a file, no tables", marks_search_file(file, 4, aa, 2, room, 1, NULL, 0, finds, 2, &count, &letters, &offset));
@@ -73,14 +77,45 @@ static void null_buffers_of_streams(void)
     printf(", %" PRIu64 " places\n", count);
 }
 
+/* a word in a text; a list of two entries is lent, or none of it */
+static void turbo_in(const char *word, const char *text, size_t list)
+{
+    uint32_t said = marks_turbo((const uint8_t *)word, strlen(word), (const uint8_t *)text, strlen(text), all_tables, MARKS_MOST_TABLES, finds, list, &count,
+                                &letters);
+    printf("turbo, %s in %s, list of %zu: %" PRIu32 ", %" PRIu64 " letters, %" PRIu64 " places:", word, text, list, said, letters, count);
+    for (size_t i = 0; i < count && i < list; i++)
+        printf(" %" PRIu32, finds[i]);
+    printf("\n");
+}
+
+/* each refusal where the later ones would be given too; the examples; a text shorter than the word; the longest word in the longest text, both zeros */
+static void turbo_edges(void)
+{
+    const uint8_t *aa = (const uint8_t *)"aa", *zeros = long_text;
+    const size_t longer = MARKS_LONGEST_WORD + 1, too_long = sizeof long_text, most = MARKS_LONGEST_TEXT;
+    print_said("turbo, empty word, too long a text, no tables", marks_turbo(aa, 0, zeros, too_long, tables, 0, finds, 2, &count, &letters));
+    print_said("turbo, too long a word and a text, no tables", marks_turbo(zeros, longer, zeros, too_long, tables, 0, finds, 2, &count, &letters));
+    print_said("turbo, too long a text, a table entry too few", marks_turbo(aa, 1, zeros, too_long, tables, 11, finds, 2, &count, &letters));
+    print_said("turbo, a table entry too few", marks_turbo(aa, 1, zeros, most, tables, 11, finds, 2, &count, &letters));
+    turbo_in("aba", "ababa", 2);
+    turbo_in("aba", "ababa", 1);
+    turbo_in("aba", "ababa", 0);
+    turbo_in("aaaa", "abaaa", 2);
+    turbo_in("aa", "ba", 2);
+    turbo_in("ab", "ab", 2);
+    turbo_in("abc", "ab", 2);
+    print_said("turbo, the longest word in the longest text",
+               marks_turbo(zeros, MARKS_LONGEST_WORD, zeros, most, all_tables, MARKS_MOST_TABLES, finds, 2, &count, &letters));
+}
+
 /* the longest word of a's and one b: its last letter climbs over every state, and does so too where the mirror is looked for, which stands in the text at a
  * place of the thread's own; the first letters of the mirror, as many as a stream's word can have, are looked for in two pieces, cut inside of the find */
 struct work {
     uint8_t word[MARKS_LONGEST_WORD], mirror[MARKS_LONGEST_WORD], text[TEXT], room[MARKS_LONGEST_WORD], file[MARKS_MOST_FILE];
     uint16_t tables[MARKS_MOST_TABLES];
     uint8_t searcher[MARKS_SEARCHER];
-    uint32_t finds[2], file_finds[2], stream_finds[2], said;
-    uint64_t m, length, count, file_count, before_cut, stream_count, letters, offset;
+    uint32_t finds[2], turbo_finds[2], file_finds[2], stream_finds[2], said;
+    uint64_t m, length, count, turbo_count, file_count, before_cut, stream_count, letters, offset;
     size_t cut;
     uint8_t *stack;
 };
@@ -109,6 +144,7 @@ static void *deepest(void *mine)
     w->said += marks_save(w->word, MARKS_LONGEST_WORD, w->tables, MARKS_MOST_TABLES, w->file, MARKS_MOST_FILE, &w->length);
     w->said += marks_load(w->file, w->length, w->room, MARKS_LONGEST_WORD, w->tables, MARKS_MOST_TABLES, &w->m, &w->offset);
     w->said += marks_search(w->mirror, MARKS_LONGEST_WORD, w->text, TEXT, w->tables, MARKS_MOST_TABLES, w->finds, 2, &w->count, &w->letters);
+    w->said += marks_turbo(w->mirror, MARKS_LONGEST_WORD, w->text, TEXT, w->tables, MARKS_MOST_TABLES, w->turbo_finds, 2, &w->turbo_count, &w->letters);
     w->said += marks_search_file(w->file, w->length, w->text, TEXT, w->room, MARKS_LONGEST_WORD, w->tables, MARKS_MOST_TABLES, w->file_finds, 2,
                                  &w->file_count, &w->letters, &w->offset);
     w->said += marks_open(w->mirror, MARKS_LONGEST_STREAMED, w->searcher, MARKS_SEARCHER);
@@ -134,6 +170,7 @@ int main(void)
     size_t most = 0;
     null_buffers();
     null_buffers_of_streams();
+    turbo_edges();
     for (int i = 0; i < THREADS; i++) {
         memset(works[i].word, 'a', MARKS_LONGEST_WORD - 1);
         works[i].word[MARKS_LONGEST_WORD - 1] = 'b';
@@ -150,6 +187,7 @@ int main(void)
             return 1;
         printf("thread %d: %" PRIu32 ", file of %" PRIu64 " bytes, %" PRIu64 " place at %" PRIu32 ", with the file %" PRIu64 " at %" PRIu32, i, works[i].said,
                works[i].length, works[i].count, works[i].finds[0], works[i].file_count, works[i].file_finds[0]);
+        printf(", by turbo %" PRIu64 " at %" PRIu32, works[i].turbo_count, works[i].turbo_finds[0]);
         printf(", in pieces %" PRIu64 " and %" PRIu64 " at %" PRIu32 "\n", works[i].before_cut, works[i].stream_count, works[i].stream_finds[0]);
         most = touched(works[i].stack) > most ? touched(works[i].stack) : most;
     }
