@@ -80,14 +80,14 @@ going-start i s f n = record {
   few = n;
   same-size = refl;
   follows = λ low b k. record {
-      more = [];
-      below = b;
-      keeps = k;
-      place = refl;
-      starts = refl;
-      number = omega arith;
-      list = λ l G z q. same-list l G q;
-    };
+    more = [];
+    below = b;
+    keeps = k;
+    place = refl;
+    starts = refl;
+    number = omega arith;
+    list = λ l G z q. same-list l G q;
+  };
 }
 
 module _ {w t : Word} {e c₀ h₀ count₀ : ℕ} {F₀ F : List ℕ} {c h count : ℕ} (I : Going w t e c₀ h₀ count₀ F₀ F c h count)

@@ -30,7 +30,14 @@ pub struct Stop {
 }
 
 // Reads the letters from the window's end down to c, where `keep` letters are kept.
-fn read_back(table: &[u16], m: usize, text: &[u8], c: words::Place, keep: usize, end: usize) -> Begin
+fn read_back(
+    table: &[u16],
+    m: usize,
+    text: &[u8],
+    c: words::Place,
+    keep: usize,
+    end: usize,
+) -> Begin
     requires { ⌜ (c .0 ≤ end) × (end ≤ length (now text)) × (length (now text) ≤ longestText) ⌝ }
     requires { ⌜ Formed (now table) m ⌝ }
     ensures { λ r. ⌜ r ≡ beginsAt (c .0) keep (readDown (readArrow m (now (table .entry))) (now (text .entry)) (c .0) (end - c .0) 0) ⌝ }

@@ -112,9 +112,9 @@ module _ (w t : Word) (low : Place) (some-letter : 1 ≤ length w) where
         passed j l u g = by-cases (decLt (suc c) (j + length w))
             (λ b. none-before j (omega (arith, fits .1)) b u g)
             (λ b.
-                let place : j ≡ suc c - length w = omega (arith, fits .0) in
-                short-ends-not w t some-letter below more less
-                (told-ends w t low (suc c) (omega (arith, fits .1)) (rw place at g)))
+            let place : j ≡ suc c - length w = omega (arith, fits .0) in
+            short-ends-not w t some-letter below more less
+            (told-ends w t low (suc c) (omega (arith, fits .1)) (rw place at g)))
 
     letter-starts : ahead c ≡ foundAt w t low (suc c) ++ ahead (suc c)
     letter-starts = by-cases (decLt end (length w)) letter-passes (λ b. letter-finds (omega arith))

@@ -70,8 +70,8 @@ module _ (δ : Delta) (w t : Word) (low c : Place) where
   window-moves some-letter l u h = option-cases (back .failed)
       (λ e. moves (rw e l) (rw e (le-refl c)) (rw e (omega (arith, longer))))
       (λ f e.
-          let p = failed-place δ t c (windowEnd w t low c - c) 0 f e in
-          moves (rw e (le-refl _)) (rw e (omega (arith, p .not-before))) (rw e (omega (arith, p .before-end, longer))))
+      let p = failed-place δ t c (windowEnd w t low c - c) 0 f e in
+      moves (rw e (le-refl _)) (rw e (omega (arith, p .not-before))) (rw e (omega (arith, p .before-end, longer))))
     where
       longer : c < windowEnd w t low c
       longer = omega (arith, kept-short w t low c some-letter, kept-past w t low c l u some-letter)
@@ -96,11 +96,11 @@ windows-induction
 windows-induction δ w t P some-letter past one zero low c f l u = absurd (omega arith)
 windows-induction δ w t P some-letter past one (suc k) low c f l u = by-cases (decLe (windowEnd w t low c) (length t))
     (λ h.
-        let M = window-moves δ w t low c some-letter l u h in
-        let R = M .reads in
-        let later = windows-induction δ w t P some-letter past one k _ (forth δ w t low c .place) (omega (arith, R .past, M .longer))
-        (omega (arith, M .below, R .counted)) (R .inside) in
-        rw (windows-one δ w t low c k h) (one low c _ l u h M later))
+    let M = window-moves δ w t low c some-letter l u h in
+    let R = M .reads in
+    let later = windows-induction δ w t P some-letter past one k _ (forth δ w t low c .place) (omega (arith, R .past, M .longer))
+    (omega (arith, M .below, R .counted)) (R .inside) in
+    rw (windows-one δ w t low c k h) (one low c _ l u h M later))
     (λ h. rw (windows-past δ w t low c (suc k) (omega arith)) (past low c u (omega arith)))
 
 -- ── The letters ────────────────────────────────────────────────────────────
@@ -148,11 +148,11 @@ module _ {w : Word} {δ : Delta} (W : Walker w δ) (t : Word) (some-letter : 1 �
   windows-list = windows-induction δ w t (λ low c r. r .starts ≡ ahead w t low some-letter c) some-letter
       (λ low c u h. sym (since-past w t (c - keptAt w t low c) (omega arith)))
       (λ low c later l u h M rec.
-          let place = from-place δ w t low c in
-          ap (λ (r : List Place). forth δ w t low c .starts ++ r) rec
-          ∙ sym (forward-starts w t (next-low δ w t low c) some-letter (windowEnd w t low c) (length t - place) place
-          (omega (arith, M .within)) (M .below))
-          ∙ sym (back-loses-none low c l u h M))
+      let place = from-place δ w t low c in
+      ap (λ (r : List Place). forth δ w t low c .starts ++ r) rec
+      ∙ sym (forward-starts w t (next-low δ w t low c) some-letter (windowEnd w t low c) (length t - place) place
+      (omega (arith, M .within)) (M .below))
+      ∙ sym (back-loses-none low c l u h M))
 
   -- the search lists the occurrences
   pub steps-list : turboSteps δ w t .starts ≡ occurrences w t
