@@ -1068,7 +1068,7 @@ static void short_texts_turbo(void)
 
 static void short_texts_over_3(void)
 {
-    every_turbo(3, 5, 8);
+    every_turbo(3, 4, 8);
 }
 
 static void longer_texts_turbo(void)
@@ -2279,9 +2279,9 @@ static void part(const char *name, void (*run)(void))
 
 static void mixed_cases(void)
 {
-    for (int i = 0; i < 600000; i++) {
+    for (int i = 0; i < 500000; i++) {
         mixed_case();
-        if (i % 24 == 0)
+        if (i % 20 == 0)
             mixed_stream();
     }
 }
@@ -2349,7 +2349,7 @@ static void all_parts(bool costly)
     part("every word of 1 to 8 letters over 3: build, save, load back, search", short_words);
     part("every word of 1 to 6 letters over 2 in every text of up to 10: both searches", short_texts);
     part("every word of 1 to 7 letters over 2 in every text of up to 12: turbo", short_texts_turbo);
-    part("every word of 1 to 5 letters over 3 in every text of up to 8: turbo", short_texts_over_3);
+    part("every word of 1 to 4 letters over 3 in every text of up to 8: turbo", short_texts_over_3);
     part("words of 1 to 64 letters, of every period, and longer ones, in texts of the same period", same_periods);
     part("words of 1 letter to the most, and texts, by strangers: turbo", hostile_words);
     part("openings of streams", openings);
