@@ -3,16 +3,16 @@
 -- there, and started at c - h, or it stands nowhere before what is kept then.
 use mathlib.Core.Path.{_≡_, refl, sym, ap, _∙_}
 use mathlib.Core.Bool.{Bool, true, false, _||_}
-use mathlib.Core.Logic.{by-cases}
+use mathlib.Core.Logic.{by-cases, _⊎_, inl, inr}
 use mathlib.Core.List.{List, [], _∷_, _++_, append-assoc}
-use Prim.Native.Nat.{ℕ, zero, suc, _+_, _-_, _≤_, _<_}
+use Prim.Native.Nat.{ℕ, zero, suc, _+_, _-_, _*_, _≤_, _<_}
 use native.Mathlib.Decide.{decLt}
 use native.Mathlib.Omega.{arith}
 use lib.ListN.{length}
 use lib.Dec.{ltb}
-use borrow.Author.Tests.{ltb-false}
+use borrow.Author.Tests.{ltb-false, leb-false}
 use Rattle.words.specs.Words.{Word, Place, letter, stands}
-use Rattle.words.proofs.Lists.{test-cases}
+use Rattle.words.proofs.Lists.{test-cases, true-not-false}
 use Rattle.words.proofs.Occurrences.{since, since-here, since-later}
 use Rattle.border.specs.Borders.{longestEnd}
 use Rattle.pieces.specs.Kept.{heard}
@@ -23,6 +23,10 @@ use Rattle.turbo_steps.proofs.Between.{kept-grows, short-ends-not, whol
 or-false : (a b : Bool) → a || b ≡ false → a ≡ false
 or-false true b e = e
 or-false false b e = refl
+
+or-false-right : (a b : Bool) → a || b ≡ false → b ≡ false
+or-false-right true b e = true-not-false e
+or-false-right false b e = e
 
 module _ (w t : Word) (low e : Place) where
   pub forward-done : (c : Place) → forward w t low e 0 c ≡ stopsAt c
@@ -64,6 +68,14 @@ module _ (w t : Word) (low e : Place) where
       (λ c s. record { counted = omega arith; inside = omega arith; past = omega arith })
       (λ c s q. record { counted = omega arith; inside = s; past = ltb-false c e (or-false (ltb c e) _ q) })
       (λ c r s R. record { counted = omega (arith, R .counted); inside = R .inside; past = R .past })
+
+  -- and why it stops: at the text's end, or where less than half the word is kept
+  pub forward-why : (k : ℕ) (c : Place) → k + c ≡ length t → let r = forward w t low e k c in
+      (r .place ≡ length t) ⊎ (2 * keptAt w t low (r .place) < length w)
+  forward-why = forward-induction (λ c r. (r .place ≡ length t) ⊎ (2 * keptAt w t low (r .place) < length w))
+      (λ c s. inl s)
+      (λ c s q. inr (leb-false _ _ (or-false-right (ltb c e) _ q)))
+      (λ c r s R. R)
 
 -- ── The finds ──────────────────────────────────────────────────────────────
 
