@@ -1,31 +1,30 @@
 -- LINEAR ON HOSTILE TEXT, the fifth request of 02, sentence by sentence: each is quoted, and under it stands what says just that.
-use mathlib.Core.Path.{_≡_, refl, sym, ap, _∙_}
-use mathlib.Core.Bool.{true, false}
-use mathlib.Core.Logic.{_↔_, _⊎_, inl, inr}
+use mathlib.Core.Path.{_≡_, refl, ap}
+use mathlib.Core.Bool.{true}
+use mathlib.Core.Logic.{_↔_, _⊎_}
 use mathlib.Core.Option.{none, some}
-use mathlib.Core.List.{List, _++_}
+use mathlib.Core.List.{List}
 use Prim.Native.Nat.{ℕ, suc, _+_, _-_, _*_, _≤_, _<_}
 use native.Mathlib.Omega.{arith}
-use lib.ListN.{length, take, drop}
+use lib.ListN.{length}
 use Rattle.words.specs.Lists.{Rising}
-use Rattle.words.specs.Words.{Word, Place, part, mirror, stands, occurrences}
+use Rattle.words.specs.Words.{Word, Place, part, stands, occurrences}
 use Rattle.words.specs.Limits.{longestWord, longestText}
 use Rattle.border.specs.Borders.{longestBorder}
 use Rattle.oracle.specs.Arrows.{Delta}
-use Rattle.table.specs.Table.{room, tableOf}
-use Rattle.finds.specs.Finds.{filled}
+use Rattle.table.specs.Table.{room}
 use Rattle.answers.specs.Answers.{done, refused}
 use Rattle.backward.specs.Steps.{Sweep, nothing, backward}
 use Rattle.backward.proofs.Reading.{failed-place, whole-letters}
-use Rattle.turbo_steps.specs.Turbo.{keptAt, endsAt, foundAt, stopsAt, oneLetter, forward, windowEnd, readBack, nextLow, nextPlace, readForth}
+use Rattle.turbo_steps.specs.Turbo.{keptAt, endsAt, forward, windowEnd, readBack, nextLow, nextPlace, readForth}
 use Rattle.turbo_steps.specs.Turbo.{turboWindows, turbo}
 use Rattle.turbo_steps.proofs.Between.{kept-short, kept-past, kept-fresh, kept-ends, kept-is-longest}
-use Rattle.turbo_steps.proofs.Forward.{Reads, forward-counts, forward-why}
+use Rattle.turbo_steps.proofs.Forward.{forward-counts, forward-why}
 use Rattle.turbo_steps.proofs.Windows as Windows
 use Rattle.turbo_steps.proofs.Theorems.{turbo-lists-occurrences, turbo-rises, turbo-letters-most, turbo-after-find, turbo-short}
 use Rattle.marks.specs.Search
 use Rattle.marks.specs.Search.{Outcome, searchSays}
-use Rattle.linear.specs.Turbo.{found, turboSays}
+use Rattle.linear.specs.Turbo.{turboSays}
 use Rattle.linear.specs.Cases.{TurboCase}
 use Rattle.linear.proofs.TurboSays.{turbo-is, turbo-leaves, turbo-refused, turbo-refusal-leaves}
 
@@ -64,7 +63,7 @@ module _ (w t : Word) (some-letter : 1 ≤ length w) where
     pub never-below : (δ : Delta) (f : Place) → readBack δ w t low c .failed ≡ some f
         → (c ≤ f) × (readBack δ w t low c .letters ≡ windowEnd w t low c - f)
     never-below δ f e =
-        let longer : c ≤ windowEnd w t low c = omega (arith, kept-short w t low c some-letter, kept-past w t low c below inside some-letter) in
+        let longer : c ≤ windowEnd w t low c = omega (arith, h-is-longest .0, h-is-longest .1) in
         let p = failed-place δ t c (windowEnd w t low c - c) 0 f e in
         (p .not-before, omega (arith, p .counted))
 
@@ -77,8 +76,8 @@ module _ (w t : Word) (some-letter : 1 ≤ length w) where
         → (nextPlace δ w t low c ≡ f + 1) × (nextLow δ w t low c ≡ f + 1) × (keptAt w t (nextLow δ w t low c) (nextPlace δ w t low c) ≡ 0)
     set-behind δ f l e =
         let p = failed-place δ t c (windowEnd w t low c - c) 0 f e in
-        let longer = h-is-longest .0 in
-        rw e (refl, refl, kept-fresh w t (f + 1) some-letter (omega (arith, p .before-end, longer, h-is-longest .1)))
+        let inside′ : f + 1 ≤ n = omega (arith, p .before-end, h-is-longest .0, h-is-longest .1) in
+        rw e (refl, refl, kept-fresh w t (f + 1) some-letter inside′)
 
   -- ── 'Then, missing or not, read forward from c to the end of the window just read, keeping c and h, and on while 2h is at least m and
   --    text remains;' ──

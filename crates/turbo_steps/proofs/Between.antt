@@ -1,8 +1,8 @@
 -- WHAT IS KEPT AND FOUND AT A PLACE, of the letters between `low` and c. A place from `low` on at which the word stands, but does not yet
 -- end, starts no sooner than what is kept. With one letter more only what is kept matters: the longest beginning that ends with the letter
 -- says what is kept then, and whether the word ends there.
-use mathlib.Core.Path.{_≡_, refl, sym, ap, _∙_}
-use mathlib.Core.Bool.{Bool, true, false, cond, _&&_}
+use mathlib.Core.Path.{_≡_, sym, ap, _∙_}
+use mathlib.Core.Bool.{true}
 use mathlib.Core.List.{List, [], _∷_, _++_, map, append-nil, List·Memᴰ}
 use Prim.Native.Nat.{ℕ, suc, _+_, _-_, _≤_, _<_}
 use native.Mathlib.Nat.{le-refl, zero-add}
@@ -12,16 +12,15 @@ use lib.Seq.{getD-append-add, ext-getD}
 use lib.Dec.{leb}
 use borrow.Author.Tests.{leb-true, le-leb}
 use Rattle.words.specs.Words.{Word, Place, letter, part, stands, occurrences}
-use Rattle.words.proofs.Lists.{and-true, true-not-false, entry-in}
+use Rattle.words.proofs.Lists.{and-true, entry-in}
 use Rattle.words.proofs.Words.{part-length, part-at, part-snoc, part-of-part}
 use Rattle.words.proofs.Occurrences.{stands-letters, occurrence-stands, standing-occurs}
 use Rattle.border.specs.Borders.{longestBorder, longestEnd}
-use Rattle.border.proofs.Closing.{Closing}
 use Rattle.pieces.specs.Kept.{kept, heard}
 use Rattle.pieces.proofs.Kept.{kept-shorter, kept-closing, kept-within, kept-longest}
 use Rattle.pieces.proofs.OnlyKept.{kept-goes-on, finds-go-on}
 use Rattle.pieces.proofs.OneLetter.{short-kept, short-finds, whole-length, whole-kept, whole-finds}
-use Rattle.turbo_steps.specs.Turbo.{between, keptAt, endsAt, foundAt}
+use Rattle.turbo_steps.specs.Turbo.{between, keptAt, endsAt}
 
 -- ── Ends, and the word itself ──────────────────────────────────────────────
 
