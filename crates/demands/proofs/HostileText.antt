@@ -6,9 +6,9 @@ use mathlib.Core.Option.{none, some}
 use mathlib.Core.List.{List}
 use Prim.Native.Nat.{ℕ, suc, _+_, _-_, _*_, _≤_, _<_}
 use native.Mathlib.Omega.{arith}
-use lib.ListN.{length}
+use lib.ListN.{length, replicate}
 use Rattle.words.specs.Lists.{Rising}
-use Rattle.words.specs.Words.{Word, Place, part, stands, occurrences}
+use Rattle.words.specs.Words.{Letter, Word, Place, part, stands, occurrences}
 use Rattle.words.specs.Limits.{longestWord, longestText}
 use Rattle.border.specs.Borders.{longestBorder}
 use Rattle.oracle.specs.Arrows.{Delta}
@@ -16,6 +16,7 @@ use Rattle.table.specs.Table.{room}
 use Rattle.answers.specs.Answers.{done, refused}
 use Rattle.backward.specs.Steps.{Sweep, nothing, backward}
 use Rattle.backward.proofs.Reading.{failed-place, whole-letters}
+use Rattle.backward.proofs.Repeated.{repeated-letters}
 use Rattle.turbo_steps.specs.Turbo.{keptAt, endsAt, forward, windowEnd, readBack, nextLow, nextPlace, readForth}
 use Rattle.turbo_steps.specs.Turbo.{turboWindows, turbo}
 use Rattle.turbo_steps.proofs.Between.{kept-short, kept-past, kept-fresh, kept-ends, kept-is-longest}
@@ -27,6 +28,12 @@ use Rattle.marks.specs.Search.{Outcome, searchSays}
 use Rattle.linear.specs.Turbo.{turboSays}
 use Rattle.linear.specs.Cases.{TurboCase}
 use Rattle.linear.proofs.TurboSays.{turbo-is, turbo-leaves, turbo-refused, turbo-refusal-leaves}
+
+-- ── 'A text of one repeated letter makes the search read each letter many times.' ──
+
+-- a word of m such letters: the backward search reads m at each place, as many as it can
+pub read-many-times : (a : Letter) (m n : ℕ) → 1 ≤ m → m ≤ n → backward (replicate m a) (replicate n a) .letters ≡ m * (n - m + 1)
+read-many-times = repeated-letters
 
 module _ (w t : Word) (some-letter : 1 ≤ length w) where
   abbrev m : ℕ
