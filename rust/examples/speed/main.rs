@@ -1,9 +1,11 @@
-//! speed [TABLE..]: measures `build`, `load`, `search` and `take` on this machine, and prints the tables of docs/SPEED.md, or those that are named, each
+//! speed [TABLE..]: measures `build`, `load`, `search`, `turbo` and `take` on this machine, and prints the tables of docs/SPEED.md, or those that are named, each
 //! between two lines that name it. Run it by `tools/speed`.
 
 mod clock;
+mod linear;
 mod pieces;
 mod plain;
+mod plain_forward;
 mod plain_stream;
 mod rivals;
 
@@ -185,18 +187,6 @@ fn letters_read() {
     }
 }
 
-/// One repeated letter: the worst text there is for this search.
-fn hostile_times() {
-    println!("| Word | m | {RACE} letters read |\n|---|---|---|---|---|---|---|---|");
-    let text = vec![b'a'; 1 << 20];
-    for m in [4usize, 16, 64, 256, 1024] {
-        let word = vec![b'a'; m];
-        race_line(format!("| a, m times | {m} |"), &word, &text);
-        race_line(format!("| b, then a | {m} |"), &[b"b", &word[1..]].concat(), &text);
-        race_line(format!("| a, then b | {m} |"), &[&word[1..], b"b"].concat(), &text);
-    }
-}
-
 /// So many random letters that are not a shorter word over and over.
 fn primitive(random: &mut Random, n: usize) -> Vec<u8> {
     loop {
@@ -228,12 +218,15 @@ fn periodic_times() {
 }
 
 /// The tables, each by its name.
-const TABLES: [(&str, fn()); 7] = [
+const TABLES: [(&str, fn()); 10] = [
     ("build", build_times),
     ("load", load_times),
     ("search", search_times),
     ("letters", letters_read),
-    ("hostile", hostile_times),
+    ("hostile", || linear::hostile_times(1 << 20)),
+    ("hostile_long", || linear::hostile_times(16 << 20)),
+    ("zeros", linear::zeros_times),
+    ("linear", linear::random_times),
     ("periodic", periodic_times),
     ("pieces", pieces::piece_times),
 ];
