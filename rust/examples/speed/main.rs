@@ -231,10 +231,10 @@ const TABLES: [(&str, fn()); 10] = [
     ("pieces", pieces::piece_times),
 ];
 
-fn main() {
+fn main() -> Result<(), String> {
     let wanted: Vec<String> = std::env::args().skip(1).collect();
-    for name in &wanted {
-        assert!(TABLES.iter().any(|table| table.0 == name), "there is no table {name}");
+    if let Some(unknown) = wanted.iter().find(|name| TABLES.iter().all(|table| table.0 != *name)) {
+        return Err(format!("there is no table {unknown}"));
     }
     for (name, measure) in TABLES {
         if wanted.is_empty() || wanted.iter().any(|one| one == name) {
@@ -243,4 +243,5 @@ fn main() {
             println!("<!-- end {name} -->");
         }
     }
+    Ok(())
 }
