@@ -121,7 +121,7 @@ pub fn hostile_times(n: usize) {
     println!("\nAt most {most:.2} times KMP: {at}.");
 }
 
-/// A mark of a device that writes zeros, in a file that it never filled.
+/// A word that stands nowhere, and of which the search reads nearly every letter at each place. The search is run, whatever it takes.
 pub fn zeros_times() {
     println!("| Word | {HOSTILE}\n|{}", "---|".repeat(9));
     let text = vec![0; 8 << 20];
