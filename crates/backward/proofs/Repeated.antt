@@ -1,6 +1,6 @@
--- A TEXT OF ONE REPEATED LETTER, and a word of the same: the word stands everywhere, so no window fails, and each is read whole; its longest
--- border is all of it but a letter, so the window moves by one place. So m letters are read at each place, and the bound on the letters is
--- reached.
+-- A TEXT OF ONE REPEATED LETTER, and a word of the same: the word stands everywhere, so no window fails, and each is read whole; its
+-- longest border is all of it but a letter, so the window moves by one place. So m letters are read at each place, and the bound on the
+-- letters is reached.
 use mathlib.Core.Path.{_≡_, sym, ap, _∙_}
 use mathlib.Core.Bool.{true}
 use mathlib.Core.Option.{none}
