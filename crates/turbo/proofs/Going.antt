@@ -103,9 +103,6 @@ module _ {w t : Word} {e c₀ h₀ count₀ : ℕ} {F₀ F : List ℕ} {c h coun
       → StopsAs w t e c₀ h₀ count₀ F₀ (record { place = record { 0 = c }; keep = h; count = count }) F
   going-stops says l = record {
     few = I .few;
-    short = I .short;
-    within = I .within;
-    same-size = I .same-size;
     as-forward = λ low b k. stopped low (I .follows low b k) (stops (length w) h (length t) e c fits (rw says at l));
   }
     where
