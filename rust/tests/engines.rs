@@ -239,9 +239,9 @@ fn listing_stays_linear_whatever_the_text() {
         }
         // stretches without a find, over which parts grow, before ones in which they do not fit the list
         let (mut text, word) = (Vec::new(), vec![b'a'; m]);
-        for stretch in [10_000, 300_000, 2_000_000, 50_000, 700_000] {
-            text.extend(vec![b'x'; stretch]);
-            text.extend(vec![b'a'; 16 * m.max(300)]);
+        for (without, crowded) in [(10_000, 4_200), (300_000, 4_200), (2_000_000, 200_000), (50_000, 4_200), (700_000, 100_000)] {
+            text.extend(vec![b'x'; without]);
+            text.extend(vec![b'a'; crowded]);
         }
         let (finds, letters) = listed(&mut mark(&word, Engine::Turbo), &text);
         assert_eq!(finds, plain(&word, &text));
