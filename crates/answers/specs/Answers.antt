@@ -60,8 +60,8 @@ line n s = record { number = n; given-when = s }
 
 unfoldable pub refusals : List Line
 refusals =
-    line emptyWord "the word is empty (build, save, search, open)"
-    ∷ line longWord "the word is longer than 4,096 (build, save, search), or than 64 (open)"
+    line emptyWord "the word is empty (build, save, search, turbo, open)"
+    ∷ line longWord "the word is longer than 4,096 (build, save, search, turbo), or than 64 (open)"
     ∷ line shortRoom "fewer than 6(m+1) table entries, or, with a file, word room below m; opening: fewer bytes than a searcher has"
     ∷ line longText "the text is longer than 16,777,216, or with the piece the stream would be"
     ∷ line 5 "the file ends before or inside a number, or before the last of the m letters"

@@ -18,7 +18,7 @@ use Rattle.words.proofs.Words.{part-length, part-of-part, mirror-injective, mir
 use Rattle.words.proofs.Occurrences.{stands-part, part-stands, stands-inside, since, since-start, since-past, since-here, since-later}
 use Rattle.oracle.specs.Arrows.{State, Delta, walk}
 use Rattle.oracle.proofs.Targets.{never}
-use Rattle.backward.specs.Steps.{Sweep, nothing, listed, readWindow, afterFind, nextWindow, windows, steps}
+use Rattle.backward.specs.Steps.{Sweep, nothing, listed, readDown, readWindow, afterFind, nextWindow, windows, steps}
 use Rattle.backward.proofs.Reading.{FailedAt, failed-place, reading-letters-most, whole-walked, failed-walk}
 use Rattle.backward.proofs.AfterFind.{after-moves, after-safe, after-mirror}
 
@@ -29,20 +29,20 @@ pub record Walker (w : Word) (δ : Delta) : Type 0 where
   pub factor : (a n : ℕ) → a + n ≤ length w → (y : State) × (walk δ 0 (part (mirror w) a n) ≡ some y)
   pub no-other : (v : Word) (y : State) → walk δ 0 v ≡ some y → length v ≡ length w → v ≡ mirror w
 
-module _ {w : Word} {δ : Delta} (W : Walker w δ) (t : Word) (s : Place) (inside : s + length w ≤ length t) where
-  -- the word stands nowhere from a window's start to its failing letter
-  pub failed-loses-none : (f : Place) → readWindow δ w t s .failed ≡ some f
-      → (j : Place) → s ≤ j → j ≤ f → stands w t j ≡ true → ⊥
-  failed-loses-none f e j l h g = never (rw same at read) (walked .1)
+module _ {w : Word} {δ : Delta} (W : Walker w δ) (t : Word) (s : Place) where
+  -- a reading of k letters from s on fails: up to the failing letter, no place at which the word stands lets it end behind the reading
+  pub reading-loses-none : (k : ℕ) → s + k ≤ length t → (f : Place) → readDown δ t s k 0 .failed ≡ some f
+      → (j : Place) → s + k ≤ j + length w → j ≤ f → stands w t j ≡ true → ⊥
+  reading-loses-none k inside f e j l h g = never (rw same at read) (walked .1)
     where
-      place : FailedAt s (length w) f (readWindow δ w t s .letters)
-      place = failed-place δ t s (length w) 0 f e
+      place : FailedAt s k f (readDown δ t s k 0 .letters)
+      place = failed-place δ t s k 0 f e
 
       n : ℕ
-      n = s + length w - f
+      n = s + k - f
 
       read : walk δ 0 (mirror (part t f n)) ≡ none
-      read = failed-walk δ t s (length w) 0 f inside e
+      read = failed-walk δ t s k 0 f inside e
 
       same : part t f n ≡ part w (f - j) n
       same =
@@ -54,7 +54,15 @@ module _ {w : Word} {δ : Delta} (W : Walker w δ) (t : Word) (s : Place) (insid
           ∙ ap (λ (v : Word). part v (f - j) n) (stands-part w t j g)
 
       walked : (y : State) × (walk δ 0 (mirror (part w (f - j) n)) ≡ some y)
-      walked = rw (mirror-part w (f - j) n (j - s) (omega (arith, place))) (W .factor (j - s) n (omega (arith, place)))
+      walked =
+          let b = j + length w - (s + k) in
+          rw (mirror-part w (f - j) n b (omega (arith, place))) (W .factor b n (omega (arith, place)))
+
+module _ {w : Word} {δ : Delta} (W : Walker w δ) (t : Word) (s : Place) (inside : s + length w ≤ length t) where
+  -- the word stands nowhere from a window's start to its failing letter
+  pub failed-loses-none : (f : Place) → readWindow δ w t s .failed ≡ some f
+      → (j : Place) → s ≤ j → j ≤ f → stands w t j ≡ true → ⊥
+  failed-loses-none f e j l = reading-loses-none W t s (length w) inside f e j (omega arith)
 
   -- the word stands where a window is read without failing
   pub whole-stands : readWindow δ w t s .failed ≡ none → stands w t s ≡ true

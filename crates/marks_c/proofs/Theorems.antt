@@ -13,10 +13,12 @@ use Rattle.answers.specs.Answers.{Answer, done, refused, refusedAt, Succeeds, r
 use Rattle.answers.proofs.Answers.{done-not-refused, done-not-placed}
 use Rattle.marks.specs.Build.{buildSays}
 use Rattle.marks.specs.Search.{searchSays}
+use Rattle.linear.specs.Turbo.{turboSays}
 use Rattle.mark_files.specs.Save.{saveSays}
 use Rattle.mark_files.specs.Load.{loadSays}
 use Rattle.mark_files.specs.SearchFile.{searchFileSays}
 use Rattle.marks.proofs.Numbers.{build-numbers, search-numbers}
+use Rattle.linear.proofs.TurboSays.{turbo-numbers}
 use Rattle.mark_files.proofs.Numbers.{save-numbers, shown, load-numbers, search-file-numbers}
 use Rattle.searcher_bytes.specs.OpenBytes.{openBytesSays}
 use Rattle.searcher_bytes.specs.TakeBytes.{takeBytesSays}
@@ -24,7 +26,7 @@ use Rattle.searcher_bytes.proofs.OpenBytesSays.{open-numbers}
 use Rattle.searcher_bytes.proofs.TakeBytesSays.{take-numbers}
 use Rattle.marks_c.specs.Streams.{openCallSays, takeCallSays}
 use Rattle.marks_c.specs.Calls.{resultOf, offsetGiven}
-use Rattle.marks_c.specs.Calls.{buildCallSays, saveCallSays, loadCallSays, searchCallSays, searchFileCallSays}
+use Rattle.marks_c.specs.Calls.{buildCallSays, saveCallSays, loadCallSays, searchCallSays, turboCallSays, searchFileCallSays}
 
 -- two outcomes that a call's promise allows are equal, whichever call it is
 pub call-one : {C : Type 0} {said o o′ : C} → o ≡ said → o′ ≡ said → o ≡ o′
@@ -60,6 +62,11 @@ pub search-done : (word text : Word) (T : List ℕ) (F : List Place) (c l : ℕ)
     → (searchCallSays word text T F c l .result ≡ 0) ↔ Succeeds (searchSays word text T F .answer)
 unfolding oneOf
 search-done word text T F c l = done-exactly (1 ∷ 2 ∷ 4 ∷ 3 ∷ []) [] refl refl _ (search-numbers word text T F)
+
+pub turbo-done : (word text : Word) (T : List ℕ) (F : List Place) (c l : ℕ)
+    → (turboCallSays word text T F c l .result ≡ 0) ↔ Succeeds (turboSays word text T F .answer)
+unfolding oneOf
+turbo-done word text T F c l = done-exactly (1 ∷ 2 ∷ 4 ∷ 3 ∷ []) [] refl refl _ (turbo-numbers word text T F)
 
 pub search-file-done : (file : List ℕ) (text : Word) (R T : List ℕ) (F : List Place) (c l : ℕ) (p : Place)
     → (searchFileCallSays file text R T F c l p .result ≡ 0) ↔ Succeeds (searchFileSays file text R T F .answer)

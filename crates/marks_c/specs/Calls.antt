@@ -10,6 +10,7 @@
 --   buildReturns ..     what is returned and left for an outcome of the entry
 --   buildCallSays ..    what it must be
 --   saveCall .., loadCall .., searchCall .., searchFileCall .., and each with Returns and Says: the same of the other entries
+--   turboCallSays ..    the same of the Turbo search, which returns as a search does
 use mathlib.Core.List.{List}
 use Prim.Native.Nat.{ℕ}
 use Rattle.words.specs.Words.{Word, Place}
@@ -21,6 +22,7 @@ use Rattle.marks.specs.Build
 use Rattle.marks.specs.Build.{buildSays}
 use Rattle.marks.specs.Search
 use Rattle.marks.specs.Search.{searchSays}
+use Rattle.linear.specs.Turbo.{turboSays}
 use Rattle.mark_files.specs.Save
 use Rattle.mark_files.specs.Save.{saveSays}
 use Rattle.mark_files.specs.Load
@@ -124,6 +126,9 @@ searchReturns c l o = searchCall (resultOf (o .answer)) (o .tables) (o .finds) (
 
 abbrev pub searchCallSays : Word → Word → List ℕ → List Place → ℕ → ℕ → SearchCall
 searchCallSays word text T F c l = searchReturns c l (searchSays word text T F)
+
+abbrev pub turboCallSays : Word → Word → List ℕ → List Place → ℕ → ℕ → SearchCall
+turboCallSays word text T F c l = searchReturns c l (turboSays word text T F)
 
 -- ── Search with a file ─────────────────────────────────────────────────────
 

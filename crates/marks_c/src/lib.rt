@@ -5,7 +5,7 @@ ghost use mathlib.Core.Path.{_≡_};
 ghost use Rattle.answers.specs.Answers.{numberOf, sizeAnswer, tallyAnswer};
 ghost use Rattle.marks_c.specs.Calls.{resultOf, sizeGiven, countGiven, lettersGiven, offsetGiven, placeGiven};
 ghost use Rattle.marks_c.specs.Calls.{buildCall, buildCallSays, saveCall, saveCallSays, loadCall, loadCallSays};
-ghost use Rattle.marks_c.specs.Calls.{searchCall, searchCallSays, searchFileCall, searchFileCallSays};
+ghost use Rattle.marks_c.specs.Calls.{searchCall, searchCallSays, turboCallSays, searchFileCall, searchFileCallSays};
 ghost use Rattle.marks_c.specs.Streams.{openCall, openCallSays, takeCall, takeCallSays};
 
 // What C is told of an answer: the number that is returned, and the size where the entry is done.
@@ -146,6 +146,23 @@ pub extern "C" fn marks_search(
         (now (count .entry)) (now (letters .entry)) ⌝ }
 {
     let searched = marks::search(word, text, tables, finds);
+    tell_tally(searched, count, letters)
+}
+
+#[no_mangle]
+pub extern "C" fn marks_turbo(
+    word: &[u8],
+    text: &[u8],
+    tables: &mut [u16],
+    finds: &mut [u32],
+    count: &mut u64,
+    letters: &mut u64,
+) -> u32
+    ensures { λ r. ⌜ searchCall r (now (tables .exit)) (now (finds .exit)) (now (count .exit)) (now (letters .exit))
+        ≡ turboCallSays (now (word .entry)) (now (text .entry)) (now (tables .entry)) (now (finds .entry))
+        (now (count .entry)) (now (letters .entry)) ⌝ }
+{
+    let searched = linear::turbo(word, text, tables, finds);
     tell_tally(searched, count, letters)
 }
 

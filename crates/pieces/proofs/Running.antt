@@ -169,7 +169,7 @@ module _ {w v : Word} {held past : ℕ} {F₀ F : List ℕ} {at keep count : ℕ
 -- ── Letters that are skipped ───────────────────────────────────────────────
 
 -- a letter that is not the word's first leaves nothing kept where nothing was
-other-letter : (w : Word) (c : ℕ) → letter w 0 ≢ c → longestEnd w (heard w 0 (c ∷ [])) ≡ 0
+pub other-letter : (w : Word) (c : ℕ) → letter w 0 ≢ c → longestEnd w (heard w 0 (c ∷ [])) ≡ 0
 other-letter w c d = end-none w 0 (omega arith) c (λ j l E e. let first : j ≡ 0 = omega (arith, E .sum) in d (rw first at e))
 
 -- so do any number of them

@@ -17,7 +17,7 @@ pub struct Ran {
 }
 
 // The first place from `at` on where the letter stands, or the piece's end.
-fn skip(piece: &[u8], at: usize, c: words::Letter) -> usize
+pub fn skip(piece: &[u8], at: usize, c: words::Letter) -> usize
     requires { ⌜ at ≤ length (now piece) ⌝ }
     ensures { λ r. ⌜ (at ≤ r) × (r ≤ length (now (piece .entry))) × ((i : ℕ) → at ≤ i → i < r → letter (now (piece .entry)) i ≢ c .0) ⌝ }
 {

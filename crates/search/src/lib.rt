@@ -15,14 +15,14 @@ pub enum WindowRead {
     Whole,
 }
 
-// Reads the window at s from its end; the loop breaks with how that went.
-fn read_window(table: &[u16], m: usize, text: &[u8], s: words::Place) -> WindowRead
-    requires { ⌜ (s .0 + m ≤ length (now text)) × (length (now text) < 4294967295) ⌝ }
+// Reads k letters from s on, from the last to the first, with the arrows of a word of m letters; the loop breaks with how that went.
+pub fn read_window(table: &[u16], m: usize, text: &[u8], s: words::Place, k: usize) -> WindowRead
+    requires { ⌜ (s .0 + k ≤ length (now text)) × (length (now text) < 4294967295) ⌝ }
     requires { ⌜ Formed (now table) m ⌝ }
-    ensures { λ r. ⌜ r ≡ readingOf (readDown (readArrow m (now (table .entry))) (now (text .entry)) (s .0) m 0) ⌝ }
+    ensures { λ r. ⌜ r ≡ readingOf (readDown (readArrow m (now (table .entry))) (now (text .entry)) (s .0) k 0) ⌝ }
 {
     let start = s.0 as usize;
-    let mut left = m;
+    let mut left = k;
     let mut x = words::State(0);
     loop {
         if left == 0 {
@@ -66,7 +66,7 @@ pub fn scan(word: &[u8], step: usize, table: &[u16], text: &[u8], finds: &mut [u
     let mut count: usize = 0;
     let mut letters: u64 = 0;
     'window: while (s.0 as usize) + m <= n {
-        let WindowRead::Failed(f) = read_window(table, m, text, s) else {
+        let WindowRead::Failed(f) = read_window(table, m, text, s, m) else {
             letters += m as u64;
             count = finds::note(finds, count, s);
             let on = ((s.0 as usize) + step) as u32;

@@ -8,10 +8,10 @@ use Rattle.search.proofs.read_window.Statement.{statement}
 use Rattle.search.proofs.read_window.Tie as tie
 
 abbrev Inv-loop : tie.InvT-loop
-Inv-loop table m text start left₀ x₀ left x = StillToRead (readArrow m table) text start m left (x .0)
+Inv-loop table m text k start left₀ x₀ left x = StillToRead (readArrow m table) text start k left (x .0)
 
 abbrev μ-loop : tie.MeasureT-loop
-μ-loop table m text start left₀ x₀ left x = left
+μ-loop table m text k start left₀ x₀ left x = left
 
 loop-again : tie.Need-loop-again Inv-loop μ-loop
 loop-again c =

@@ -1,0 +1,2 @@
+pub mod Turbo
+pub mod Cases

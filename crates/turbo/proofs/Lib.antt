@@ -1,0 +1,4 @@
+pub mod Begins
+pub mod Going
+pub mod SoFar
+pub mod Row

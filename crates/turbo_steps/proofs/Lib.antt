@@ -1,0 +1,4 @@
+pub mod Between
+pub mod Forward
+pub mod Windows
+pub mod Theorems
