@@ -30,10 +30,11 @@ const FAIR: u64 = 2;
 #[derive(Clone, Copy, Debug, Default, PartialEq, Eq, Hash)]
 #[non_exhaustive]
 pub enum Engine {
-    /// Backward as long as that is fair, then turbo. A word of up to 64 bytes is searched for backward, in parts of at most 65,536 places. Once more than two
+    /// Backward as long as that is fair, then turbo. A word of up to 64 bytes is searched for backward, in parts that grow to 65,536 places. Once more than two
     /// letters were read for each letter of a part, turbo takes the rest of the text. For a longer word it takes all of it.
     ///
-    /// So at most two letters are read for each letter searched, and 64 times 65,536 letters once in a text, however long it is.
+    /// So at most two letters are read for each letter searched, where the few that two parts have in common are searched with both; and at most 64 times 65,536
+    /// letters more, once in a text, however long it is.
     #[default]
     Auto,
     /// It reads backward in windows as long as the word, and most letters of most texts not at all; of a hostile one it may read each letter as often as the word

@@ -9,7 +9,7 @@ const LIST_FOR_A_LETTER: usize = 16;
 
 /// A word of 1 to 4,096 bytes, ready to be found in any number of texts.
 ///
-/// It owns its rooms, so a search allocates nothing. To search on several threads at once, clone it.
+/// It owns its rooms, so a search allocates nothing: some 16 KiB for a short word, 300 KiB for the longest. To search on several threads at once, clone it.
 #[derive(Clone, Debug)]
 pub struct Mark {
     pub(crate) word: Vec<u8>,
