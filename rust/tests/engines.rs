@@ -178,8 +178,8 @@ fn auto_reads_two_letters_for_each_and_a_part_once() {
             assert!(mark(&word, Engine::Auto).tally(&text).letters <= auto_at_most(m, n));
         }
     }
-    // what `Auto` reads at most when the first longest part is the hostile one
-    let text = [vec![b'x'; 4_096 + 8_192 + 16_384 + 32_768], vec![b'a'; n]].concat();
+    // it begins where a longest part does
+    let text = [vec![b'x'; 4_096 + 8_192 + 16_384 + 32_768 + 65_536], vec![b'a'; n]].concat();
     let letters = mark(&[b'a'; 64], Engine::Auto).tally(&text).letters;
     assert!(letters > tried(64) && letters <= auto_at_most(64, text.len()), "{letters}");
 }
@@ -192,6 +192,10 @@ fn auto_searches_backward_as_long_as_that_is_fair_and_a_long_word_never() {
         let [auto, backward, turbo] = ENGINES.map(|engine| mark(&text[..m], engine).tally(&text).letters);
         assert!(auto < backward + backward / 50 && auto < turbo, "{m} letters: {auto}, {backward}, {turbo}");
     }
+    // more than one letter for each, and fair
+    let (text_of_two, mut mark_of_two) = (random_bytes(&mut seed, 300_000, 2), mark(&[0, 1, 1, 0], Engine::Auto));
+    let mut finds = mark_of_two.find_iter(&text_of_two);
+    assert!(finds.tally().letters > 300_000 && finds.engine() == Engine::Auto);
     for m in [65, LONGEST_WORD] {
         let [auto, _, turbo] = ENGINES.map(|engine| mark(&text[..m], engine).tally(&text));
         assert_eq!(auto, turbo);
