@@ -1,7 +1,7 @@
 -- SO FAR, AND STILL AHEAD: before each window, the finds so far and those of the windows still ahead are all finds, and so with the letters
 -- read. A window adds what its two readings answer: the first says where the second begins, which goes as `forward` does from there.
 use mathlib.Core.Path.{_≡_, refl, sym, ap, _∙_}
-use mathlib.Core.Option.{Option, none, some}
+use mathlib.Core.Option.{none}
 use mathlib.Core.List.{List, [], _++_, append-assoc, append-nil}
 use Prim.Native.Nat.{ℕ, suc, _+_, _-_, _*_, _≤_, _<_}
 use native.Mathlib.Nat.{le-refl, zero-add}
@@ -10,7 +10,7 @@ use lib.ListN.{length, length-append}
 use Rattle.words.specs.Words.{Word, Place}
 use Rattle.words.proofs.Lists.{option-cases}
 use Rattle.oracle.specs.Arrows.{Delta}
-use Rattle.backward.specs.Steps.{Reading, readDown}
+use Rattle.backward.specs.Steps.{readDown}
 use Rattle.search.specs.Answers.{tallyOf}
 use Rattle.finds.specs.Finds.{filled}
 use Rattle.finds.proofs.Filling.{filled-nil, filled-length}
@@ -20,7 +20,7 @@ use Rattle.turbo_steps.proofs.Windows.{with-window, windows-past, windows-one}
 use Rattle.turbo_steps.proofs.Windows.{Moves, window-moves, steps-letters}
 use Rattle.turbo.specs.declared.Begin.{Begin}
 use Rattle.turbo.specs.declared.Stop.{Stop}
-use Rattle.turbo.specs.Readings.{keptBehind, beginsAt, StopsAs}
+use Rattle.turbo.specs.Readings.{beginsAt, StopsAs}
 
 -- the caller's list was F₀ and is F; h letters are kept at c, and none of them stands before `low`
 pub record SoFar (δ : Delta) (w t : Word) (F₀ F : List ℕ) (c : Place) (h count letters : ℕ) : Type 0 where

@@ -20,7 +20,7 @@ use Rattle.backward.proofs.Reading.{failed-place, reading-letters-most}
 use Rattle.backward.proofs.Windows.{Walker, reading-loses-none}
 use Rattle.turbo_steps.specs.Turbo.{keptAt, windowEnd, readBack, nextLow, nextPlace, readForth, turboWindows, turboSteps}
 use Rattle.turbo_steps.proofs.Between.{kept-short, kept-past, kept-fresh}
-use Rattle.turbo_steps.proofs.Forward.{Reads, forward-counts, ahead, forward-starts}
+use Rattle.turbo_steps.proofs.Forward.{Reads, forward-counts, still-ahead, forward-starts}
 
 -- ── One window ─────────────────────────────────────────────────────────────
 
@@ -116,14 +116,14 @@ steps-short δ w t h = windows-past δ w t 0 0 (suc (length t)) (omega arith)
 module _ {w : Word} {δ : Delta} (W : Walker w δ) (t : Word) (some-letter : 1 ≤ length w) where
   -- the backward reading loses nothing
   back-loses-none : (low c : Place) → low ≤ c → c ≤ length t → windowEnd w t low c ≤ length t → Moves δ w t low c
-      → ahead w t low some-letter c ≡ ahead w t (nextLow δ w t low c) some-letter (nextPlace δ w t low c)
+      → still-ahead w t low some-letter c ≡ still-ahead w t (nextLow δ w t low c) some-letter (nextPlace δ w t low c)
   back-loses-none low c l u h M = option-cases (readBack δ w t low c .failed) (λ e. rw e) failed
     where
       k : ℕ
       k = windowEnd w t low c - c
 
       failed : (f : Place) → readBack δ w t low c .failed ≡ some f
-          → ahead w t low some-letter c ≡ ahead w t (nextLow δ w t low c) some-letter (nextPlace δ w t low c)
+          → still-ahead w t low some-letter c ≡ still-ahead w t (nextLow δ w t low c) some-letter (nextPlace δ w t low c)
       failed f e =
           let p = failed-place δ t c k 0 f e in
           let b = M .longer in
@@ -133,8 +133,8 @@ module _ {w : Word} {δ : Delta} (W : Walker w δ) (t : Word) (some-letter : 1 �
 
   -- the windows from c on list the occurrences from c - h on
   windows-list : (k : ℕ) (low c : Place) → length t < k + c → low ≤ c → c ≤ length t
-      → turboWindows δ w t k low c .starts ≡ ahead w t low some-letter c
-  windows-list = windows-induction δ w t (λ low c r. r .starts ≡ ahead w t low some-letter c) some-letter
+      → turboWindows δ w t k low c .starts ≡ still-ahead w t low some-letter c
+  windows-list = windows-induction δ w t (λ low c r. r .starts ≡ still-ahead w t low some-letter c) some-letter
       (λ low c u h. sym (since-past w t (c - keptAt w t low c) (omega arith)))
       (λ low c later l u h M rec.
       let place = nextPlace δ w t low c in
