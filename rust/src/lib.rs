@@ -16,9 +16,11 @@
 //! # Ok::<(), marks::Refusal>(())
 //! ```
 //!
+//! The time is linear whatever the text, also where a stranger chose it: a mark leaves most bytes of most texts unread, and where one turns out to be hostile it
+//! goes over to a search that reads at most two letters for each. That is [`Engine::Auto`]; another [`Engine`] can be asked for by name.
+//!
 //! A [`Stream`] is for a text that comes in pieces, as an upload does, and for words of up to 64 bytes. It takes one piece after the other and keeps none. It
-//! looks at every byte, going forward, so its time is linear whatever the text. A [`Mark`] has to have the whole text: it leaves most bytes of most texts
-//! unread, but reads those of a hostile one many times over.
+//! looks at every byte, going forward, so its time is linear too. A [`Mark`] has to have the whole text.
 //!
 //! ```
 //! use marks::Stream;
@@ -33,8 +35,9 @@
 //! ```
 //!
 //! What is refused is refused with a number of one table, [`Refusal`]; nothing panics, and no declared number is acted on before it is checked. A refused file
-//! comes with the offset at which it is broken, in a [`LoadError`]. [`entries`] has the seven entries themselves, over slices that the caller lends.
+//! comes with the offset at which it is broken, in a [`LoadError`]. [`entries`] has the eight entries themselves, over slices that the caller lends.
 
+mod engine;
 pub mod entries;
 mod finds;
 mod load_error;
@@ -43,6 +46,8 @@ mod refusal;
 mod stream;
 mod taken;
 
+pub use engine::Engine;
+pub use entries::Tally;
 pub use finds::Finds;
 pub use load_error::LoadError;
 pub use mark::Mark;

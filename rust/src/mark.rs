@@ -1,18 +1,21 @@
 //! A word to be found, with the rooms that finding it takes.
 
-use crate::{entries, table_room, Finds, LoadError, Refusal, LONGEST_FILE, LONGEST_TEXT, LONGEST_WORD};
+use crate::{entries, table_room, Engine, Finds, LoadError, Refusal, Tally, LONGEST_FILE, LONGEST_WORD};
 
-/// How many finds are listed at a time.
-const LIST: usize = 4_096;
+/// How many finds are listed at a time; where that is more, so many for each letter of the word, as the table of a long word takes its time and is made for each
+/// list.
+const LEAST_LIST: usize = 4_096;
+const LIST_FOR_A_LETTER: usize = 16;
 
 /// A word of 1 to 4,096 bytes, ready to be found in any number of texts.
 ///
-/// It owns its rooms, so a search allocates nothing. To search on several threads at once, clone it.
+/// It owns its rooms, so a search allocates nothing: some 16 KiB for a short word, 300 KiB for the longest. To search on several threads at once, clone it.
 #[derive(Clone, Debug)]
 pub struct Mark {
     pub(crate) word: Vec<u8>,
     pub(crate) tables: Vec<u16>,
     pub(crate) list: Vec<u32>,
+    pub(crate) engine: Engine,
 }
 
 impl Mark {
@@ -28,7 +31,7 @@ impl Mark {
     pub fn new(word: &[u8]) -> Result<Mark, Refusal> {
         let mut tables = vec![0; table_room(word.len().min(LONGEST_WORD))];
         entries::build(word, &mut tables)?;
-        Ok(Mark { word: word.to_vec(), tables, list: vec![0; LIST] })
+        Ok(Mark::of(word.to_vec(), tables))
     }
 
     /// The mark of a saved file. Searching with a file looks for the mirror of the file's word, so that the file holds the oracle that the search walks. Any
@@ -51,7 +54,26 @@ impl Mark {
         word.truncate(m);
         word.reverse();
         tables.truncate(table_room(m));
-        Ok(Mark { word, tables, list: vec![0; LIST] })
+        Ok(Mark::of(word, tables))
+    }
+
+    fn of(word: Vec<u8>, tables: Vec<u16>) -> Mark {
+        let list = vec![0; LEAST_LIST.max(LIST_FOR_A_LETTER * word.len())];
+        Mark { word, tables, list, engine: Engine::Auto }
+    }
+
+    /// The same mark, looked for by this engine. [`Engine`] says when to choose one; the finds are the same with each.
+    ///
+    /// ```
+    /// use marks::{Engine, Mark};
+    ///
+    /// let mut mark = Mark::new(b"aba")?.engine(Engine::Turbo);
+    /// assert_eq!(mark.find_iter(b"ababa").collect::<Vec<_>>(), [0, 2]);
+    /// # Ok::<(), marks::Refusal>(())
+    /// ```
+    #[must_use]
+    pub fn engine(self, engine: Engine) -> Mark {
+        Mark { engine, ..self }
     }
 
     /// The word that is looked for.
@@ -94,20 +116,30 @@ impl Mark {
 
     /// How often the word stands in the text.
     pub fn count(&mut self, text: &[u8]) -> u64 {
-        let beyond = self.word.len() - 1;
-        let starts = LONGEST_TEXT - beyond;
-        let (mut at, mut count) = (0, 0);
-        while at < text.len() {
-            let end = text.len().min(at + starts + beyond);
-            count += self.search(&text[at..end], 0).count;
-            at += starts;
-        }
-        count
+        self.tally(text).count
     }
 
-    /// One search of at most [`LONGEST_TEXT`] bytes, the first finds in the list, up to `most` of them.
-    pub(crate) fn search(&mut self, part: &[u8], most: usize) -> entries::Tally {
-        entries::search(&self.word, part, &mut self.tables, &mut self.list[..most])
-            .expect("a mark's word, rooms and parts are within the limits")
+    /// How often the word stands in the text, and how many letters were read to find out. A letter that was read again counts again.
+    ///
+    /// ```
+    /// use marks::{Engine, Mark, Tally};
+    ///
+    /// let mut mark = Mark::new(b"aba")?;
+    /// assert_eq!(mark.tally(b"ababa"), Tally { count: 2, letters: 6 });
+    /// let mut mark = mark.engine(Engine::Turbo);
+    /// assert_eq!(mark.tally(b"ababa"), Tally { count: 2, letters: 10 });
+    /// # Ok::<(), marks::Refusal>(())
+    /// ```
+    pub fn tally(&mut self, text: &[u8]) -> Tally {
+        self.find_iter(text).tally()
+    }
+
+    /// One search of at most [`LONGEST_TEXT`](crate::LONGEST_TEXT) bytes, the first finds in the list, up to `most` of them.
+    pub(crate) fn search(&mut self, engine: Engine, part: &[u8], most: usize) -> Tally {
+        let entry = match engine {
+            Engine::Auto | Engine::Backward => entries::search,
+            Engine::Turbo => entries::turbo,
+        };
+        entry(&self.word, part, &mut self.tables, &mut self.list[..most]).expect("a mark's word, rooms and parts are within the limits")
     }
 }

@@ -1,5 +1,6 @@
 //! A header that declares four billion letters costs six bytes: the file goes on in memory that cannot be read, and the rooms cannot be touched at all. So with
-//! a searcher that is refused: the piece and the list cannot be touched, and no byte behind it can. An offset is written only by the refusals that have one.
+//! a searcher that is refused: the piece and the list cannot be touched, and no byte behind it can. So with a search that is refused. An offset is written only
+//! by the refusals that have one. And a thread of 64 KiB has stack enough for a search.
 use marks::{entries, table_room, LONGEST_TEXT, LONGEST_WORD, SEARCHER};
 use std::{ffi::c_void, ptr};
 
@@ -32,6 +33,30 @@ extern "C" {
         count: *mut u64,
         letters: *mut u64,
         offset: *mut u64,
+    ) -> u32;
+    fn marks_search(
+        word: *const u8,
+        word_len: usize,
+        text: *const u8,
+        text_len: usize,
+        tables: *mut u16,
+        tables_len: usize,
+        finds: *mut u32,
+        finds_len: usize,
+        count: *mut u64,
+        letters: *mut u64,
+    ) -> u32;
+    fn marks_turbo(
+        word: *const u8,
+        word_len: usize,
+        text: *const u8,
+        text_len: usize,
+        tables: *mut u16,
+        tables_len: usize,
+        finds: *mut u32,
+        finds_len: usize,
+        count: *mut u64,
+        letters: *mut u64,
     ) -> u32;
     fn marks_take(
         searcher: *mut u8,
@@ -162,5 +187,59 @@ fn a_refused_piece_is_not_looked_at_nor_anything_behind_the_searcher() {
         let mut forged = searcher;
         forged[place] = 255;
         assert_eq!(take_with_forbidden_rest(&forged, LONGEST_TEXT), refusal);
+    }
+}
+
+/// Searches by both engines where nothing can be touched, the word, the text, the tables and the list having so many elements. What they both say.
+fn search_with_all_forbidden(word_len: usize, text_len: usize, tables_len: usize) -> u32 {
+    let [word, text, tables, finds] = [(); 4].map(|()| forbidden_behind_a_page(1));
+    let said = [marks_search, marks_turbo].map(|entry| {
+        let (mut count, mut letters) = (99, 99);
+        // SAFETY: as above.
+        let refused =
+            unsafe { entry(word, word_len, text, text_len, tables.cast(), tables_len, finds.cast(), 1 << 10, &mut count, &mut letters) };
+        assert_eq!((count, letters), (99, 99));
+        refused
+    });
+    assert_eq!(said[0], said[1]);
+    said[0]
+}
+
+#[test]
+fn a_refused_search_touches_nothing() {
+    assert_eq!(search_with_all_forbidden(0, LONGEST_TEXT + 1, 0), 1);
+    assert_eq!(search_with_all_forbidden(LONGEST_WORD + 1, LONGEST_TEXT + 1, 0), 2);
+    assert_eq!(search_with_all_forbidden(LONGEST_WORD, LONGEST_TEXT + 1, 0), 4);
+    assert_eq!(search_with_all_forbidden(4, usize::MAX >> 1, table_room(4)), 4);
+    assert_eq!(search_with_all_forbidden(LONGEST_WORD, LONGEST_TEXT, table_room(LONGEST_WORD) - 1), 3);
+}
+
+#[test]
+fn a_text_below_the_word_is_not_looked_at() {
+    let (text, finds) = (forbidden_behind_a_page(1), forbidden_behind_a_page(1));
+    for m in [2, LONGEST_WORD] {
+        let (word, mut tables) = (vec![b'a'; m], vec![0; table_room(m)]);
+        let (mut count, mut letters) = (99, 99);
+        // SAFETY: as above, but for the word and the tables, which are of one slice each.
+        let said = unsafe {
+            marks_turbo(word.as_ptr(), m, text, m - 1, tables.as_mut_ptr(), tables.len(), finds.cast(), 1 << 10, &mut count, &mut letters)
+        };
+        assert_eq!((said, count, letters), (0, 0, 0));
+    }
+}
+
+/// The longest words, one of one letter and one whose walk over supplies is long, on threads that have no more stack than is promised to be enough.
+#[test]
+fn a_thread_of_64_kib_has_stack_enough() {
+    let of_one_letter = vec![b'a'; LONGEST_WORD];
+    let ends_otherwise = [&of_one_letter[1..], b"b"].concat();
+    for word in [of_one_letter, ends_otherwise] {
+        for entry in [entries::search, entries::turbo] {
+            let (word, text) = (word.clone(), word.repeat(2));
+            let (mut tables, mut finds) = (vec![0; table_room(LONGEST_WORD)], vec![0; 8]);
+            let search = move || entry(&word, &text, &mut tables, &mut finds).map(|tally| tally.count);
+            let count = std::thread::Builder::new().stack_size(1 << 16).spawn(search).unwrap().join().unwrap();
+            assert!(count.is_ok_and(|count| count >= 2));
+        }
     }
 }

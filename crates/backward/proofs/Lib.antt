@@ -2,3 +2,4 @@ pub mod Reading
 pub mod AfterFind
 pub mod Windows
 pub mod Theorems
+pub mod Repeated

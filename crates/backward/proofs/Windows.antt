@@ -103,7 +103,7 @@ module _ (δ : Delta) (w t : Word) where
   windows-one k s h = rw (le-leb (s + length w) (length t) h)
 
   -- what holds past the last window, and of one more window where it held, holds of all windows
-  windows-induction
+  pub windows-induction
       : (P : Place → Sweep → Type 0)
       → ((s : Place) → length t < s + length w → P s nothing)
       → ((s : Place) (later : Sweep) → s + length w ≤ length t → P (next s) later → P s (with-window s later))

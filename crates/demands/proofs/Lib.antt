@@ -6,3 +6,4 @@ pub mod LongerMarks
 pub mod StepAfterFind
 pub mod UploadsInPieces
 pub mod WhereBroken
+pub mod HostileText

@@ -11,6 +11,7 @@ use Rattle.oracle.specs.Supply.{ends, twice, repeated, supply}
 use Rattle.oracle.specs.FileOrder.{leadsTo, extraTargets, extrasBefore, fileArrows}
 use Rattle.border.specs.Borders.{longest, closes, longestBorder, borders}
 use Rattle.backward.specs.Steps.{readDown, afterFind, windows, steps, backward}
+use Rattle.turbo_steps.specs.Turbo.{forward, turboWindows, turboSteps, turbo}
 use Rattle.number.specs.Number.{groups, spellNumber, refuses, see, seeNumber, numberAt}
 use Rattle.saved.specs.File.{edition, stepsFrom, spellSteps, ownSteps, body, spell}
 use Rattle.loaded.specs.Load.{frontWithin, twoAt, arrowsAt, ending, verdict}
@@ -28,7 +29,7 @@ unfolding from only first same stands occurrences longestWord longestText longes
     target walk spine far mend missing extrasAfter extraArrows suffixRule climb addLetter builtUpTo letterRule
     ends twice repeated supply leadsTo extraTargets extrasBefore fileArrows
     longest closes longestBorder borders filled kept searcherOf after finds makeable openSays takeSays
-    readDown afterFind windows steps backward
+    readDown afterFind windows steps backward forward turboWindows turboSteps turbo
     groups spellNumber refuses see seeNumber numberAt edition stepsFrom spellSteps ownSteps body spell
     frontWithin twoAt arrowsAt ending verdict loadWithin
     is isNone walked empty has gives isRefused isRefusedAt loadInRooms leaves shows isDoneWith takenInTurn

@@ -24,6 +24,7 @@ use Rattle.oracle.specs.LetterRule.{supplyMade, letterRule}
 use Rattle.oracle.specs.Supply.{supply}
 use Rattle.oracle.specs.FileOrder.{Extra, extra}
 use Rattle.backward.specs.Steps.{backward}
+use Rattle.turbo_steps.specs.Turbo.{turbo}
 use Rattle.table.specs.Table.{room}
 use Rattle.saved.specs.File.{spell}
 use Rattle.loaded.specs.Load.{Front, letters, stop, front}
@@ -46,6 +47,8 @@ pub data Example : Type 0 where
   acceptsNoFactor : (word walked : Word) → Example
   -- a word and a text, the starts of the occurrences, the letters read
   search : (word text : Word) (starts : List Place) (letters : ℕ) → Example
+  -- the same of the Turbo search
+  turboSearch : (word text : Word) (starts : List Place) (letters : ℕ) → Example
   -- a word and its whole file
   fileOf : (word : Word) (file : List ℕ) → Example
   -- bytes that are no file, and the number and offset with which load refuses them before it looks at the rooms
@@ -138,6 +141,9 @@ holds (acceptsNoFactor p v) = walked (walk (oracle p) 0 v) && empty (occurrences
 holds (search w t starts n) =
     let r = backward w t in
     same (r .starts) starts && (eqb (r .letters) n && same (occurrences w t) starts)
+holds (turboSearch w t starts n) =
+    let r = turbo w t in
+    same (r .starts) starts && (eqb (r .letters) n && same (occurrences w t) starts)
 holds (fileOf p f) = same (spell p) f
 -- the rooms of no letter, too short for any word, and those of three letters: these refusals come before 3
 holds (loadRefused f n p) =
@@ -191,6 +197,16 @@ table =
     ∷ search (word "ab") (word "abxa") (0 ∷ []) 4
     ∷ search (word "abc") (word "xxxxxx") [] 2
     ∷ search (word "abc") (word "ab") [] 0
+    ∷ turboSearch (word "aba") (word "ababa") (0 ∷ 2 ∷ []) 10
+    ∷ turboSearch (word "aaaa") (word "abaaa") [] 6
+    ∷ turboSearch (word "aa") (word "ba") [] 3
+    ∷ turboSearch (word "ab") (word "ab") (0 ∷ []) 4
+    ∷ turboSearch (word "aa") (word "aaaa") (0 ∷ 1 ∷ 2 ∷ []) 6
+    ∷ turboSearch (word "baaa") (word "aaaaaaaa") [] 14
+    ∷ turboSearch (word "aaab") (word "aaaaaaab") (4 ∷ []) 11
+    ∷ turboSearch (word "abaab") (word "abaababaabaababaababa") (0 ∷ 5 ∷ 8 ∷ 13 ∷ []) 38
+    ∷ turboSearch (word "abc") (word "xxxxxx") [] 2
+    ∷ turboSearch (word "abc") (word "ab") [] 0
     ∷ loadRefused (bytes "01 FF FF FF FF 0F") 8 1
     ∷ loadRefused (bytes "01 83 00 61 61 61 00") 6 2
     ∷ letThrough (bytes "01 80 08") 1024

@@ -1,5 +1,6 @@
--- THE THEOREMS on `turboSays`: each refusal exactly where it is tabled, that it finds and leaves what a search does, that at most 2n letters
--- are read, and that the promise allows one outcome. They go through those on `searchSays`, of which it is the outcome but for the letters.
+-- THE THEOREMS on `turboSays`: each refusal exactly where it is tabled, that it finds and leaves what a search does, that at most 2n
+-- letters are read, and that the promise allows one outcome. They go through those on `searchSays`, of which it is the outcome but for the
+-- letters.
 use mathlib.Core.Path.{_≡_, refl, sym, ap, _∙_}
 use mathlib.Core.Bool.{true}
 use mathlib.Core.Logic.{_↔_}
@@ -8,7 +9,6 @@ use Prim.Native.Nat.{ℕ, _*_, _≤_, _<_}
 use lib.ListN.{length, take, drop, length-reverse}
 use lib.Seq.{take-at}
 use Rattle.words.specs.Words.{Word, Place, mirror, occurrences}
-use Rattle.words.specs.Limits.{longestWord, longestText}
 use Rattle.oracle.specs.SuffixRule.{oracle}
 use Rattle.table.specs.Table.{room, tableOf, readArrow}
 use Rattle.table.specs.Formed.{Formed}
@@ -21,7 +21,7 @@ use Rattle.search.specs.Answers.{tallyOf}
 use Rattle.finds.specs.declared.Tally.{Tally}
 use Rattle.finds.specs.Finds.{filled}
 use Rattle.answers.specs.declared.TallyAnswer.{TallyAnswer}
-use Rattle.answers.specs.Answers.{Answer, done, refused, refusedAt, emptyWord, longWord, longText, shortRoom, refusesOnly}
+use Rattle.answers.specs.Answers.{Answer, done, refused, refusedAt, refusesOnly}
 use Rattle.answers.proofs.Answers.{done-not-refused, tally-answer-one}
 use Rattle.marks.specs.Search.{Outcome, outcome, searched, searchSays}
 use Rattle.marks.specs.Cases.{SearchCase}
@@ -68,7 +68,8 @@ module _ (word text : Word) (T : List ℕ) (F : List Place) where
 
   -- room and list are left as a search leaves them, by refusals too
   pub turbo-leaves
-      : (turboSays word text T F .tables ≡ searchSays word text T F .tables) × (turboSays word text T F .finds ≡ searchSays word text T F .finds)
+      : (turboSays word text T F .tables ≡ searchSays word text T F .tables)
+      × (turboSays word text T F .finds ≡ searchSays word text T F .finds)
   unfolding turboSays
   turbo-leaves = (refl, refl)
 

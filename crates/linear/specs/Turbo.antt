@@ -1,5 +1,5 @@
--- WHAT TURBO SAYS: the whole outcome as a function of what is lent. It is the outcome of a search, its refusals, room and list included, but
--- that the letters read are those of the Turbo steps.
+-- WHAT TURBO SAYS: the whole outcome as a function of what is lent. It is the outcome of a search, its refusals, room and list included,
+-- but that the letters read are those of the Turbo steps.
 --
 --   found word text          how often the word stands in the text, and the letters that the Turbo steps read
 --   counting f a             the answer a, with f as what was found

@@ -27,7 +27,6 @@ use Rattle.pieces.proofs.Running.{other-letter}
 use Rattle.turbo_steps.specs.Turbo.{keptAt, endsAt, foundAt, Advance, stopsAt, oneLetter, forward}
 use Rattle.turbo_steps.proofs.Between.{short-keeps, short-ends-not, whole-keeps, whole-ends}
 use Rattle.turbo_steps.proofs.Forward.{forward-done, forward-stops, forward-reads}
-use Rattle.turbo.specs.declared.Stop.{Stop}
 use Rattle.turbo.specs.Readings.{StopsAs}
 
 -- ── The test of the loop ───────────────────────────────────────────────────
@@ -104,9 +103,6 @@ module _ {w t : Word} {e c₀ h₀ count₀ : ℕ} {F₀ F : List ℕ} {c h coun
       → StopsAs w t e c₀ h₀ count₀ F₀ (record { place = record { 0 = c }; keep = h; count = count }) F
   going-stops says l = record {
     few = I .few;
-    short = I .short;
-    within = I .within;
-    same-size = I .same-size;
     as-forward = λ low b k. stopped low (I .follows low b k) (stops (length w) h (length t) e c fits (rw says at l));
   }
     where
@@ -160,8 +156,9 @@ module _ {w t : Word} {e c₀ h₀ count₀ : ℕ} {F₀ F : List ℕ} {c h coun
             let z : c + 1 ≡ suc c = omega arith in
             let left : length t - c ≡ suc (length t - suc c) = omega (arith, going-more) in
             let is = told low (f .below) (f .keeps) in
-            let read : forward w t low e (length t - c) c ≡ oneLetter (foundAt w t low (suc c)) (forward w t low e (length t - suc c) (suc c)) =
-            rw left (forward-reads w t low e (length t - suc c) c (rw (f .keeps) at (goes-on .1))) in
+            let rest = length t - suc c in
+            let read : forward w t low e (length t - c) c ≡ oneLetter (foundAt w t low (suc c)) (forward w t low e rest (suc c)) =
+            rw left (forward-reads w t low e rest c (rw (f .keeps) at (goes-on .1))) in
             let place = rw read at (f .place) in
             let starts = rw (read, is .1) at (f .starts) in
             rw z (record {

@@ -1,7 +1,7 @@
 -- SO FAR, AND STILL AHEAD: before each window, the finds so far and those of the windows still ahead are all finds, and so with the letters
 -- read. A window adds what its two readings answer: the first says where the second begins, which goes as `forward` does from there.
 use mathlib.Core.Path.{_≡_, refl, sym, ap, _∙_}
-use mathlib.Core.Option.{Option, none, some}
+use mathlib.Core.Option.{none}
 use mathlib.Core.List.{List, [], _++_, append-assoc, append-nil}
 use Prim.Native.Nat.{ℕ, suc, _+_, _-_, _*_, _≤_, _<_}
 use native.Mathlib.Nat.{le-refl, zero-add}
@@ -10,17 +10,17 @@ use lib.ListN.{length, length-append}
 use Rattle.words.specs.Words.{Word, Place}
 use Rattle.words.proofs.Lists.{option-cases}
 use Rattle.oracle.specs.Arrows.{Delta}
-use Rattle.backward.specs.Steps.{Reading, readDown}
+use Rattle.backward.specs.Steps.{readDown}
 use Rattle.search.specs.Answers.{tallyOf}
 use Rattle.finds.specs.Finds.{filled}
 use Rattle.finds.proofs.Filling.{filled-nil, filled-length}
-use Rattle.turbo_steps.specs.Turbo.{keptAt, Advance, forward, windowEnd, turboWindows, turboSteps}
+use Rattle.turbo_steps.specs.Turbo.{keptAt, Advance, windowEnd, readBack, nextLow, nextPlace, readForth, turboWindows, turboSteps}
 use Rattle.turbo_steps.proofs.Between.{kept-short, kept-past, kept-fresh}
-use Rattle.turbo_steps.proofs.Windows.{back, next-low, from-place, forth, with-window, windows-past, windows-one}
+use Rattle.turbo_steps.proofs.Windows.{with-window, windows-past, windows-one}
 use Rattle.turbo_steps.proofs.Windows.{Moves, window-moves, steps-letters}
 use Rattle.turbo.specs.declared.Begin.{Begin}
 use Rattle.turbo.specs.declared.Stop.{Stop}
-use Rattle.turbo.specs.Readings.{keptBehind, beginsAt, StopsAs}
+use Rattle.turbo.specs.Readings.{beginsAt, StopsAs}
 
 -- the caller's list was F₀ and is F; h letters are kept at c, and none of them stands before `low`
 pub record SoFar (δ : Delta) (w t : Word) (F₀ F : List ℕ) (c : Place) (h count letters : ℕ) : Type 0 where
@@ -95,21 +95,21 @@ module _ {δ : Delta} {w t : Word} {F₀ F : List ℕ} {c : Place} {h count lett
     so-far-longer = rw end-is (moves .longer)
 
     ahead-one : turboWindows δ w t (I .bound) (I .low) c
-        ≡ with-window δ w t (I .low) c (turboWindows δ w t (I .bound - 1) (next-low δ w t (I .low) c) (forth δ w t (I .low) c .place))
+        ≡ with-window δ w t (I .low) c (turboWindows δ w t (I .bound - 1) (nextLow δ w t (I .low) c) (readForth δ w t (I .low) c .place))
     ahead-one =
         let one : I .bound ≡ suc (I .bound - 1) = omega (arith, I .enough, I .inside) in
         ap (λ (k : ℕ). turboWindows δ w t k (I .low) c) one ∙ windows-one δ w t (I .low) c (I .bound - 1) (rw end-is at within)
 
     module _ {b : Begin} (begins : b ≡ beginsAt c h (readDown δ t c (end - c) 0)) where
-      begins-so : b ≡ beginsAt c h (back δ w t (I .low) c)
+      begins-so : b ≡ beginsAt c h (readBack δ w t (I .low) c)
       begins-so = begins ∙ ap (λ (e : Place). beginsAt c h (readDown δ t c (e - c) 0)) end-is
 
-      place-is : b .place .0 ≡ from-place δ w t (I .low) c
+      place-is : b .place .0 ≡ nextPlace δ w t (I .low) c
       place-is = ap (λ (x : Begin). x .place .0) begins-so
 
       -- what is kept where the reading forward begins
-      begin-keeps : b .keep ≡ keptAt w t (next-low δ w t (I .low) c) (from-place δ w t (I .low) c)
-      begin-keeps = ap (λ (x : Begin). x .keep) begins-so ∙ option-cases (back δ w t (I .low) c .failed)
+      begin-keeps : b .keep ≡ keptAt w t (nextLow δ w t (I .low) c) (nextPlace δ w t (I .low) c)
+      begin-keeps = ap (λ (x : Begin). x .keep) begins-so ∙ option-cases (readBack δ w t (I .low) c .failed)
           (λ e. rw e (I .keeps))
           (λ f e.
           let inside : f + 1 ≤ length t = omega (arith, rw e at (moves .within), rw end-is at within) in
@@ -118,8 +118,8 @@ module _ {δ : Delta} {w t : Word} {F₀ F : List ℕ} {c : Place} {h count lett
       -- it may begin there
       pub begin-fits : (b .keep < length w) × (b .keep ≤ b .place .0) × (c ≤ b .place .0) × (b .place .0 ≤ end)
       begin-fits =
-          let low = next-low δ w t (I .low) c in
-          let place = from-place δ w t (I .low) c in
+          let low = nextLow δ w t (I .low) c in
+          let place = nextPlace δ w t (I .low) c in
           let inside : place ≤ length t = omega (arith, moves .within, rw end-is at within) in (
             omega (arith, begin-keeps, kept-short w t low place some-letter),
             omega (arith, begin-keeps, place-is, kept-past w t low place (moves .below) inside some-letter),
@@ -129,15 +129,15 @@ module _ {δ : Delta} {w t : Word} {F₀ F : List ℕ} {c : Place} {h count lett
 
       module _ {r : Stop} {F′ : List ℕ} (stops : StopsAs w t end (b .place .0) (b .keep) count F r F′) where
         abbrev o : Advance
-        o = forth δ w t (I .low) c
+        o = readForth δ w t (I .low) c
 
         as-forth : (r .place .0 ≡ o .place)
-            × (r .keep ≡ keptAt w t (next-low δ w t (I .low) c) (o .place))
+            × (r .keep ≡ keptAt w t (nextLow δ w t (I .low) c) (o .place))
             × (r .count ≡ count + length (o .starts))
             × ((l G : List ℕ) → length l ≡ count → F ≡ filled l G → F′ ≡ filled (l ++ o .starts) G)
         as-forth =
             let S = rw (end-is, place-is) at stops in
-            S .as-forward (next-low δ w t (I .low) c) (moves .below) begin-keeps
+            S .as-forward (nextLow δ w t (I .low) c) (moves .below) begin-keeps
 
         -- it stops at the window's end or behind it, within the text
         pub stop-fits : (b .place .0 ≤ r .place .0) × (end ≤ r .place .0) × (r .place .0 ≤ length t)
@@ -150,11 +150,11 @@ module _ {δ : Delta} {w t : Word} {F₀ F : List ℕ} {c : Place} {h count lett
         so-far-window =
             let R = moves .reads in
             let S = as-forth in
-            let read : b .letters ≡ back δ w t (I .low) c .letters = ap (λ (x : Begin). x .letters) begins-so in
+            let read : b .letters ≡ readBack δ w t (I .low) c .letters = ap (λ (x : Begin). x .letters) begins-so in
             let passed : r .place .0 - b .place .0 ≡ o .letters = omega (arith, S .0, place-is, R .counted) in
             record {
               bound = I .bound - 1;
-              low = next-low δ w t (I .low) c;
+              low = nextLow δ w t (I .low) c;
               found = I .found ++ o .starts;
               enough = omega (arith, I .enough, moves .longer, R .past, S .0);
               below = omega (arith, moves .below, R .counted, S .0);

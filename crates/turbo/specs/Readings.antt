@@ -1,5 +1,6 @@
 -- What the readings of a window answer.
 --
+--   keptBehind h f   how many letters are kept behind a reading down to a place where h are: h, or none where a letter f failed
 --   beginsAt c h r   where the reading forward begins, once r was read from the window's end down to c, where h letters are kept: at c with
 --                    what is kept there, or behind the failing letter with nothing; and the letters that were read
 --   StopsAs w t e c h count F r F′
@@ -11,7 +12,7 @@
 use mathlib.Core.Path.{_≡_}
 use mathlib.Core.Option.{Option, none, some}
 use mathlib.Core.List.{List, _++_}
-use Prim.Native.Nat.{ℕ, _+_, _-_, _≤_, _<_}
+use Prim.Native.Nat.{ℕ, _+_, _-_, _≤_}
 use lib.ListN.{length}
 use Rattle.words.specs.Words.{Word, Place}
 use Rattle.backward.specs.Steps.{Reading}
@@ -29,9 +30,6 @@ beginsAt c h r = record { place = record { 0 = behind c (r .failed) }; keep = ke
 
 pub record StopsAs (w t : Word) (e c : Place) (h count : ℕ) (F : List ℕ) (r : Stop) (F′ : List ℕ) : Type 0 where
   pub few : r .count ≤ r .place .0
-  pub short : r .keep < length w
-  pub within : r .keep ≤ r .place .0
-  pub same-size : length F′ ≡ length F
   pub as-forward : (low : Place) → low ≤ c → h ≡ keptAt w t low c → let o = forward w t low e (length t - c) c in
       (r .place .0 ≡ o .place)
       × (r .keep ≡ keptAt w t low (o .place))

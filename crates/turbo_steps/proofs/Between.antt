@@ -1,27 +1,26 @@
 -- WHAT IS KEPT AND FOUND AT A PLACE, of the letters between `low` and c. A place from `low` on at which the word stands, but does not yet
 -- end, starts no sooner than what is kept. With one letter more only what is kept matters: the longest beginning that ends with the letter
 -- says what is kept then, and whether the word ends there.
-use mathlib.Core.Path.{_≡_, refl, sym, ap, _∙_}
-use mathlib.Core.Bool.{Bool, true, false, cond, _&&_}
+use mathlib.Core.Path.{_≡_, sym, ap, _∙_}
+use mathlib.Core.Bool.{true}
 use mathlib.Core.List.{List, [], _∷_, _++_, map, append-nil, List·Memᴰ}
 use Prim.Native.Nat.{ℕ, suc, _+_, _-_, _≤_, _<_}
-use native.Mathlib.Nat.{le-refl}
+use native.Mathlib.Nat.{le-refl, zero-add}
 use native.Mathlib.Omega.{arith}
 use lib.ListN.{length, getD, length-append}
-use lib.Seq.{getD-append-add}
+use lib.Seq.{getD-append-add, ext-getD}
 use lib.Dec.{leb}
 use borrow.Author.Tests.{leb-true, le-leb}
 use Rattle.words.specs.Words.{Word, Place, letter, part, stands, occurrences}
-use Rattle.words.proofs.Lists.{and-true, true-not-false, entry-in}
+use Rattle.words.proofs.Lists.{and-true, entry-in}
 use Rattle.words.proofs.Words.{part-length, part-at, part-snoc, part-of-part}
 use Rattle.words.proofs.Occurrences.{stands-letters, occurrence-stands, standing-occurs}
 use Rattle.border.specs.Borders.{longestBorder, longestEnd}
-use Rattle.border.proofs.Closing.{Closing}
 use Rattle.pieces.specs.Kept.{kept, heard}
-use Rattle.pieces.proofs.Kept.{kept-shorter, kept-within, kept-longest}
+use Rattle.pieces.proofs.Kept.{kept-shorter, kept-closing, kept-within, kept-longest}
 use Rattle.pieces.proofs.OnlyKept.{kept-goes-on, finds-go-on}
 use Rattle.pieces.proofs.OneLetter.{short-kept, short-finds, whole-length, whole-kept, whole-finds}
-use Rattle.turbo_steps.specs.Turbo.{between, keptAt, endsAt, foundAt}
+use Rattle.turbo_steps.specs.Turbo.{between, keptAt, endsAt}
 
 -- ── Ends, and the word itself ──────────────────────────────────────────────
 
@@ -58,6 +57,39 @@ module _ (w t : Word) (low c : Place) (below : low ≤ c) (inside : c ≤ length
         part-at t low (c - low) (j - low + i) (omega arith)
         ∙ ap (letter t) q
         ∙ stands-letters w t j e i (omega arith);
+  })
+
+  -- what is kept is the beginning of the word that ends at c
+  pub kept-ends : 1 ≤ length w → part t (c - keptAt w t low c) (keptAt w t low c) ≡ part w 0 (keptAt w t low c)
+  kept-ends some-letter =
+      let y = between t low c in
+      let h = keptAt w t low c in
+      let fits = kept-past some-letter in
+      let C = kept-closing w y some-letter in
+      let short : h ≤ length w = omega (arith, kept-shorter w y some-letter) in
+      let size = part-length t (c - h) h (omega (arith, fits)) in
+      ext-getD 0 _ _ (size ∙ sym (part-length w 0 h (omega (arith, short)))) (λ i l.
+      let less : i < h = rw size at l in
+      let place : c - h + i ≡ low + (C .start + i) = omega (arith, C .sum, between-length, fits) in
+      part-at t (c - h) h i less
+      ∙ ap (letter t) place
+      ∙ sym (part-at t low (c - low) (C .start + i) (omega (arith, C .sum, between-length)))
+      ∙ C .same i less
+      ∙ sym (part-at w 0 h i less ∙ ap (letter w) (zero-add i)))
+
+  -- and no longer one that is short of the word ends there and starts no sooner than low
+  pub kept-is-longest : (k : ℕ) → k < length w → low + k ≤ c → part t (c - k) k ≡ part w 0 k → k ≤ keptAt w t low c
+  kept-is-longest k short fits e = kept-longest w (between t low c) short (record {
+    start = c - low - k;
+    sum = omega (arith, between-length);
+    same = λ i l.
+        let place : low + (c - low - k + i) ≡ c - k + i = omega arith in
+        part-at t low (c - low) (c - low - k + i) (omega arith)
+        ∙ ap (letter t) place
+        ∙ sym (part-at t (c - k) k i l)
+        ∙ ap (λ (p : Word). letter p i) e
+        ∙ part-at w 0 k i l
+        ∙ ap (letter w) (zero-add i);
   })
 
 -- it is short of all of the word

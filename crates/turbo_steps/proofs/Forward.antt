@@ -3,16 +3,16 @@
 -- there, and started at c - h, or it stands nowhere before what is kept then.
 use mathlib.Core.Path.{_≡_, refl, sym, ap, _∙_}
 use mathlib.Core.Bool.{Bool, true, false, _||_}
-use mathlib.Core.Logic.{by-cases}
+use mathlib.Core.Logic.{by-cases, _⊎_, inl, inr}
 use mathlib.Core.List.{List, [], _∷_, _++_, append-assoc}
-use Prim.Native.Nat.{ℕ, zero, suc, _+_, _-_, _≤_, _<_}
+use Prim.Native.Nat.{ℕ, zero, suc, _+_, _-_, _*_, _≤_, _<_}
 use native.Mathlib.Decide.{decLt}
 use native.Mathlib.Omega.{arith}
 use lib.ListN.{length}
 use lib.Dec.{ltb}
-use borrow.Author.Tests.{ltb-false}
+use borrow.Author.Tests.{ltb-false, leb-false}
 use Rattle.words.specs.Words.{Word, Place, letter, stands}
-use Rattle.words.proofs.Lists.{test-cases}
+use Rattle.words.proofs.Lists.{test-cases, true-not-false}
 use Rattle.words.proofs.Occurrences.{since, since-here, since-later}
 use Rattle.border.specs.Borders.{longestEnd}
 use Rattle.pieces.specs.Kept.{heard}
@@ -23,6 +23,10 @@ use Rattle.turbo_steps.proofs.Between.{kept-grows, short-ends-not, whol
 or-false : (a b : Bool) → a || b ≡ false → a ≡ false
 or-false true b e = e
 or-false false b e = refl
+
+or-false-right : (a b : Bool) → a || b ≡ false → b ≡ false
+or-false-right true b e = true-not-false e
+or-false-right false b e = e
 
 module _ (w t : Word) (low e : Place) where
   pub forward-done : (c : Place) → forward w t low e 0 c ≡ stopsAt c
@@ -65,12 +69,20 @@ module _ (w t : Word) (low e : Place) where
       (λ c s q. record { counted = omega arith; inside = s; past = ltb-false c e (or-false (ltb c e) _ q) })
       (λ c r s R. record { counted = omega (arith, R .counted); inside = R .inside; past = R .past })
 
+  -- and why it stops: at the text's end, or where less than half the word is kept
+  pub forward-why : (k : ℕ) (c : Place) → k + c ≡ length t → let r = forward w t low e k c in
+      (r .place ≡ length t) ⊎ (2 * keptAt w t low (r .place) < length w)
+  forward-why = forward-induction (λ c r. (r .place ≡ length t) ⊎ (2 * keptAt w t low (r .place) < length w))
+      (λ c s. inl s)
+      (λ c s q. inr (leb-false _ _ (or-false-right (ltb c e) _ q)))
+      (λ c r s R. R)
+
 -- ── The finds ──────────────────────────────────────────────────────────────
 
 module _ (w t : Word) (low : Place) (some-letter : 1 ≤ length w) where
   -- the occurrences from c - h on
-  abbrev pub ahead : Place → List Place
-  ahead c = since w t (c - keptAt w t low c)
+  abbrev pub still-ahead : Place → List Place
+  still-ahead c = since w t (c - keptAt w t low c)
 
   module _ (c : Place) (below : low ≤ c) (more : c < length t) where
     abbrev h : ℕ
@@ -93,7 +105,7 @@ module _ (w t : Word) (low : Place) (some-letter : 1 ≤ length w) where
     none-before : (j : Place) → low ≤ j → suc c < j + length w → j < suc c - h′ → stands w t j ≡ true → ⊥
     none-before j l b u g = omega (arith, standing-kept w t low (suc c) (omega arith) more j l (omega arith) b g)
 
-    letter-finds : length w ≤ end → ahead c ≡ foundAt w t low (suc c) ++ ahead (suc c)
+    letter-finds : length w ≤ end → still-ahead c ≡ foundAt w t low (suc c) ++ still-ahead (suc c)
     letter-finds all =
         let ends = whole-ends w t some-letter below more all in
         let told = ends-told w t low (suc c) ends in
@@ -103,7 +115,7 @@ module _ (w t : Word) (low : Place) (some-letter : 1 ≤ length w) where
         (λ j l u g. none-before j (omega (arith, told .0)) (omega (arith, told .0)) u g) in
         rw (place, ends) (since-here w t s (omega (arith, told .0)) (told .1) ∙ ap (λ (r : List Place). s ∷ r) passed)
 
-    letter-passes : end < length w → ahead c ≡ foundAt w t low (suc c) ++ ahead (suc c)
+    letter-passes : end < length w → still-ahead c ≡ foundAt w t low (suc c) ++ still-ahead (suc c)
     letter-passes less = test-cases (endsAt w t low (suc c))
         (λ q. absurd (short-ends-not w t some-letter below more less q))
         (λ q. rw q (since-later w t (c - h) (suc c - h′) (omega (arith, kept-grows w t some-letter below more)) passed))
@@ -116,15 +128,15 @@ module _ (w t : Word) (low : Place) (some-letter : 1 ≤ length w) where
             short-ends-not w t some-letter below more less
             (told-ends w t low (suc c) (omega (arith, fits .1)) (rw place at g)))
 
-    letter-starts : ahead c ≡ foundAt w t low (suc c) ++ ahead (suc c)
+    letter-starts : still-ahead c ≡ foundAt w t low (suc c) ++ still-ahead (suc c)
     letter-starts = by-cases (decLt end (length w)) letter-passes (λ b. letter-finds (omega arith))
 
   pub forward-starts : (e : Place) (k : ℕ) (c : Place) → k + c ≡ length t → low ≤ c
-      → let r = forward w t low e k c in ahead c ≡ r .starts ++ ahead (r .place)
+      → let r = forward w t low e k c in still-ahead c ≡ r .starts ++ still-ahead (r .place)
   forward-starts e k c s = forward-induction w t low e Finds (λ c q b. refl) (λ c l q b. refl) one k c s
     where
       Finds : Place → Advance → Type 0
-      Finds c r = low ≤ c → ahead c ≡ r .starts ++ ahead (r .place)
+      Finds c r = low ≤ c → still-ahead c ≡ r .starts ++ still-ahead (r .place)
 
       one : (c : Place) (r : Advance) → c < length t → Finds (suc c) r → Finds c (oneLetter (foundAt w t low (suc c)) r)
       one c r l rec b =

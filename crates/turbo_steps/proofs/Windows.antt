@@ -15,34 +15,21 @@ use Rattle.words.specs.Words.{Letter, Word, Place, occurrences}
 use Rattle.words.proofs.Lists.{option-cases}
 use Rattle.words.proofs.Occurrences.{since-start, since-past, since-later}
 use Rattle.oracle.specs.Arrows.{State, Delta}
-use Rattle.backward.specs.Steps.{Reading, Sweep, nothing, readDown}
+use Rattle.backward.specs.Steps.{Sweep, nothing}
 use Rattle.backward.proofs.Reading.{failed-place, reading-letters-most}
 use Rattle.backward.proofs.Windows.{Walker, reading-loses-none}
-use Rattle.turbo_steps.specs.Turbo.{keptAt, Advance, forward, windowEnd, behind, turboWindows, turboSteps}
+use Rattle.turbo_steps.specs.Turbo.{keptAt, windowEnd, readBack, nextLow, nextPlace, readForth, turboWindows, turboSteps}
 use Rattle.turbo_steps.proofs.Between.{kept-short, kept-past, kept-fresh}
-use Rattle.turbo_steps.proofs.Forward.{Reads, forward-counts, ahead, forward-starts}
+use Rattle.turbo_steps.proofs.Forward.{Reads, forward-counts, still-ahead, forward-starts}
 
 -- ── One window ─────────────────────────────────────────────────────────────
 
 module _ (δ : Delta) (w t : Word) (low c : Place) where
-  -- the window's letters from its end down to c
-  abbrev pub back : Reading
-  back = readDown δ t c (windowEnd w t low c - c) 0
-
-  -- low and c behind that
-  abbrev pub next-low : Place
-  next-low = behind low (back .failed)
-
-  abbrev pub from-place : Place
-  from-place = behind c (back .failed)
-
-  -- and its letters forward
-  abbrev pub forth : Advance
-  forth = forward w t next-low (windowEnd w t low c) (length t - from-place) from-place
-
   -- what the later windows say, with what this one adds
   abbrev pub with-window : Sweep → Sweep
   with-window later =
+      let back = readBack δ w t low c in
+      let forth = readForth δ w t low c in
       record { starts = forth .starts ++ later .starts; letters = back .letters + (forth .letters + later .letters) }
 
   -- a window that ends behind the text is none
@@ -53,21 +40,21 @@ module _ (δ : Delta) (w t : Word) (low c : Place) where
 
   -- one that ends within the text is read
   pub windows-one : (k : ℕ) → windowEnd w t low c ≤ length t
-      → turboWindows δ w t (suc k) low c ≡ with-window (turboWindows δ w t k next-low (forth .place))
+      → turboWindows δ w t (suc k) low c ≡ with-window (turboWindows δ w t k (nextLow δ w t low c) (readForth δ w t low c .place))
   unfolding turboWindows
   windows-one k h = rw (le-leb (windowEnd w t low c) (length t) h)
 
   -- how it goes on
   pub record Moves : Type 0 where
     pub longer : c < windowEnd w t low c
-    pub below : next-low ≤ from-place
-    pub on : c ≤ from-place
-    pub within : from-place ≤ windowEnd w t low c
-    pub read : back .letters + c ≤ windowEnd w t low c
-    pub reads : Reads w t next-low (windowEnd w t low c) from-place forth
+    pub below : nextLow δ w t low c ≤ nextPlace δ w t low c
+    pub on : c ≤ nextPlace δ w t low c
+    pub within : nextPlace δ w t low c ≤ windowEnd w t low c
+    pub read : readBack δ w t low c .letters + c ≤ windowEnd w t low c
+    pub reads : Reads w t (nextLow δ w t low c) (windowEnd w t low c) (nextPlace δ w t low c) (readForth δ w t low c)
 
   pub window-moves : 1 ≤ length w → low ≤ c → c ≤ length t → windowEnd w t low c ≤ length t → Moves
-  window-moves some-letter l u h = option-cases (back .failed)
+  window-moves some-letter l u h = option-cases (readBack δ w t low c .failed)
       (λ e. moves (rw e l) (rw e (le-refl c)) (rw e (omega (arith, longer))))
       (λ f e.
       let p = failed-place δ t c (windowEnd w t low c - c) 0 f e in
@@ -76,14 +63,16 @@ module _ (δ : Delta) (w t : Word) (low c : Place) where
       longer : c < windowEnd w t low c
       longer = omega (arith, kept-short w t low c some-letter, kept-past w t low c l u some-letter)
 
-      moves : next-low ≤ from-place → c ≤ from-place → from-place ≤ windowEnd w t low c → Moves
+      moves : nextLow δ w t low c ≤ nextPlace δ w t low c → c ≤ nextPlace δ w t low c → nextPlace δ w t low c ≤ windowEnd w t low c
+          → Moves
       moves a b d = record {
         longer = longer;
         below = a;
         on = b;
         within = d;
         read = omega (arith, reading-letters-most δ t c (windowEnd w t low c - c) 0, longer);
-        reads = forward-counts w t next-low (windowEnd w t low c) h (length t - from-place) from-place (omega (arith, d));
+        reads = let c′ = nextPlace δ w t low c in
+            forward-counts w t (nextLow δ w t low c) (windowEnd w t low c) h (length t - c′) c′ (omega (arith, d));
       }
 
 -- what holds past the last window, and of one more window where it held, holds of all windows
@@ -91,14 +80,14 @@ windows-induction
     : (δ : Delta) (w t : Word) (P : Place → Place → Sweep → Type 0) → 1 ≤ length w
     → ((low c : Place) → c ≤ length t → length t < windowEnd w t low c → P low c nothing)
     → ((low c : Place) (later : Sweep) → low ≤ c → c ≤ length t → windowEnd w t low c ≤ length t → Moves δ w t low c
-    → P (next-low δ w t low c) (forth δ w t low c .place) later → P low c (with-window δ w t low c later))
+    → P (nextLow δ w t low c) (readForth δ w t low c .place) later → P low c (with-window δ w t low c later))
     → (k : ℕ) (low c : Place) → length t < k + c → low ≤ c → c ≤ length t → P low c (turboWindows δ w t k low c)
 windows-induction δ w t P some-letter past one zero low c f l u = absurd (omega arith)
 windows-induction δ w t P some-letter past one (suc k) low c f l u = by-cases (decLe (windowEnd w t low c) (length t))
     (λ h.
     let M = window-moves δ w t low c some-letter l u h in
     let R = M .reads in
-    let later = windows-induction δ w t P some-letter past one k _ (forth δ w t low c .place) (omega (arith, R .past, M .longer))
+    let later = windows-induction δ w t P some-letter past one k _ (readForth δ w t low c .place) (omega (arith, R .past, M .longer))
     (omega (arith, M .below, R .counted)) (R .inside) in
     rw (windows-one δ w t low c k h) (one low c _ l u h M later))
     (λ h. rw (windows-past δ w t low c (suc k) (omega arith)) (past low c u (omega arith)))
@@ -127,14 +116,14 @@ steps-short δ w t h = windows-past δ w t 0 0 (suc (length t)) (omega arith)
 module _ {w : Word} {δ : Delta} (W : Walker w δ) (t : Word) (some-letter : 1 ≤ length w) where
   -- the backward reading loses nothing
   back-loses-none : (low c : Place) → low ≤ c → c ≤ length t → windowEnd w t low c ≤ length t → Moves δ w t low c
-      → ahead w t low some-letter c ≡ ahead w t (next-low δ w t low c) some-letter (from-place δ w t low c)
-  back-loses-none low c l u h M = option-cases (back δ w t low c .failed) (λ e. rw e) failed
+      → still-ahead w t low some-letter c ≡ still-ahead w t (nextLow δ w t low c) some-letter (nextPlace δ w t low c)
+  back-loses-none low c l u h M = option-cases (readBack δ w t low c .failed) (λ e. rw e) failed
     where
       k : ℕ
       k = windowEnd w t low c - c
 
-      failed : (f : Place) → back δ w t low c .failed ≡ some f
-          → ahead w t low some-letter c ≡ ahead w t (next-low δ w t low c) some-letter (from-place δ w t low c)
+      failed : (f : Place) → readBack δ w t low c .failed ≡ some f
+          → still-ahead w t low some-letter c ≡ still-ahead w t (nextLow δ w t low c) some-letter (nextPlace δ w t low c)
       failed f e =
           let p = failed-place δ t c k 0 f e in
           let b = M .longer in
@@ -144,13 +133,13 @@ module _ {w : Word} {δ : Delta} (W : Walker w δ) (t : Word) (some-letter : 1 �
 
   -- the windows from c on list the occurrences from c - h on
   windows-list : (k : ℕ) (low c : Place) → length t < k + c → low ≤ c → c ≤ length t
-      → turboWindows δ w t k low c .starts ≡ ahead w t low some-letter c
-  windows-list = windows-induction δ w t (λ low c r. r .starts ≡ ahead w t low some-letter c) some-letter
+      → turboWindows δ w t k low c .starts ≡ still-ahead w t low some-letter c
+  windows-list = windows-induction δ w t (λ low c r. r .starts ≡ still-ahead w t low some-letter c) some-letter
       (λ low c u h. sym (since-past w t (c - keptAt w t low c) (omega arith)))
       (λ low c later l u h M rec.
-      let place = from-place δ w t low c in
-      ap (λ (r : List Place). forth δ w t low c .starts ++ r) rec
-      ∙ sym (forward-starts w t (next-low δ w t low c) some-letter (windowEnd w t low c) (length t - place) place
+      let place = nextPlace δ w t low c in
+      ap (λ (r : List Place). readForth δ w t low c .starts ++ r) rec
+      ∙ sym (forward-starts w t (nextLow δ w t low c) some-letter (windowEnd w t low c) (length t - place) place
       (omega (arith, M .within)) (M .below))
       ∙ sym (back-loses-none low c l u h M))
 

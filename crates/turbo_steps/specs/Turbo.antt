@@ -13,7 +13,11 @@
 --   goesOn w t low e c        whether a letter more is read at c: up to e, and on while 2h is at least m
 --   forward w t low e k c     reads forward from c, where k letters of the text are left
 --   windowEnd w t low c       where the window ends that starts at c - h
+--   readBack δ w t low c      its letters, read from its end down to c
 --   behind x f                x, or the place behind the failing letter where there is one
+--   nextLow δ w t low c, nextPlace δ w t low c
+--                             low and c behind that reading
+--   readForth δ w t low c     its letters, read forward from there
 --   turboWindows δ w t k low c
 --                             the windows from c on; k bounds how many there are
 --   turboSteps δ w t          all windows, with the arrows δ
@@ -30,7 +34,7 @@ use Rattle.words.specs.Words.{Word, Place, part, mirror, stands}
 use Rattle.oracle.specs.Arrows.{Delta}
 use Rattle.oracle.specs.SuffixRule.{oracle}
 use Rattle.pieces.specs.Kept.{kept}
-use Rattle.backward.specs.Steps.{readDown, Sweep, nothing}
+use Rattle.backward.specs.Steps.{Reading, readDown, Sweep, nothing}
 
 -- ── What is kept and what is found at a place ──────────────────────────────
 
@@ -72,21 +76,32 @@ forward w t low e (suc k) c =
 abbrev pub windowEnd : Word → Word → Place → Place → Place
 windowEnd w t low c = c - keptAt w t low c + length w
 
+abbrev pub readBack : Delta → Word → Word → Place → Place → Reading
+readBack δ w t low c = readDown δ t c (windowEnd w t low c - c) 0
+
 abbrev pub behind : Place → Option Place → Place
 behind x none = x
 behind x (some f) = f + 1
 
+abbrev pub nextLow : Delta → Word → Word → Place → Place → Place
+nextLow δ w t low c = behind low (readBack δ w t low c .failed)
+
+abbrev pub nextPlace : Delta → Word → Word → Place → Place → Place
+nextPlace δ w t low c = behind c (readBack δ w t low c .failed)
+
+abbrev pub readForth : Delta → Word → Word → Place → Place → Advance
+readForth δ w t low c =
+    let c′ = nextPlace δ w t low c in
+    forward w t (nextLow δ w t low c) (windowEnd w t low c) (length t - c′) c′
+
 unfoldable pub turboWindows : Delta → Word → Word → ℕ → Place → Place → Sweep
 turboWindows δ w t zero low c = nothing
 turboWindows δ w t (suc k) low c =
-    let e = windowEnd w t low c in
-    let back = readDown δ t c (e - c) 0 in
-    let low′ = behind low (back .failed) in
-    let c′ = behind c (back .failed) in
-    let ahead = forward w t low′ e (length t - c′) c′ in
-    let later = turboWindows δ w t k low′ (ahead .place) in
-    cond (leb e (length t))
-    (record { starts = ahead .starts ++ later .starts; letters = back .letters + (ahead .letters + later .letters) })
+    let back = readBack δ w t low c in
+    let forth = readForth δ w t low c in
+    let later = turboWindows δ w t k (nextLow δ w t low c) (forth .place) in
+    cond (leb (windowEnd w t low c) (length t))
+    (record { starts = forth .starts ++ later .starts; letters = back .letters + (forth .letters + later .letters) })
     nothing
 
 -- every window has another of the places 0 to n as c, so n + 1 bounds them

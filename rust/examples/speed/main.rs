@@ -1,11 +1,15 @@
-//! speed: measures `build`, `load`, `search` and `take` on this machine, and prints the tables of docs/SPEED.md, each between two lines that name it. Run it by
-//! `tools/speed`.
+//! speed [TABLE..]: measures `build`, `load`, `search`, `turbo` and `take` on this machine, and prints the tables of docs/SPEED.md, or those that are named, each
+//! between two lines that name it. Run it by `tools/speed`.
 
+mod clock;
+mod linear;
 mod pieces;
 mod plain;
+mod plain_forward;
 mod plain_stream;
 mod rivals;
 
+use clock::{best, ms};
 use marks::entries::{build, load, save, search, Tally};
 use marks::{table_room, LONGEST_FILE, LONGEST_WORD};
 use plain::Plain;
@@ -26,21 +30,6 @@ impl Random {
     fn bytes(&mut self, n: usize, letters: u64) -> Vec<u8> {
         (0..n).map(|_| (self.next() >> 20).wrapping_rem(letters) as u8).collect()
     }
-}
-
-/// Seconds of the fastest of five runs, or of fewer where they take more than a second together.
-fn best(mut run: impl FnMut()) -> f64 {
-    let (mut fastest, mut all) = (f64::INFINITY, 0.0);
-    for _ in 0..5 {
-        let start = Instant::now();
-        run();
-        let took = start.elapsed().as_secs_f64();
-        (fastest, all) = (took.min(fastest), all + took);
-        if all > 1.0 {
-            break;
-        }
-    }
-    fastest
 }
 
 /// The words that are built and loaded, each twice as long as the one before.
@@ -73,7 +62,7 @@ fn by_length(mut run: impl FnMut(usize)) -> [f64; LENGTHS.len()] {
 }
 
 fn build_times() {
-    println!("<!-- begin build -->\n{}", lengths_head("| Alphabet |"));
+    println!("{}", lengths_head("| Alphabet |"));
     for letters in [2, 4, 256] {
         let words = LENGTHS.map(|m| (0..WORDS).map(|i| Random(88172645463325252 + i).bytes(m, letters)).collect::<Vec<_>>());
         let mut tables = vec![0u16; table_room(LONGEST_WORD)];
@@ -88,7 +77,6 @@ fn build_times() {
         }
         println!();
     }
-    println!("<!-- end build -->");
 }
 
 /// A file and what becomes of it when it is damaged.
@@ -114,7 +102,7 @@ fn files(m: usize, letters: u64, how: &str) -> Vec<Vec<u8>> {
 }
 
 fn load_times() {
-    println!("<!-- begin load -->\n{}", lengths_head("| Alphabet | File |"));
+    println!("{}", lengths_head("| Alphabet | File |"));
     let (mut tables, mut room) = (vec![0u16; table_room(LONGEST_WORD)], vec![0u8; LONGEST_WORD]);
     for letters in [2, 4, 256] {
         for how in ["good", "last arrow differs (10)", "one byte more (11)", "one byte less (5)"] {
@@ -139,11 +127,7 @@ fn load_times() {
             let _ = std::hint::black_box(load(&[0x01, 0xFF, 0xFF, 0xFF, 0xFF, 0x0F], &mut room, &mut tables));
         }
     });
-    println!("\n01 FF FF FF FF 0F, which declares 4,294,967,295 letters, is refused in {:.0} nanoseconds.\n<!-- end load -->", took * 1e3);
-}
-
-fn ms(seconds: Option<f64>) -> String {
-    seconds.map_or("-".into(), |s| format!("{:.1}", s * 1e3))
+    println!("\n01 FF FF FF FF 0F, which declares 4,294,967,295 letters, is refused in {:.0} nanoseconds.", took * 1e3);
 }
 
 /// Seconds of our search, of plain Rust, of memmem and of memchr, once all four have said the same; and what our search said.
@@ -154,20 +138,10 @@ fn race(word: &[u8], text: &[u8]) -> ([Option<f64>; 4], Tally) {
     assert_eq!(memmem_count(word, text), said.count);
     let memchr = memchr_count(word, text);
     assert!(memchr.is_none_or(|count| count == said.count));
-    let ours = best(|| {
-        search(word, text, &mut tables, &mut finds).expect("within the limits");
-    });
-    let plain = best(|| {
-        std::hint::black_box(Plain::new(word).count(text));
-    });
-    let library = best(|| {
-        std::hint::black_box(memmem_count(word, text));
-    });
-    let crates = memchr.map(|_| {
-        best(|| {
-            std::hint::black_box(memchr_count(word, text));
-        })
-    });
+    let ours = best(|| search(word, text, &mut tables, &mut finds));
+    let plain = best(|| Plain::new(word).count(text));
+    let library = best(|| memmem_count(word, text));
+    let crates = memchr.map(|_| best(|| memchr_count(word, text)));
     ([Some(ours), Some(plain), Some(library), crates], said)
 }
 
@@ -189,19 +163,18 @@ fn race_line(start: String, word: &[u8], text: &[u8]) {
 }
 
 fn search_times() {
-    println!("<!-- begin search -->\n| Alphabet | Word | {RACE} letters read |\n|---|---|---|---|---|---|---|---|");
+    println!("| Alphabet | Word | {RACE} letters read |\n|---|---|---|---|---|---|---|---|");
     for letters in [2, 4, 256] {
         let text = Random(362436069 + letters).bytes(16 << 20, letters);
         for m in [4, 16, 64, 256, 1024, LONGEST_WORD] {
             race_line(format!("| {letters} | {m} |"), &text[5_000_000..5_000_000 + m], &text);
         }
     }
-    println!("<!-- end search -->");
 }
 
 /// Letters read for each letter of text, beside what 001 conjectures up to a constant.
 fn letters_read() {
-    println!("<!-- begin letters -->\n| Alphabet | Word | letters read | log m / m | ratio |\n|---|---|---|---|---|");
+    println!("| Alphabet | Word | letters read | log m / m | ratio |\n|---|---|---|---|---|");
     for letters in [2u64, 4, 256] {
         let text = Random(521288629 + letters).bytes(4 << 20, letters);
         for m in [4, 8, 16, 32, 64, 128, 256, 512, 1024, 2048, LONGEST_WORD] {
@@ -212,20 +185,6 @@ fn letters_read() {
             println!("| {letters} | {m} | {measured:.4} | {conjectured:.4} | {:.2} |", measured / conjectured);
         }
     }
-    println!("<!-- end letters -->");
-}
-
-/// One repeated letter: the worst text there is for this search.
-fn hostile_times() {
-    println!("<!-- begin hostile -->\n| Word | m | {RACE} letters read |\n|---|---|---|---|---|---|---|---|");
-    let text = vec![b'a'; 1 << 20];
-    for m in [4usize, 16, 64, 256, 1024] {
-        let word = vec![b'a'; m];
-        race_line(format!("| a, m times | {m} |"), &word, &text);
-        race_line(format!("| b, then a | {m} |"), &[b"b", &word[1..]].concat(), &text);
-        race_line(format!("| a, then b | {m} |"), &[&word[1..], b"b"].concat(), &text);
-    }
-    println!("<!-- end hostile -->");
 }
 
 /// So many random letters that are not a shorter word over and over.
@@ -243,7 +202,7 @@ const PERIODIC: &str = "| Period | finds | letters read, steps of 01 | letters r
 
 /// Words that stand often: word and text have one period. By the steps of 01 the window moves one place after a find.
 fn periodic_times() {
-    println!("<!-- begin periodic -->\n{PERIODIC}\n|{}", "---|".repeat(10));
+    println!("{PERIODIC}\n|{}", "---|".repeat(10));
     let mut random = Random(777767777);
     for period in [2, 8, 64] {
         let text: Vec<u8> = primitive(&mut random, period).into_iter().cycle().take(1 << 20).collect();
@@ -251,22 +210,38 @@ fn periodic_times() {
         let (times, said) = race(word, &text);
         let (count, letters) = Plain::moving(word, 1).count(&text);
         assert_eq!(count, said.count);
-        let steps_of_01 = best(|| {
-            std::hint::black_box(Plain::moving(word, 1).count(&text));
-        });
+        let steps_of_01 = best(|| Plain::moving(word, 1).count(&text));
         print!("| {period} | {count} | {:.4} | {:.4} |", per_letter(letters, &text), per_letter(said.letters, &text));
         let [ours, plain, memmem, memchr] = times.map(ms);
         println!(" {ours} | {} | {plain} | {memmem} | {memchr} | {:.2} |", ms(Some(steps_of_01)), ratio(&times));
     }
-    println!("<!-- end periodic -->");
 }
 
-fn main() {
-    build_times();
-    load_times();
-    search_times();
-    letters_read();
-    hostile_times();
-    periodic_times();
-    pieces::piece_times();
+/// The tables, each by its name.
+const TABLES: [(&str, fn()); 10] = [
+    ("build", build_times),
+    ("load", load_times),
+    ("search", search_times),
+    ("letters", letters_read),
+    ("hostile", || linear::hostile_times(1 << 20)),
+    ("hostile_long", || linear::hostile_times(16 << 20)),
+    ("zeros", linear::zeros_times),
+    ("linear", linear::random_times),
+    ("periodic", periodic_times),
+    ("pieces", pieces::piece_times),
+];
+
+fn main() -> Result<(), String> {
+    let wanted: Vec<String> = std::env::args().skip(1).collect();
+    if let Some(unknown) = wanted.iter().find(|name| TABLES.iter().all(|table| table.0 != *name)) {
+        return Err(format!("there is no table {unknown}"));
+    }
+    for (name, measure) in TABLES {
+        if wanted.is_empty() || wanted.iter().any(|one| one == name) {
+            println!("<!-- begin {name} -->");
+            measure();
+            println!("<!-- end {name} -->");
+        }
+    }
+    Ok(())
 }

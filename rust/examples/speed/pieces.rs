@@ -1,9 +1,9 @@
 //! A text in pieces, through the entry and through [`Stream`], beside the plain search on the same pieces.
 
-use crate::{plain_stream::PlainStream, Random};
+use crate::{clock::by_turns, plain_stream::PlainStream, Random};
 use marks::entries::{open, take};
 use marks::{Stream, SEARCHER};
-use std::{hint::black_box, time::Instant};
+use std::hint::black_box;
 
 /// The pieces that a text is cut into.
 const PIECES: [usize; 4] = [1, 16, 256, 1 << 16];
@@ -36,20 +36,11 @@ fn by_plain_stream(word: &[u8], text: &[u8], piece: usize) -> u64 {
     sum
 }
 
-/// Nanoseconds for each byte of the text, once both ways have said the same: of the fastest of the runs of half a second, five at least. The two take turns, so
-/// that a slow moment of the machine falls on both.
+/// Nanoseconds for each byte of the text, once both ways have said the same.
 fn duel(ways: [Way; 2], word: &[u8], text: &[u8], piece: usize) -> [f64; 2] {
     assert_eq!(ways[0](word, text, piece), ways[1](word, text, piece));
-    let (mut fastest, mut runs, started) = ([f64::INFINITY; 2], 0, Instant::now());
-    while runs < 5 || started.elapsed().as_secs_f64() < 0.5 {
-        for (way, best) in ways.iter().zip(&mut fastest) {
-            let start = Instant::now();
-            black_box(way(black_box(word), black_box(text), piece));
-            *best = start.elapsed().as_secs_f64().min(*best);
-        }
-        runs += 1;
-    }
-    fastest.map(|seconds| seconds * 1e9 / text.len() as f64)
+    let [mut ours, mut plain] = ways.map(|way| move || way(black_box(word), black_box(text), piece));
+    by_turns([&mut ours, &mut plain]).map(|seconds| seconds * 1e9 / text.len() as f64)
 }
 
 /// The texts with the words that are looked for in them, each with what it is called.
@@ -68,7 +59,7 @@ fn searches() -> Vec<(String, Vec<u8>, Vec<u8>)> {
 }
 
 pub fn piece_times() {
-    println!("<!-- begin pieces -->\n| Text | Word | By | pieces of 1 | 16 | 256 | 64 KiB |\n|{}", "---|".repeat(7));
+    println!("| Text | Word | By | pieces of 1 | 16 | 256 | 64 KiB |\n|{}", "---|".repeat(7));
     let ways: [(&str, [Way; 2]); 2] = [("marks_take", [by_entry, by_plain_entry]), ("Stream", [by_stream, by_plain_stream])];
     let (mut slowest, mut most) = ([0.0; 2], [0.0; 2]);
     for (name, word, text) in searches() {
@@ -87,5 +78,5 @@ pub fn piece_times() {
         }
     }
     println!("\nOf one byte, the slowest: {:.0} nanoseconds by marks_take, {:.0} by Stream.", slowest[0], slowest[1]);
-    println!("From 256 bytes up, the most: {:.2} times plain Rust by marks_take, {:.2} by Stream.\n<!-- end pieces -->", most[0], most[1]);
+    println!("From 256 bytes up, the most: {:.2} times plain Rust by marks_take, {:.2} by Stream.", most[0], most[1]);
 }

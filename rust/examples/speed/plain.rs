@@ -1,5 +1,7 @@
 //! The backward search in plain safe Rust, over the oracle of the mirrored word with a full table of 256 columns: what a careful engineer would write.
 
+use crate::plain_forward::borders;
+
 pub struct Plain {
     table: Vec<[u16; 256]>,
     m: usize,
@@ -10,7 +12,7 @@ pub struct Plain {
 impl Plain {
     /// The search whose window moves by m less the word's longest border after a find.
     pub fn new(word: &[u8]) -> Self {
-        Self::moving(word, word.len() - longest_border(word))
+        Self::moving(word, word.len() - borders(word)[word.len() - 1])
     }
 
     /// The search whose window moves so many places after a find.
@@ -56,17 +58,4 @@ impl Plain {
         }
         (count, letters)
     }
-}
-
-/// The length of the longest word, shorter than this one, that it begins and ends with.
-fn longest_border(word: &[u8]) -> usize {
-    let mut borders = vec![0; word.len()];
-    for i in 1..word.len() {
-        let mut k = borders[i - 1];
-        while k > 0 && word[k] != word[i] {
-            k = borders[k - 1];
-        }
-        borders[i] = if word[k] == word[i] { k + 1 } else { 0 };
-    }
-    borders[word.len() - 1]
 }

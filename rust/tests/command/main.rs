@@ -1,6 +1,7 @@
 //! The command line as a person uses it: the program is run in a folder of its own, and what it prints, complains of and ends with is compared.
 
 mod endings;
+mod engines;
 mod find;
 mod mark_files;
 mod places;

@@ -12,6 +12,9 @@ fn help_fits_a_screen() {
     for word in ["find", "save", "check", "show", "-x", "-m", "-X", "-c", "-H", "-h", "--dot", "--help", "--version", "mirror"] {
         assert!(said.out.contains(word), "{word}");
     }
+    for word in ["--engine", "auto", "backward", "turbo", "--stats"] {
+        assert!(said.out.contains(word), "{word}");
+    }
     assert!(said.out.contains(&format!("WORD has 1 to {} bytes", told(LONGEST_WORD))));
     assert_eq!(here.marks(&["find", "--help"]), said);
     assert_eq!(here.marks(&["check", "-x", "--help"]), said);
@@ -37,7 +40,8 @@ fn what_cannot_be_done_is_said_with_what_to_do() {
     let options = "marks --help lists the options, and -- goes before a word that begins with - and is none";
     let save = "it takes a WORD and the file to write; as in marks save -x 2e464954 fit.mark";
     let show = "it takes one MARKFILE; name one that marks save wrote, or - for standard input";
-    let cases: [(&[&str], &str); 25] = [
+    let engines = "it is auto, backward or turbo";
+    let cases: [(&[&str], &str); 31] = [
         (&[], &format!("command: none is given; {commands}")),
         (&["-c"], &format!("command: none is given; {commands}")),
         (&["fnid", "a", "ride"], &format!("fnid: there is no such command; {commands}")),
@@ -47,6 +51,11 @@ fn what_cannot_be_done_is_said_with_what_to_do() {
         (&["find", "a", "ride", "-m"], "-m: no mark file follows it; name one that marks save wrote"),
         (&["find", "ride", "--mark"], "-m: no mark file follows it; name one that marks save wrote"),
         (&["find", "-m", "x", "--mark=y", "ride"], "-m: it is given twice; look for one mark at a time"),
+        (&["find", "a", "ride", "--engine"], &format!("--engine: no name follows it; {engines}")),
+        (&["find", "--engine=fast", "a", "ride"], &format!("--engine: there is no engine \"fast\"; {engines}")),
+        (&["find", "--engine", "", "a", "ride"], &format!("--engine: there is no engine \"\"; {engines}")),
+        (&["find", "--engine", "\u{1b}[2J", "a", "ride"], &format!("--engine: there is no engine \"\\x1b[2J\"; {engines}")),
+        (&["find", "--engine=auto", "--engine", "turbo", "a", "ride"], "--engine: it is given twice; choose one"),
         (&["find", "-x", "-m", "x", "ride"], "find: both -x and -m are given; give WORD in hex, or a mark file"),
         (&["find", "-m", "-", "ride", "-"], "find: - is both the mark file and a FILE; name one of them"),
         (&["find", "-z", "a", "ride"], &format!("-z: there is no such option; {options}")),
@@ -58,6 +67,7 @@ fn what_cannot_be_done_is_said_with_what_to_do() {
         (&["find", "--dot", "a", "ride"], "find: --dot is for show; leave it out"),
         (&["check", "-x", "ride"], "check: --hex is for find and save; leave it out"),
         (&["save", "-c", "a", "b"], "save: --count is for find; leave it out"),
+        (&["check", "--engine", "turbo", "ride"], "check: --engine is for find; leave it out"),
         (&["save", "a"], &format!("save: {save}")),
         (&["save", "a", "b", "c"], &format!("save: {save}")),
         (&["check"], "check: no MARKFILE is given; name the mark files to check, or - for standard input"),

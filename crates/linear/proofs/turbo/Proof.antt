@@ -67,7 +67,8 @@ returns-5 c =
     let most = at-if2 .if2 .left in
     let short = at-if3 .if3 .left in
     scan-counts _ _ _ _ _ (at-fill .fill-mirror .ensures) least (scanned .0) (scanned .1)
-    ∙ sym (given _ _ _ _ (TurboCase.accepted least (omega (arith, word-limit, most)) (omega (arith, text-limit, short)) (at-if4 .if4 .left)))
+    ∙ sym (given _ _ _ _
+    (TurboCase.accepted least (omega (arith, word-limit, most)) (omega (arith, text-limit, short)) (at-if4 .if4 .left)))
 
 pub turbo-spec : {M : Type 1} → statement M
 turbo-spec =

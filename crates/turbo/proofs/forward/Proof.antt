@@ -101,7 +101,8 @@ loop-again-2 c =
     let at-loop = at-if1 .before .before in
     let at-start = at-loop .before .before .before .before .before .before .before in
     let known = at-loop .loop .inv in
-    let one = going-short (known .1) (at-start .pre .1 .2) (at-if1 .before .reach .ensures) (at-if1 .if1 .taken) (at-extend .extend .ensures) in
+    let fits = at-start .pre .1 .2 in
+    let one = going-short (known .1) fits (at-if1 .before .reach .ensures) (at-if1 .if1 .taken) (at-extend .extend .ensures) in
     let none = at-if2 .if2 .taken in
     (known .0, rw none at (one (omega (arith, none, known .1 .short))))
 
@@ -119,7 +120,8 @@ loop-again-3 c =
     let at-loop = at-if1 .before .before in
     let at-start = at-loop .before .before .before .before .before .before .before in
     let known = at-loop .loop .inv in
-    let one = going-short (known .1) (at-start .pre .1 .2) (at-if1 .before .reach .ensures) (at-if1 .if1 .taken) (at-extend .extend .ensures) in
+    let fits = at-start .pre .1 .2 in
+    let one = going-short (known .1) fits (at-if1 .before .reach .ensures) (at-if1 .if1 .taken) (at-extend .extend .ensures) in
     (known .0, one (c .if4 .taken))
 
 sub-s : tie.Need-sub-s Inv-loop μ-loop

@@ -19,5 +19,5 @@ module _ (m h n e : ℕ) where
 pub reach-spec : {M : Type 1} → statement M
 reach-spec = tie.close (tie.spec
     (λ c. search needs)
-    (λ c. half-kept _ _ _ _ (c .if1 .taken))
-    (λ c. less-kept _ _ _ _ (c .if1 .left)))
+    (λ c. half-kept (c .before .args .m) (c .before .args .keep) _ _ (omega (arith, c .if1 .taken)))
+    (λ c. less-kept (c .before .args .m) (c .before .args .keep) _ _ (omega (arith, c .if1 .left))))

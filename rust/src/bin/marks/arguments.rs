@@ -3,16 +3,20 @@
 use crate::{
     find::{Style, Wanted},
     input,
-    options::Words,
+    options::{Words, ENGINES},
     trouble::Trouble,
-    word::Word,
+    word::{quoted, Word},
 };
-use std::ffi::OsString;
+use marks::Engine;
+use std::{
+    ffi::{OsStr, OsString},
+    os::unix::ffi::OsStrExt,
+};
 
 pub enum Command {
     Help,
     Version,
-    Find { wanted: Wanted, files: Vec<OsString>, style: Style },
+    Find { wanted: Wanted, engine: Engine, files: Vec<OsString>, style: Style },
     Save { word: Word, out: OsString },
     Check { files: Vec<OsString> },
     Show { file: OsString, dot: bool },
@@ -44,18 +48,20 @@ pub fn command(words: impl Iterator<Item = OsString>) -> Result<Command, Trouble
 fn find(mut words: Words) -> Result<Command, Trouble> {
     words.all_of("find")?;
     let hex = words.has("hex");
-    let wanted = match words.mark.take() {
+    let wanted = match words.value_of("mark") {
         Some(_) if hex => return Err(Trouble::new("find", "both -x and -m are given", "give WORD in hex, or a mark file")),
-        Some(file) => Wanted::File(file),
+        Some(file) => Wanted::File(file.to_os_string()),
         None if words.rest.is_empty() => {
             return Err(Trouble::new("find", "no WORD is given", "give the word to find, or a mark file with -m"));
         }
         None => Wanted::Word(Word { given: words.rest.remove(0), hex }),
     };
+    let engine = words.value_of("engine").map(engine).transpose()?.unwrap_or_default();
     let style = Style {
         count_only: words.has("count"),
         hex_offsets: words.has("hex-offsets"),
         names: words.last_of("with-filename", "no-filename").unwrap_or(words.rest.len() > 1),
+        stats: words.has("stats"),
     };
     if words.rest.is_empty() {
         return Err(Trouble::new("find", "no FILE is given", "name the files to look in, or - for standard input"));
@@ -63,7 +69,16 @@ fn find(mut words: Words) -> Result<Command, Trouble> {
     if matches!(&wanted, Wanted::File(file) if input::is_standard(file)) && words.rest.iter().any(|file| input::is_standard(file)) {
         return Err(Trouble::new("find", "- is both the mark file and a FILE", "name one of them"));
     }
-    Ok(Command::Find { wanted, files: words.rest, style })
+    Ok(Command::Find { wanted, engine, files: words.rest, style })
+}
+
+fn engine(name: &OsStr) -> Result<Engine, Trouble> {
+    match name.to_str() {
+        Some("auto") => Ok(Engine::Auto),
+        Some("backward") => Ok(Engine::Backward),
+        Some("turbo") => Ok(Engine::Turbo),
+        _ => Err(Trouble::new("--engine", format!("there is no engine {}", quoted(name.as_bytes())), ENGINES)),
+    }
 }
 
 fn save(words: Words) -> Result<Command, Trouble> {

@@ -15,6 +15,8 @@ marks finds byte marks in files of any size, with a proved library.
   -c, --count           print only how many there are
   -H, --with-filename   print the file's name too, as with several files
   -h, --no-filename     never print it
+      --engine NAME     how to search: auto, as without it, backward or turbo
+      --stats           tell on standard error how many letters were read
       --dot             show: as Graphviz text; marks show --dot F | dot -Tsvg
       --help, --version
 

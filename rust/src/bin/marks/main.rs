@@ -28,7 +28,7 @@ fn run(command: Command, output: &mut Output) -> Result<bool, Trouble> {
     match command {
         Command::Help => output.line(format_args!("{}", help::HELP)),
         Command::Version => output.line(format_args!("marks {}", env!("CARGO_PKG_VERSION"))),
-        Command::Find { wanted, files, style } => return find::find(&wanted, &files, style, output),
+        Command::Find { wanted, engine, files, style } => return find::find(&wanted, engine, &files, style, output),
         Command::Save { word, out } => save::save(&word, &out, output)?,
         Command::Check { files } => return Ok(check::check(&files, output)),
         Command::Show { file, dot } => show::show(&file, dot, output)?,

@@ -8,33 +8,55 @@ use std::{
 
 const LISTED: &str = "marks --help lists the options, and -- goes before a word that begins with - and is none";
 
-/// An option, by its letter and its long name, and the commands that it is for.
+/// An option, by its letter and its long name, the value that it takes, and the commands that it is for.
 pub struct Known {
     short: Option<u8>,
     long: &'static str,
+    value: Option<Value>,
     commands: &'static [&'static str],
 }
 
-/// The one option that has a value.
-const MARK: &str = "mark";
+/// What is said where an option's value is missing or is one too many.
+#[derive(Clone, Copy)]
+struct Value {
+    spelled: &'static str,
+    missing: &'static str,
+    advice: &'static str,
+    advice_of_two: &'static str,
+}
 
-const KNOWN: [Known; 9] = [
-    Known { short: Some(b'x'), long: "hex", commands: &["find", "save"] },
-    Known { short: Some(b'm'), long: MARK, commands: &["find"] },
-    Known { short: Some(b'X'), long: "hex-offsets", commands: &["find"] },
-    Known { short: Some(b'c'), long: "count", commands: &["find"] },
-    Known { short: Some(b'H'), long: "with-filename", commands: &["find"] },
-    Known { short: Some(b'h'), long: "no-filename", commands: &["find"] },
-    Known { short: None, long: "dot", commands: &["show"] },
-    Known { short: None, long: "help", commands: &["find", "save", "check", "show"] },
-    Known { short: None, long: "version", commands: &["find", "save", "check", "show"] },
+const MARK: Option<Value> = Some(Value {
+    spelled: "-m",
+    missing: "no mark file follows it",
+    advice: "name one that marks save wrote",
+    advice_of_two: "look for one mark at a time",
+});
+
+const ENGINE: Option<Value> =
+    Some(Value { spelled: "--engine", missing: "no name follows it", advice: ENGINES, advice_of_two: "choose one" });
+
+/// The engines that there are.
+pub const ENGINES: &str = "it is auto, backward or turbo";
+
+const KNOWN: [Known; 11] = [
+    Known { short: Some(b'x'), long: "hex", value: None, commands: &["find", "save"] },
+    Known { short: Some(b'm'), long: "mark", value: MARK, commands: &["find"] },
+    Known { short: Some(b'X'), long: "hex-offsets", value: None, commands: &["find"] },
+    Known { short: Some(b'c'), long: "count", value: None, commands: &["find"] },
+    Known { short: Some(b'H'), long: "with-filename", value: None, commands: &["find"] },
+    Known { short: Some(b'h'), long: "no-filename", value: None, commands: &["find"] },
+    Known { short: None, long: "engine", value: ENGINE, commands: &["find"] },
+    Known { short: None, long: "stats", value: None, commands: &["find"] },
+    Known { short: None, long: "dot", value: None, commands: &["show"] },
+    Known { short: None, long: "help", value: None, commands: &["find", "save", "check", "show"] },
+    Known { short: None, long: "version", value: None, commands: &["find", "save", "check", "show"] },
 ];
 
-/// The words of a command line: the options in their order, the value of `-m`, and the rest.
+/// The words of a command line: the options in their order, with the values of those that take one, and the rest.
 #[derive(Default)]
 pub struct Words {
     options: Vec<&'static Known>,
-    pub mark: Option<OsString>,
+    values: Vec<(&'static str, OsString)>,
     pub rest: Vec<OsString>,
 }
 
@@ -54,6 +76,11 @@ impl Words {
 
     pub fn has(&self, long: &str) -> bool {
         self.options.iter().any(|known| known.long == long)
+    }
+
+    /// The value of an option that was given one.
+    pub fn value_of(&self, long: &str) -> Option<&OsStr> {
+        self.values.iter().find(|(name, _)| *name == long).map(|(_, value)| value.as_os_str())
     }
 
     /// The last of two options that contradict each other: whether it is the first of them.
@@ -76,7 +103,7 @@ impl Words {
             None => (word, None),
         };
         let known = known(&[b"--", name].concat(), |known| known.long.as_bytes() == name)?;
-        if value.is_some() && known.long != MARK {
+        if value.is_some() && known.value.is_none() {
             return Err(Trouble::new(format!("--{}", known.long), "it takes no value", "leave = and what follows out"));
         }
         self.take(known, value, words)
@@ -86,7 +113,7 @@ impl Words {
     fn short(&mut self, first: u8, more: &[u8], words: &mut impl Iterator<Item = OsString>) -> Result<(), Trouble> {
         let known = known(&[b'-', first], |known| known.short == Some(first))?;
         match more {
-            [second, others @ ..] if known.long != MARK => {
+            [second, others @ ..] if known.value.is_none() => {
                 self.take(known, None, words)?;
                 self.short(*second, others, words)
             }
@@ -97,13 +124,13 @@ impl Words {
 
     fn take(&mut self, known: &'static Known, value: Option<&[u8]>, words: &mut impl Iterator<Item = OsString>) -> Result<(), Trouble> {
         self.options.push(known);
-        if known.long == MARK {
-            let value = value.map(|value| OsStr::from_bytes(value).to_os_string()).or_else(|| words.next());
-            let value = value.ok_or_else(|| Trouble::new("-m", "no mark file follows it", "name one that marks save wrote"))?;
-            if self.mark.replace(value).is_some() {
-                return Err(Trouble::new("-m", "it is given twice", "look for one mark at a time"));
-            }
+        let Some(of) = known.value else { return Ok(()) };
+        let value = value.map(|value| OsStr::from_bytes(value).to_os_string()).or_else(|| words.next());
+        let value = value.ok_or_else(|| Trouble::new(of.spelled, of.missing, of.advice))?;
+        if self.value_of(known.long).is_some() {
+            return Err(Trouble::new(of.spelled, "it is given twice", of.advice_of_two));
         }
+        self.values.push((known.long, value));
         Ok(())
     }
 }

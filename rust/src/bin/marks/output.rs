@@ -41,11 +41,16 @@ impl Output {
     }
 
     pub fn complain(&mut self, trouble: &Trouble) {
+        self.troubled = true;
+        self.note(format_args!("{trouble}"));
+    }
+
+    /// A line on standard error, behind the answers that came before it.
+    pub fn note(&mut self, text: fmt::Arguments<'_>) {
         self.flush();
         self.progress.erase();
-        self.troubled = true;
         // a message that nobody can be told does not change the status
-        let _ = writeln!(io::stderr(), "marks: {trouble}");
+        let _ = writeln!(io::stderr(), "marks: {text}");
     }
 
     /// The end of all output. Whether there was trouble.

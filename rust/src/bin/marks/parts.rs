@@ -3,8 +3,9 @@
 
 use std::io::{self, ErrorKind, Read};
 
-/// The most that is read at a time.
-const PART: usize = 1 << 18;
+/// The most that is read at a time; where that is more, so much for each letter of the mark, as the table of a long mark takes its time and is made for each part.
+const LEAST_PART: usize = 1 << 18;
+const PART_FOR_A_LETTER: usize = 1 << 9;
 
 pub struct Parts<R> {
     source: R,
@@ -18,8 +19,8 @@ pub struct Parts<R> {
 impl<R: Read> Parts<R> {
     /// The parts for a mark of so many letters, at least one.
     pub fn new(source: R, letters: usize) -> Parts<R> {
-        let common = letters - 1;
-        Parts { source, room: vec![0; common + PART], common, start: 0, filled: 0 }
+        let (common, part) = (letters - 1, LEAST_PART.max(PART_FOR_A_LETTER * letters));
+        Parts { source, room: vec![0; common + part], common, start: 0, filled: 0 }
     }
 
     /// The next part and the place of its first letter, or nothing at the end.

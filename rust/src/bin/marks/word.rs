@@ -4,6 +4,7 @@ use crate::{input, trouble::Trouble};
 use marks::Mark;
 use std::{
     ffi::{OsStr, OsString},
+    fmt::Display,
     os::unix::ffi::OsStrExt,
 };
 
@@ -79,6 +80,6 @@ pub fn mirror(word: &[u8]) -> Vec<u8> {
 }
 
 /// A number of things, with the word for one of them.
-pub fn counted(n: usize, one: &str) -> String {
-    format!("{n} {one}{}", if n == 1 { "" } else { "s" })
+pub fn counted<N: Display + PartialEq + From<u8>>(n: N, one: &str) -> String {
+    format!("{n} {one}{}", if n == 1.into() { "" } else { "s" })
 }

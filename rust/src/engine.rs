@@ -1,0 +1,72 @@
+//! Which search goes over a text, and for how long.
+
+use crate::LONGEST_TEXT;
+
+/// The longest word that [`Engine::Auto`] searches for backward. With a longer one a hostile part would cost too much before it is noticed, and parts short
+/// enough would spend their time on the word's table, which is made again for each part.
+const LONGEST_TRIED: usize = 64;
+
+/// The most places of a part that [`Engine::Auto`] searches backward.
+const MOST_TRIED: usize = 65_536;
+
+/// So many letters may be read for each letter of a part.
+const FAIR: u64 = 2;
+
+/// How a mark is looked for. The finds are the same with each engine; what differs is how many letters are read, and so the time on hostile texts: those that
+/// repeat themselves as the word does, like zeros where the word is 4,096 zeros.
+///
+/// Stay with [`Auto`](Engine::Auto), and nobody has to know. [`Turbo`](Engine::Turbo) is for strangers' texts and marks where each text has to be linear by
+/// itself, however short; [`Backward`](Engine::Backward) is for texts and marks that you know.
+///
+/// ```
+/// use marks::{Engine, Mark};
+///
+/// let (word, text) = ([b'a'; 64], vec![b'a'; 1_000_000]);
+/// let letters = |engine| Mark::new(&word).unwrap().engine(engine).tally(&text).letters;
+/// assert_eq!(letters(Engine::Backward), 64 * (1_000_000 - 63));
+/// assert!(letters(Engine::Turbo) <= 2 * 1_000_000);
+/// assert!(letters(Engine::Auto) < 2_500_000);
+/// ```
+#[derive(Clone, Copy, Debug, Default, PartialEq, Eq, Hash)]
+#[non_exhaustive]
+pub enum Engine {
+    /// Backward as long as that is fair, then turbo. A word of up to 64 bytes is searched for backward, in parts that grow to 65,536 places. Once more than two
+    /// letters were read for each letter of a part, turbo takes the rest of the text. For a longer word it takes all of it.
+    ///
+    /// So at most two letters are read for each letter searched, where the few that two parts have in common are searched with both; and at most 64 times 65,536
+    /// letters more, once in a text, however long it is.
+    #[default]
+    Auto,
+    /// It reads backward in windows as long as the word, and most letters of most texts not at all; of a hostile one it may read each letter as often as the word
+    /// has letters.
+    Backward,
+    /// The same windows, but that what was read is remembered: at most two letters are read for each letter searched, whatever the word and the text. On
+    /// other texts it takes up to twice the time of the backward search.
+    Turbo,
+}
+
+impl Engine {
+    /// The engine with which a text is begun, for a word of so many letters.
+    pub(crate) fn at_first(self, letters: usize) -> Engine {
+        match self {
+            Engine::Auto if letters > LONGEST_TRIED => Engine::Turbo,
+            _ => self,
+        }
+    }
+
+    /// The engine for what follows a part of so many bytes in which so many letters were read.
+    pub(crate) fn after(self, bytes: usize, letters: u64) -> Engine {
+        match self {
+            Engine::Auto if letters > FAIR * bytes as u64 => Engine::Turbo,
+            _ => self,
+        }
+    }
+
+    /// The most places that one part may have, for a word of so many letters.
+    pub(crate) fn most_places(self, letters: usize) -> usize {
+        match self {
+            Engine::Auto => MOST_TRIED,
+            _ => LONGEST_TEXT - (letters - 1),
+        }
+    }
+}
