@@ -88,8 +88,8 @@ uint32_t marks_search(const uint8_t *word, size_t word_len, const uint8_t *text,
 uint32_t marks_turbo(const uint8_t *word, size_t word_len, const uint8_t *text, size_t text_len, uint16_t *tables, size_t tables_len,
                      uint32_t *finds, size_t finds_len, uint64_t *count, uint64_t *letters);
 
-/* As marks_search, for the mirror of the file's word: to look for a mark with a file, save the mark's letters from last to first. room and tables are left as by
- * marks_load.
+/* As marks_search, for the mirror of the file's word: to look for a mark with a file, save the mark's letters from last to first. room and tables are left
+ * as by marks_load.
  * Refusals: 4, which changes nothing, then as marks_load, with what they leave there and what they write to offset; finds are as they were. */
 uint32_t marks_search_file(const uint8_t *file, size_t file_len, const uint8_t *text, size_t text_len, uint8_t *room, size_t room_len,
                            uint16_t *tables, size_t tables_len, uint32_t *finds, size_t finds_len, uint64_t *count, uint64_t *letters,

@@ -1,4 +1,4 @@
--- What the readings of a window answer.
+-- What the readings of a window answer, and all windows together.
 --
 --   keptBehind h f   how many letters are kept behind a reading down to a place where h are: h, or none where a letter f failed
 --   beginsAt c h r   where the reading forward begins, once r was read from the window's end down to c, where h letters are kept: at c with
@@ -7,6 +7,9 @@
 --                    a reading forward from c, where h letters are kept, so many finds are listed and the list is F, stops as r says and
 --                    leaves F′: whatever the place before which what is kept may not start, as `forward` does; its finds are listed behind
 --                    those before
+--   Swept w T t F r F′
+--                    all windows, with the arrows of the table T: r is what the Turbo steps count, and their finds fill the list F, which
+--                    becomes F′
 --
 -- 02, 'Linear on hostile text'.
 use mathlib.Core.Path.{_≡_}
@@ -16,8 +19,11 @@ use Prim.Native.Nat.{ℕ, _+_, _-_, _≤_}
 use lib.ListN.{length}
 use Rattle.words.specs.Words.{Word, Place}
 use Rattle.backward.specs.Steps.{Reading}
+use Rattle.table.specs.Table.{readArrow}
+use Rattle.search.specs.Answers.{tallyOf}
+use Rattle.finds.specs.declared.Tally.{Tally}
 use Rattle.finds.specs.Finds.{filled}
-use Rattle.turbo_steps.specs.Turbo.{keptAt, forward, behind}
+use Rattle.turbo_steps.specs.Turbo.{keptAt, forward, behind, turboSteps}
 use Rattle.turbo.specs.declared.Begin.{Begin}
 use Rattle.turbo.specs.declared.Stop.{Stop}
 
@@ -35,3 +41,6 @@ pub record StopsAs (w t : Word) (e c : Place) (h count : ℕ) (F : List ℕ) (r 
       × (r .keep ≡ keptAt w t low (o .place))
       × (r .count ≡ count + length (o .starts))
       × ((l G : List ℕ) → length l ≡ count → F ≡ filled l G → F′ ≡ filled (l ++ o .starts) G)
+
+abbrev pub Swept : Word → List ℕ → Word → List ℕ → Tally → List ℕ → Type 0
+Swept w T t F r F′ = let o = turboSteps (readArrow (length w) T) w t in (r ≡ tallyOf o) × (F′ ≡ filled (o .starts) F)

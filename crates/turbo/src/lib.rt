@@ -10,10 +10,7 @@ ghost use Rattle.border.specs.Borders.{borders};
 ghost use Rattle.table.specs.Formed.{Formed};
 ghost use Rattle.table.specs.Table.{readArrow};
 ghost use Rattle.backward.specs.Steps.{readDown};
-ghost use Rattle.search.specs.Answers.{tallyOf};
-ghost use Rattle.finds.specs.Finds.{filled};
-ghost use Rattle.turbo_steps.specs.Turbo.{turboSteps};
-ghost use Rattle.turbo.specs.Readings.{beginsAt, StopsAs};
+ghost use Rattle.turbo.specs.Readings.{beginsAt, StopsAs, Swept};
 
 // Where a reading forward begins, how many letters of the word are kept there, and how many letters were read backward.
 pub struct Begin {
@@ -121,11 +118,7 @@ fn forward(
 fn windows(word: &[u8], row: &[u16], table: &[u16], text: &[u8], finds: &mut [u32]) -> finds::Tally
     requires { ⌜ (1 ≤ length (now word)) × (length (now text) ≤ longestText) × (now row ≡ borders (now word)) ⌝ }
     requires { ⌜ Formed (now table) (length (now word)) ⌝ }
-    ensures { λ r. ⌜ (r ≡ tallyOf
-        (turboSteps (readArrow (length (now (word .entry))) (now (table .entry))) (now (word .entry)) (now (text .entry))))
-        × (now (finds .exit) ≡ filled
-        (turboSteps (readArrow (length (now (word .entry))) (now (table .entry))) (now (word .entry)) (now (text .entry)) .starts)
-        (now (finds .entry))) ⌝ }
+    ensures { λ r. ⌜ Swept (now (word .entry)) (now (table .entry)) (now (text .entry)) (now (finds .entry)) r (now (finds .exit)) ⌝ }
 {
     let m = word.len();
     let n = text.len();
@@ -152,11 +145,7 @@ fn windows(word: &[u8], row: &[u16], table: &[u16], text: &[u8], finds: &mut [u3
 pub fn scan(word: &[u8], table: &[u16], text: &[u8], finds: &mut [u32]) -> finds::Tally
     requires { ⌜ (1 ≤ length (now word)) × (length (now word) ≤ longestWord) × (length (now text) ≤ longestText) ⌝ }
     requires { ⌜ Formed (now table) (length (now word)) ⌝ }
-    ensures { λ r. ⌜ (r ≡ tallyOf
-        (turboSteps (readArrow (length (now (word .entry))) (now (table .entry))) (now (word .entry)) (now (text .entry))))
-        × (now (finds .exit) ≡ filled
-        (turboSteps (readArrow (length (now (word .entry))) (now (table .entry))) (now (word .entry)) (now (text .entry)) .starts)
-        (now (finds .entry))) ⌝ }
+    ensures { λ r. ⌜ Swept (now (word .entry)) (now (table .entry)) (now (text .entry)) (now (finds .entry)) r (now (finds .exit)) ⌝ }
 {
     let m = word.len();
     let mut row = [0u16; words::WORD_LIMIT];
