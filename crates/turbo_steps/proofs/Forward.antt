@@ -94,12 +94,8 @@ module _ (w t : Word) (low : Place) (some-letter : 1 ≤ length w) where
     abbrev end : ℕ
     end = longestEnd w (heard w h (letter t c ∷ []))
 
-    fits : (h < length w) × (low + h ≤ c) × (low + h′ ≤ suc c)
-    fits = (
-      kept-short w t low c some-letter,
-      kept-past w t low c below (omega arith) some-letter,
-      kept-past w t low (suc c) (omega arith) more some-letter,
-    )
+    fits : (h < length w) × (low + h ≤ c)
+    fits = (kept-short w t low c some-letter, kept-past w t low c below (omega arith) some-letter)
 
     -- the word stands nowhere before what is kept behind the letter, unless it ends there
     none-before : (j : Place) → low ≤ j → suc c < j + length w → j < suc c - h′ → stands w t j ≡ true → ⊥
