@@ -123,12 +123,14 @@ pub struct Tally {
     pub letters: u64,
 }
 
-/// Every place where the word stands in the text: the first of them in `finds`, as many as fit, the count exact.
-pub fn search(word: &[u8], text: &[u8], tables: &mut [u16], finds: &mut [u32]) -> Result<Tally, Refusal> {
+/// What both searches are for C.
+type SearchEntry = unsafe extern "C" fn(*const u8, usize, *const u8, usize, *mut u16, usize, *mut u32, usize, *mut u64, *mut u64) -> u32;
+
+fn searched(entry: SearchEntry, word: &[u8], text: &[u8], tables: &mut [u16], finds: &mut [u32]) -> Result<Tally, Refusal> {
     let mut tally = Tally { count: 0, letters: 0 };
     // SAFETY: as above.
     let said = unsafe {
-        marks_search(
+        entry(
             word.as_ptr(),
             word.len(),
             text.as_ptr(),
@@ -144,25 +146,14 @@ pub fn search(word: &[u8], text: &[u8], tables: &mut [u16], finds: &mut [u32]) -
     told(said, tally)
 }
 
+/// Every place where the word stands in the text: the first of them in `finds`, as many as fit, the count exact.
+pub fn search(word: &[u8], text: &[u8], tables: &mut [u16], finds: &mut [u32]) -> Result<Tally, Refusal> {
+    searched(marks_search, word, text, tables, finds)
+}
+
 /// The same as [`search`], but that at most two letters are read for each letter of the text, whatever the word and the text.
 pub fn turbo(word: &[u8], text: &[u8], tables: &mut [u16], finds: &mut [u32]) -> Result<Tally, Refusal> {
-    let mut tally = Tally { count: 0, letters: 0 };
-    // SAFETY: as above.
-    let said = unsafe {
-        marks_turbo(
-            word.as_ptr(),
-            word.len(),
-            text.as_ptr(),
-            text.len(),
-            tables.as_mut_ptr(),
-            tables.len(),
-            finds.as_mut_ptr(),
-            finds.len(),
-            &mut tally.count,
-            &mut tally.letters,
-        )
-    };
-    told(said, tally)
+    searched(marks_turbo, word, text, tables, finds)
 }
 
 /// Every place where the mirror of the file's word stands in the text; `room` and `tables` are left as `load` leaves them.

@@ -14,16 +14,15 @@ use Rattle.border.specs.Borders.{longestBorder}
 use Rattle.oracle.specs.Arrows.{Delta}
 use Rattle.table.specs.Table.{room}
 use Rattle.answers.specs.Answers.{done, refused}
-use Rattle.backward.specs.Steps.{Sweep, nothing, backward}
+use Rattle.backward.specs.Steps.{readDown, Sweep, nothing, backward}
 use Rattle.backward.proofs.Reading.{failed-place, whole-letters}
 use Rattle.backward.proofs.Repeated.{repeated-letters}
 use Rattle.turbo_steps.specs.Turbo.{keptAt, endsAt, forward, windowEnd, readBack, nextLow, nextPlace, readForth}
 use Rattle.turbo_steps.specs.Turbo.{turboWindows, turbo}
 use Rattle.turbo_steps.proofs.Between.{kept-short, kept-past, kept-fresh, kept-ends, kept-is-longest}
-use Rattle.turbo_steps.proofs.Forward.{forward-counts, forward-why}
+use Rattle.turbo_steps.proofs.Forward.{forward-counts, forward-why, forward-while}
 use Rattle.turbo_steps.proofs.Windows as Windows
 use Rattle.turbo_steps.proofs.Theorems.{turbo-lists-occurrences, turbo-rises, turbo-letters-most, turbo-after-find, turbo-short}
-use Rattle.marks.specs.Search
 use Rattle.marks.specs.Search.{Outcome, searchSays}
 use Rattle.linear.specs.Turbo.{turboSays}
 use Rattle.linear.specs.Cases.{TurboCase}
@@ -66,6 +65,10 @@ module _ (w t : Word) (some-letter : 1 ≤ length w) where
 
     -- ── 'Read backward from its end, but never below c.' ───────────────────
 
+    -- it is the backward search's reading, of the letters from c to the window's end
+    pub reads-back : (δ : Delta) → readBack δ w t low c ≡ readDown δ t c (windowEnd w t low c - c) 0
+    reads-back δ = refl
+
     -- with any arrows: a letter that fails is none below c; and where none fails, the letters from c to the window's end were read
     pub never-below : (δ : Delta) (f : Place) → readBack δ w t low c .failed ≡ some f
         → (c ≤ f) × (readBack δ w t low c .letters ≡ windowEnd w t low c - f)
@@ -89,13 +92,15 @@ module _ (w t : Word) (some-letter : 1 ≤ length w) where
   -- ── 'Then, missing or not, read forward from c to the end of the window just read, keeping c and h, and on while 2h is at least m and
   --    text remains;' ──
 
-  -- it reads every letter from c to where it stops, at the window's end e or behind it; and it stops at the text's end, or where 2h is less
-  -- than m
+  -- it reads every letter from c to where it stops, at the window's end e or behind it; it stops at the text's end, or where 2h is less
+  -- than m, and at no place before, as 2h was at least m there
   pub reads-forward : (low e c : Place) → e ≤ n → c ≤ n → let r = forward w t low e (n - c) c in
       (r .letters ≡ r .place - c) × (e ≤ r .place) × (r .place ≤ n) × ((r .place ≡ n) ⊎ (2 * keptAt w t low (r .place) < m))
+      × ((p : Place) → c ≤ p → e ≤ p → p < r .place → m ≤ 2 * keptAt w t low p)
   reads-forward low e c l u =
       let R = forward-counts w t low e l (n - c) c (omega arith) in
-      (omega (arith, R .counted), R .past, R .inside, forward-why w t low e (n - c) c (omega arith))
+      let left : n - c + c ≡ n = omega arith in
+      (omega (arith, R .counted), R .past, R .inside, forward-why w t low e (n - c) c left, forward-while w t low e (n - c) c left)
 
   -- ── 'after a find h is the longest border.' ──────────────────────────────
 

@@ -6,11 +6,11 @@ use mathlib.Core.Bool.{Bool, true, false, _||_}
 use mathlib.Core.Logic.{by-cases, _⊎_, inl, inr}
 use mathlib.Core.List.{List, [], _∷_, _++_, append-assoc}
 use Prim.Native.Nat.{ℕ, zero, suc, _+_, _-_, _*_, _≤_, _<_}
-use native.Mathlib.Decide.{decLt}
+use native.Mathlib.Decide.{ℕ-discrete, decLt}
 use native.Mathlib.Omega.{arith}
 use lib.ListN.{length}
 use lib.Dec.{ltb}
-use borrow.Author.Tests.{ltb-false, leb-false}
+use borrow.Author.Tests.{ltb-false, le-ltb, leb-false, leb-true}
 use Rattle.words.specs.Words.{Word, Place, letter, stands}
 use Rattle.words.proofs.Lists.{test-cases, true-not-false}
 use Rattle.words.proofs.Occurrences.{since, since-here, since-later}
@@ -48,11 +48,11 @@ module _ (w t : Word) (low e : Place) where
       : (P : Place → Advance → Type 0)
       → ((c : Place) → c ≡ length t → P c (stopsAt c))
       → ((c : Place) → c ≤ length t → goesOn w t low e c ≡ false → P c (stopsAt c))
-      → ((c : Place) (r : Advance) → c < length t → P (suc c) r → P c (oneLetter (foundAt w t low (suc c)) r))
+      → ((c : Place) (r : Advance) → c < length t → goesOn w t low e c ≡ true → P (suc c) r → P c (oneLetter (foundAt w t low (suc c)) r))
       → (k : ℕ) (c : Place) → k + c ≡ length t → P c (forward w t low e k c)
   forward-induction P ends stops goes zero c s = rw (forward-done c) (ends c (omega arith))
   forward-induction P ends stops goes (suc k) c s = test-cases (goesOn w t low e c)
-      (λ q. rw (forward-reads k c q) (goes c _ (omega arith) (forward-induction P ends stops goes k (suc c) (omega arith))))
+      (λ q. rw (forward-reads k c q) (goes c _ (omega arith) q (forward-induction P ends stops goes k (suc c) (omega arith))))
       (λ q. rw (forward-stops (suc k) c q) (stops c (omega arith) q))
 
   -- ── The letters ──────────────────────────────────────────────────────────
@@ -67,7 +67,7 @@ module _ (w t : Word) (low e : Place) where
   forward-counts h = forward-induction Reads
       (λ c s. record { counted = omega arith; inside = omega arith; past = omega arith })
       (λ c s q. record { counted = omega arith; inside = s; past = ltb-false c e (or-false (ltb c e) _ q) })
-      (λ c r s R. record { counted = omega (arith, R .counted); inside = R .inside; past = R .past })
+      (λ c r s q R. record { counted = omega (arith, R .counted); inside = R .inside; past = R .past })
 
   -- and why it stops: at the text's end, or where less than half the word is kept
   pub forward-why : (k : ℕ) (c : Place) → k + c ≡ length t → let r = forward w t low e k c in
@@ -75,7 +75,21 @@ module _ (w t : Word) (low e : Place) where
   forward-why = forward-induction (λ c r. (r .place ≡ length t) ⊎ (2 * keptAt w t low (r .place) < length w))
       (λ c s. inl s)
       (λ c s q. inr (leb-false _ _ (or-false-right (ltb c e) _ q)))
-      (λ c r s R. R)
+      (λ c r s q R. R)
+
+  -- it stopped at no place before, from the window's end on: there half the word was kept
+  pub forward-while : (k : ℕ) (c : Place) → k + c ≡ length t → (p : Place) → c ≤ p → e ≤ p → p < forward w t low e k c .place
+      → length w ≤ 2 * keptAt w t low p
+  forward-while = forward-induction Half (λ c s p a b l. absurd (omega arith)) (λ c s q p a b l. absurd (omega arith)) one
+    where
+      Half : Place → Advance → Type 0
+      Half c r = (p : Place) → c ≤ p → e ≤ p → p < r .place → length w ≤ 2 * keptAt w t low p
+
+      one : (c : Place) (r : Advance) → c < length t → goesOn w t low e c ≡ true → Half (suc c) r
+          → Half c (oneLetter (foundAt w t low (suc c)) r)
+      one c r s q rec p a b l = by-cases (ℕ-discrete p c)
+          (λ here. rw here (leb-true _ _ (rw (le-ltb c e (omega arith)) at q)))
+          (λ further. rec p (omega arith) b l)
 
 -- ── The finds ──────────────────────────────────────────────────────────────
 
@@ -134,8 +148,9 @@ module _ (w t : Word) (low : Place) (some-letter : 1 ≤ length w) where
       Finds : Place → Advance → Type 0
       Finds c r = low ≤ c → still-ahead c ≡ r .starts ++ still-ahead (r .place)
 
-      one : (c : Place) (r : Advance) → c < length t → Finds (suc c) r → Finds c (oneLetter (foundAt w t low (suc c)) r)
-      one c r l rec b =
+      one : (c : Place) (r : Advance) → c < length t → goesOn w t low e c ≡ true → Finds (suc c) r
+          → Finds c (oneLetter (foundAt w t low (suc c)) r)
+      one c r l q rec b =
           letter-starts c b l
           ∙ ap (λ (x : List Place). foundAt w t low (suc c) ++ x) (rec (omega arith))
           ∙ sym (append-assoc (foundAt w t low (suc c)) (r .starts) _)
