@@ -14,7 +14,7 @@
 --   sizeAnswer r     what the code's answer r means: the letters of a word, the bytes of a file, or a number of finds
 --   tallyAnswer r    the same of a search: finds and letters read
 --
--- 01, 'When the library says no'; 02, 'Uploads in pieces' and 'Where in the file is it broken?'.
+-- 01, 'When the library says no'; 02, 'Uploads in pieces', 'Where in the file is it broken?' and 'One-letter marks'.
 use mathlib.Core.Path.{_≡_}
 use mathlib.Core.Bool.{Bool, true, false, _||_}
 use mathlib.Core.List.{List, [], _∷_}
@@ -51,6 +51,9 @@ shortOutput = 12
 abbrev pub unmade : ℕ
 unmade = 16
 
+abbrev pub shortWord : ℕ
+shortWord = 17
+
 pub record Line : Type 0 where
   pub number : ℕ
   pub given-when : String
@@ -67,12 +70,13 @@ refusals =
     ∷ line 5 "the file ends before or inside a number, or before the last of the m letters"
     ∷ line 6 "a number's last of several groups is zero, or its fifth byte is above 15"
     ∷ line 7 "edition other than 1"
-    ∷ line 8 "declared m is 0 or above 4,096"
+    ∷ line 8 "declared m is below 2 or above 4,096"
     ∷ line 9 "declared arrows exceed m-1"
     ∷ line 10 "an arrow differs from the word's extra arrow at that place or none is left there, or arrows are missing"
     ∷ line 11 "bytes remain after the last arrow"
     ∷ line shortOutput "output room is below the size of the file to be saved"
     ∷ line unmade "opening and taking bytes could never have made the searcher"
+    ∷ line shortWord "the word has one letter (save)"
     ∷ []
 
 -- ── Answers ────────────────────────────────────────────────────────────────

@@ -16,6 +16,8 @@ pub const SHORT_OUTPUT: u8 = 12;
 
 pub const UNMADE: u8 = 16;
 
+pub const SHORT_WORD: u8 = 17;
+
 // A number, alone or with the place of the file where it shows.
 pub enum Refusal {
     Numbered(u8),

@@ -48,7 +48,7 @@ use Rattle.mark_files.proofs.SearchFileSays
 -- number, alone or with the place of the file where it shows.
 
 -- the numbers of the written table
-pub table-numbers : map (λ r. r .number) refusals ≡ 1 ∷ 2 ∷ 3 ∷ 4 ∷ 5 ∷ 6 ∷ 7 ∷ 8 ∷ 9 ∷ 10 ∷ 11 ∷ 12 ∷ 16 ∷ []
+pub table-numbers : map (λ r. r .number) refusals ≡ 1 ∷ 2 ∷ 3 ∷ 4 ∷ 5 ∷ 6 ∷ 7 ∷ 8 ∷ 9 ∷ 10 ∷ 11 ∷ 12 ∷ 16 ∷ 17 ∷ []
 unfolding refusals
 table-numbers = refl
 
@@ -58,7 +58,7 @@ module _ (word text : Word) (file R T O : List ℕ) (F : List Place) where
   pub build-numbers : refusesOnly (1 ∷ 2 ∷ 3 ∷ []) (buildSays word T .answer) ≡ true
   build-numbers = WordNumbers.build-numbers word T
 
-  pub save-numbers : refusesOnly (1 ∷ 2 ∷ 3 ∷ 12 ∷ []) (saveSays word T O .answer) ≡ true
+  pub save-numbers : refusesOnly (1 ∷ 2 ∷ 17 ∷ 3 ∷ 12 ∷ []) (saveSays word T O .answer) ≡ true
   save-numbers = FileNumbers.save-numbers word T O
 
   pub search-numbers : refusesOnly (1 ∷ 2 ∷ 4 ∷ 3 ∷ []) (searchSays word text T F .answer) ≡ true
@@ -191,8 +191,8 @@ module _ (word text : Word) (file R T O : List ℕ) (F : List Place) where
     pub search-answers : 1 ≤ length word → length text ≤ longestText → searchSays word text T F .answer ≡ done (found word text)
     search-answers some short = ap (λ o. o .answer) (SearchSays.says-done word text T F some most short enough)
 
-    pub save-answers : 1 ≤ length word → length (spell word) ≤ length O → saveSays word T O .answer ≡ done (length (spell word))
-    save-answers some out = ap (λ o. o .answer) (SaveSays.says-done word T O some most enough out)
+    pub save-answers : leastSaved ≤ length word → length (spell word) ≤ length O → saveSays word T O .answer ≡ done (length (spell word))
+    save-answers least out = ap (λ o. o .answer) (SaveSays.says-done word T O least most enough out)
 
     pub load-answers : leastSaved ≤ length word → length word ≤ length R → loadSays (spell word) R T .answer ≡ done (length word)
     load-answers least fits = ap (λ o. o .answer) (LoadTheorems.file-loads R T word least most fits enough)

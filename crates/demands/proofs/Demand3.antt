@@ -73,9 +73,9 @@ module _ (word : Word) (R T : List ℕ) (least : leastSaved ≤ length word) (mo
 
 -- ── 'saving a word writes that file,' ──────────────────────────────────────
 
-pub saving-writes : (word : Word) (T O : List ℕ) → 1 ≤ length word → length word ≤ longestWord → room (length word) ≤ length T
+pub saving-writes : (word : Word) (T O : List ℕ) → leastSaved ≤ length word → length word ≤ longestWord → room (length word) ≤ length T
     → length (spell word) ≤ length O → take (length (spell word)) (saveSays word T O .output) ≡ spell word
-saving-writes word T O letters most enough out = SaveSays.done-leaves word T O letters most enough out .file
+saving-writes word T O least most enough out = SaveSays.done-leaves word T O least most enough out .file
 
 -- ── 'and no two words share one.' ──────────────────────────────────────────
 
@@ -154,6 +154,6 @@ module _ (w w′ : Word) (least : leastSaved ≤ length w) (most : length w ≤ 
   pub saves-differ : (O : List ℕ) → length (spell w) ≤ length O → length (spell w′) ≤ length O
       → take (length (spell w)) (saveSays w T O .output) ≡ take (length (spell w′)) (saveSays w′ T O .output) → ⊥
   saves-differ O out out′ e =
-      let file = saving-writes w T O (omega (arith, saved-some, least)) most enough out in
-      let file′ = saving-writes w′ T O (omega (arith, saved-some, least′)) most′ enough′ out′ in
+      let file = saving-writes w T O least most enough out in
+      let file′ = saving-writes w′ T O least′ most′ enough′ out′ in
       differ (spell-injective w w′ least most least′ most′ (sym file ∙ e ∙ file′))

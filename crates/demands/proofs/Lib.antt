@@ -7,3 +7,4 @@ pub mod StepAfterFind
 pub mod UploadsInPieces
 pub mod WhereBroken
 pub mod HostileText
+pub mod OneLetterMarks

@@ -3,35 +3,37 @@
 use lib.Dec.{T}
 use Rattle.words.specs.Lists.{from, only, first}
 use Rattle.words.specs.Words.{same, stands, occurrences}
-use Rattle.words.specs.Limits.{longestWord, longestText, longestStreamed, leastSaved}
+use Rattle.words.specs.Limits.{longestWord, longestText, longestStreamed, leastSaved, greatestFile}
 use Rattle.oracle.specs.Arrows.{target, walk, spine}
 use Rattle.oracle.specs.SuffixRule.{far, mend, missing, extrasAfter, extraArrows, suffixRule}
 use Rattle.oracle.specs.LetterRule.{climb, addLetter, builtUpTo, letterRule}
 use Rattle.oracle.specs.Supply.{ends, twice, repeated, supply}
-use Rattle.oracle.specs.FileOrder.{leadsTo, extraTargets, extrasBefore, fileArrows}
+use Rattle.oracle.specs.FileOrder.{leadsTo, extraTargets, extrasBefore, fileArrows, targetsBefore}
 use Rattle.border.specs.Borders.{longest, closes, longestBorder, borders}
 use Rattle.backward.specs.Steps.{readDown, afterFind, windows, steps, backward}
 use Rattle.turbo_steps.specs.Turbo.{forward, turboWindows, turboSteps, turbo}
+use Rattle.table.specs.Table.{tableFrom, tableOf}
 use Rattle.number.specs.Number.{groups, spellNumber, refuses, see, seeNumber, numberAt}
 use Rattle.saved.specs.File.{edition, stepsFrom, spellSteps, ownSteps, body, spell}
 use Rattle.loaded.specs.Load.{frontWithin, twoAt, arrowsAt, ending, verdict}
 use Rattle.mark_files.specs.Load.{loadWithin}
+use Rattle.mark_files.specs.Save.{saveSays}
 use Rattle.finds.specs.Finds.{filled}
 use Rattle.pieces.specs.Kept.{kept}
 use Rattle.stream.specs.Searchers.{searcherOf, after, finds, makeable}
 use Rattle.stream.specs.Opening.{openSays}
 use Rattle.stream.specs.Taking.{takeSays}
-use Rattle.examples.specs.Examples.{is, isNone, walked, empty, has, gives, isRefused, isRefusedAt, loadInRooms, leaves}
+use Rattle.examples.specs.Examples.{is, isNone, walked, empty, has, gives, isRefused, isRefusedAt, loadInRooms, leaves, refusesToSave}
 use Rattle.examples.specs.Examples.{shows, isDoneWith, takenInTurn, holds, allHold, word, digit, bytes, table}
 
 pub examples-hold : T (allHold table)
-unfolding from only first same stands occurrences longestWord longestText longestStreamed leastSaved
+unfolding from only first same stands occurrences longestWord longestText longestStreamed leastSaved greatestFile
     target walk spine far mend missing extrasAfter extraArrows suffixRule climb addLetter builtUpTo letterRule
-    ends twice repeated supply leadsTo extraTargets extrasBefore fileArrows
+    ends twice repeated supply leadsTo extraTargets extrasBefore fileArrows targetsBefore tableFrom tableOf
     longest closes longestBorder borders filled kept searcherOf after finds makeable openSays takeSays
     readDown afterFind windows steps backward forward turboWindows turboSteps turbo
     groups spellNumber refuses see seeNumber numberAt edition stepsFrom spellSteps ownSteps body spell
-    frontWithin twoAt arrowsAt ending verdict loadWithin
-    is isNone walked empty has gives isRefused isRefusedAt loadInRooms leaves shows isDoneWith takenInTurn
+    frontWithin twoAt arrowsAt ending verdict loadWithin saveSays
+    is isNone walked empty has gives isRefused isRefusedAt loadInRooms leaves refusesToSave shows isDoneWith takenInTurn
     holds allHold word digit bytes table
 examples-hold = tt

@@ -18,6 +18,7 @@ use Prim.Native.String.{String}
 use lib.ListN.{length, replicate}
 use lib.Dec.{eqb, ltb}
 use Rattle.words.specs.Words.{Word, Place, letter, same, occurrences}
+use Rattle.words.specs.Limits.{greatestFile}
 use Rattle.oracle.specs.Arrows.{State, Delta, target, walk}
 use Rattle.oracle.specs.SuffixRule.{suffixRule, extraArrows, oracle}
 use Rattle.oracle.specs.LetterRule.{supplyMade, letterRule}
@@ -25,11 +26,12 @@ use Rattle.oracle.specs.Supply.{supply}
 use Rattle.oracle.specs.FileOrder.{Extra, extra}
 use Rattle.backward.specs.Steps.{backward}
 use Rattle.turbo_steps.specs.Turbo.{turbo}
-use Rattle.table.specs.Table.{room}
+use Rattle.table.specs.Table.{room, tableOf}
 use Rattle.saved.specs.File.{spell}
 use Rattle.loaded.specs.Load.{Front, letters, stop, front}
 use Rattle.answers.specs.Answers.{Answer, done, refused, refusedAt}
 use Rattle.mark_files.specs.Load.{Outcome, loadSays}
+use Rattle.mark_files.specs.Save.{saveSays}
 use Rattle.finds.specs.Finds.{filled}
 use Rattle.stream.specs.declared.Searcher.{Searcher}
 use Rattle.stream.specs.Opening.{openSays}
@@ -51,6 +53,10 @@ pub data Example : Type 0 where
   turboSearch : (word text : Word) (starts : List Place) (letters : ℕ) → Example
   -- a word and its whole file
   fileOf : (word : Word) (file : List ℕ) → Example
+  -- a word that saving refuses, and the number, in no room and in rooms for its table and for any file; it leaves them as they were
+  saveRefused : (word : Word) (number : ℕ) → Example
+  -- a file that is loaded, and the word that it hands over with its table, in rooms for just these
+  loads : (file : List ℕ) (word : Word) → Example
   -- bytes that are no file, and the number and offset with which load refuses them before it looks at the rooms
   loadRefused : (file : List ℕ) (number : ℕ) (offset : Place) → Example
   -- the same of bytes that show m letters, in rooms for so many
@@ -106,6 +112,14 @@ loadInRooms f m = loadSays f (replicate m 9) (replicate (room m) 9)
 unfoldable pub leaves : ℕ → ℕ → Outcome → Bool
 leaves m v o = same (o .word) (replicate m v) && same (o .tables) (replicate (room m) v)
 
+-- save, lent t table entries and o bytes of output, a 9 in each, refuses the word with the number n and leaves them so
+unfoldable pub refusesToSave : Word → ℕ → ℕ → ℕ → Bool
+refusesToSave p n t o =
+    let T : List ℕ = replicate t 9 in
+    let O : List ℕ = replicate o 9 in
+    let said = saveSays p T O in
+    isRefused (said .answer) n && (same (said .tables) T && same (said .output) O)
+
 -- m letters that start at place i
 unfoldable pub shows : Front → ℕ → Place → Bool
 shows (letters n j) m i = eqb n m && eqb j i
@@ -145,6 +159,11 @@ holds (turboSearch w t starts n) =
     let r = turbo w t in
     same (r .starts) starts && (eqb (r .letters) n && same (occurrences w t) starts)
 holds (fileOf p f) = same (spell p) f
+holds (saveRefused p n) = refusesToSave p n 0 0 && refusesToSave p n (room (length p)) greatestFile
+holds (loads f p) =
+    let m = length p in
+    let o = loadInRooms f m in
+    isDoneWith (o .answer) m && (same (o .word) p && same (o .tables) (tableOf p))
 -- the rooms of no letter, too short for any word, and those of three letters: these refusals come before 3
 holds (loadRefused f n p) =
     let none = loadInRooms f 0 in
@@ -182,7 +201,6 @@ bytes (String._∷_ h (String._∷_ l (String._∷_ gap s))) = (16 * digit (code
 unfoldable pub table : List Example
 table =
     arrowsOf (word "a") [] 1 (0 ∷ [])
-    ∷ fileOf (word "a") (bytes "01 01 61 00")
     ∷ arrowsOf (word "aaa") [] 3 (0 ∷ 1 ∷ 2 ∷ [])
     ∷ fileOf (word "aaa") (bytes "01 03 61 61 61 00")
     ∷ arrowsOf (word "abbbaab") (0 to 2 ∷ 1 to 6 ∷ 2 to 5 ∷ 3 to 5 ∷ []) 11 (0 ∷ 0 ∷ 2 ∷ 3 ∷ 1 ∷ 1 ∷ 2 ∷ [])
@@ -191,12 +209,14 @@ table =
     ∷ arrowsOf (word "abcacdace") (0 to 2 ∷ 0 to 3 ∷ 0 to 6 ∷ 0 to 9 ∷ 1 to 5 ∷ 3 to 6 ∷ 3 to 9 ∷ 5 to 9 ∷ []) 17
     (0 ∷ 0 ∷ 0 ∷ 1 ∷ 3 ∷ 0 ∷ 1 ∷ 5 ∷ 0 ∷ [])
     ∷ acceptsNoFactor (word "abcacdace") (word "cace")
+    ∷ search (word "a") (word "aba") (0 ∷ 2 ∷ []) 3
     ∷ search (word "aa") (word "aaaa") (0 ∷ 1 ∷ 2 ∷ []) 6
     ∷ search (word "ab") (word "aab") (1 ∷ []) 4
     ∷ search (word "aba") (word "ababa") (0 ∷ 2 ∷ []) 6
     ∷ search (word "ab") (word "abxa") (0 ∷ []) 4
     ∷ search (word "abc") (word "xxxxxx") [] 2
     ∷ search (word "abc") (word "ab") [] 0
+    ∷ turboSearch (word "a") (word "aba") (0 ∷ 2 ∷ []) 5
     ∷ turboSearch (word "aba") (word "ababa") (0 ∷ 2 ∷ []) 10
     ∷ turboSearch (word "aaaa") (word "abaaa") [] 6
     ∷ turboSearch (word "aa") (word "ba") [] 3
@@ -207,6 +227,12 @@ table =
     ∷ turboSearch (word "abaab") (word "abaababaabaababaababa") (0 ∷ 5 ∷ 8 ∷ 13 ∷ []) 38
     ∷ turboSearch (word "abc") (word "xxxxxx") [] 2
     ∷ turboSearch (word "abc") (word "ab") [] 0
+    ∷ saveRefused (word "") 1
+    ∷ saveRefused (word "a") 17
+    ∷ saveRefused (replicate 4097 97) 2
+    ∷ fileOf (word "aa") (bytes "01 02 61 61 00")
+    ∷ loads (bytes "01 02 61 61 00") (word "aa")
+    ∷ loadRefused (bytes "01 01 61 00") 8 1
     ∷ loadRefused (bytes "01 FF FF FF FF 0F") 8 1
     ∷ loadRefused (bytes "01 83 00 61 61 61 00") 6 2
     ∷ letThrough (bytes "01 80 08") 1024

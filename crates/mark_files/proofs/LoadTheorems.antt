@@ -10,7 +10,6 @@ use lib.ListN.{length, take, drop, replicate}
 use lib.Seq.{take-at}
 use Rattle.words.specs.Words.{Word, part}
 use Rattle.words.specs.Limits.{leastSaved, longestWord}
-use Rattle.words.proofs.Limits.{saved-some}
 use Rattle.words.proofs.Words.{part-length}
 use Rattle.oracle.specs.SuffixRule.{oracle}
 use Rattle.table.specs.Table.{room, tableOf, readArrow}
@@ -71,9 +70,7 @@ module _ (R T : List ℕ) where
     -- what was saved is loaded again
     pub saved-loads : (T′ O : List ℕ) → room (length w) ≤ length T′ → length (spell w) ≤ length O
         → loadSays (take (length (spell w)) (saveSays w T′ O .output)) R T ≡ handed-over
-    saved-loads T′ O a b =
-        let some : 1 ≤ length w = omega (arith, saved-some, least) in
-        ap (λ (f : List ℕ). loadSays f R T) (done-leaves w T′ O some most a b .file) ∙ file-loads
+    saved-loads T′ O a b = ap (λ (f : List ℕ). loadSays f R T) (done-leaves w T′ O least most a b .file) ∙ file-loads
 
     -- a file that is cut short anywhere is refused with 5, which shows at its end
     pub cut-refused : (n : ℕ) → n < length (spell w) → loadSays (take n (spell w)) R T .answer ≡ refusedAt 5 n

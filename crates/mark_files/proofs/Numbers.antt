@@ -23,13 +23,14 @@ use Rattle.mark_files.proofs.SaveSays.{save-is}
 use Rattle.mark_files.proofs.LoadSays.{load-is}
 use Rattle.mark_files.proofs.SearchFileSays.{search-file-is}
 
-pub save-numbers : (word : Word) (T O : List ℕ) → refusesOnly (1 ∷ 2 ∷ 3 ∷ 12 ∷ []) (saveSays word T O .answer) ≡ true
+pub save-numbers : (word : Word) (T O : List ℕ) → refusesOnly (1 ∷ 2 ∷ 17 ∷ 3 ∷ 12 ∷ []) (saveSays word T O .answer) ≡ true
 unfolding oneOf
 save-numbers word T O = by (save-is word T O _ .0 refl)
   where
-    by : {o : Save.Outcome} → SaveCase word T O o → refusesOnly (1 ∷ 2 ∷ 3 ∷ 12 ∷ []) (o .answer) ≡ true
+    by : {o : Save.Outcome} → SaveCase word T O o → refusesOnly (1 ∷ 2 ∷ 17 ∷ 3 ∷ 12 ∷ []) (o .answer) ≡ true
     by (SaveCase.empty-word h) = refl
     by (SaveCase.long-word h l) = refl
+    by (SaveCase.short-word h l b) = refl
     by (SaveCase.short-room h l s) = refl
     by (SaveCase.short-output h l s o) = refl
     by (SaveCase.accepted h l s o) = refl

@@ -1,6 +1,7 @@
 -- THE THEOREMS on `saveSays`: each refusal exactly where it is tabled, what a refusal and a success leave, and that the promise allows one
 -- outcome.
 use mathlib.Core.Path.{_≡_, refl, sym, ap, _∙_}
+use mathlib.Core.Bool.{false}
 use mathlib.Core.Logic.{_⊎_, inl, inr, _↔_}
 use mathlib.Core.List.{List, _++_}
 use Prim.Native.Nat.{ℕ, _≤_, _<_}
@@ -8,17 +9,18 @@ use native.Mathlib.Decide.{decLt}
 use native.Mathlib.Omega.{arith}
 use lib.ListN.{length, take, drop, replicate}
 use lib.Seq.{take-at, drop-at}
+use lib.Dec.{ltb}
 use borrow.Author.Tests.{lt-ltb, le-ltb}
 use Rattle.words.specs.Words.{Word}
-use Rattle.words.specs.Limits.{longestWord, greatestFile}
-use Rattle.words.proofs.Limits.{words-fit}
+use Rattle.words.specs.Limits.{leastSaved, longestWord, greatestFile}
+use Rattle.words.proofs.Limits.{words-fit, saved-some}
 use Rattle.table.specs.Table.{room, tableOf}
 use Rattle.table.proofs.Theorems.{table-size}
 use Rattle.saved.specs.File.{spell}
 use Rattle.saved.specs.Stepping.{Tabled}
 use Rattle.saved.proofs.Theorems.{size-most}
 use Rattle.answers.specs.declared.SizeAnswer.{SizeAnswer}
-use Rattle.answers.specs.Answers.{done, refused, emptyWord, longWord, shortRoom, shortOutput}
+use Rattle.answers.specs.Answers.{done, refused, emptyWord, longWord, shortWord, shortRoom, shortOutput}
 use Rattle.answers.proofs.Answers.{done-not-refused, size-answer-one}
 use Rattle.mark_files.specs.Save.{Outcome, outcome, savedAs, saveSays}
 use Rattle.mark_files.specs.Cases.{SaveCase}
@@ -47,31 +49,42 @@ module _ (word : Word) (T O : List ℕ) where
   unfolding saveSays
   says-long h l = rw (le-ltb m 1 h, lt-ltb longestWord m l)
 
-  pub says-short : 1 ≤ m → m ≤ longestWord → length T < room m → saveSays word T O ≡ outcome (refused shortRoom) T O
+  pub says-one-letter : 1 ≤ m → m ≤ longestWord → m < leastSaved → saveSays word T O ≡ outcome (refused shortWord) T O
   unfolding saveSays
-  says-short h l s = rw (le-ltb m 1 h, le-ltb longestWord m l, lt-ltb (length T) (room m) s)
+  says-one-letter h l b = rw (le-ltb m 1 h, le-ltb longestWord m l, lt-ltb m leastSaved b)
 
-  pub says-full : 1 ≤ m → m ≤ longestWord → room m ≤ length T → length O < size → saveSays word T O ≡ cleared
-  unfolding saveSays
-  says-full h l s o = rw (le-ltb m 1 h, le-ltb longestWord m l, le-ltb (length T) (room m) s, lt-ltb (length O) size o)
+  -- from here on the word may be saved, so it has letters
+  module _ (h : leastSaved ≤ m) (l : m ≤ longestWord) where
+    some : ltb m 1 ≡ false
+    some = le-ltb m 1 (omega (arith, saved-some, h))
 
-  pub says-done : 1 ≤ m → m ≤ longestWord → room m ≤ length T → size ≤ length O → saveSays word T O ≡ written
-  unfolding saveSays
-  says-done h l s o = rw (le-ltb m 1 h, le-ltb longestWord m l, le-ltb (length T) (room m) s, le-ltb (length O) size o)
+    pub says-short : length T < room m → saveSays word T O ≡ outcome (refused shortRoom) T O
+    unfolding saveSays
+    says-short s = rw (some, le-ltb longestWord m l, le-ltb m leastSaved h, lt-ltb (length T) (room m) s)
+
+    pub says-full : room m ≤ length T → length O < size → saveSays word T O ≡ cleared
+    unfolding saveSays
+    says-full s o = rw (some, le-ltb longestWord m l, le-ltb m leastSaved h, le-ltb (length T) (room m) s, lt-ltb (length O) size o)
+
+    pub says-done : room m ≤ length T → size ≤ length O → saveSays word T O ≡ written
+    unfolding saveSays
+    says-done s o = rw (some, le-ltb longestWord m l, le-ltb m leastSaved h, le-ltb (length T) (room m) s, le-ltb (length O) size o)
 
   -- ── When each is given ───────────────────────────────────────────────────
 
   -- every input is of one case
   case : SaveCase word T O (saveSays word T O)
-  case = by (decLt m 1) (decLt longestWord m) (decLt (length T) (room m)) (decLt (length O) size)
+  case = by (decLt m 1) (decLt longestWord m) (decLt m leastSaved) (decLt (length T) (room m)) (decLt (length O) size)
     where
-      by : Dec (m < 1) → Dec (longestWord < m) → Dec (length T < room m) → Dec (length O < size) → SaveCase word T O (saveSays word T O)
-      by (yes h) d e f = rw (says-empty h) (SaveCase.empty-word h)
-      by (no h) (yes l) e f = rw (says-long (omega arith) l) (SaveCase.long-word (omega arith) l)
-      by (no h) (no l) (yes s) f = rw (says-short (omega arith) (omega arith) s) (SaveCase.short-room (omega arith) (omega arith) s)
-      by (no h) (no l) (no s) (yes o) =
+      by : Dec (m < 1) → Dec (longestWord < m) → Dec (m < leastSaved) → Dec (length T < room m) → Dec (length O < size)
+          → SaveCase word T O (saveSays word T O)
+      by (yes h) d b e f = rw (says-empty h) (SaveCase.empty-word h)
+      by (no h) (yes l) b e f = rw (says-long (omega arith) l) (SaveCase.long-word (omega arith) l)
+      by (no h) (no l) (yes b) e f = rw (says-one-letter (omega arith) (omega arith) b) (SaveCase.short-word (omega arith) (omega arith) b)
+      by (no h) (no l) (no b) (yes s) f = rw (says-short (omega arith) (omega arith) s) (SaveCase.short-room (omega arith) (omega arith) s)
+      by (no h) (no l) (no b) (no s) (yes o) =
           rw (says-full (omega arith) (omega arith) (omega arith) o) (SaveCase.short-output (omega arith) (omega arith) (omega arith) o)
-      by (no h) (no l) (no s) (no o) =
+      by (no h) (no l) (no b) (no s) (no o) =
           rw (says-done (omega arith) (omega arith) (omega arith) (omega arith))
           (SaveCase.accepted (omega arith) (omega arith) (omega arith) (omega arith))
 
@@ -79,6 +92,7 @@ module _ (word : Word) (T O : List ℕ) where
   given : {o : Outcome} → SaveCase word T O o → saveSays word T O ≡ o
   given (SaveCase.empty-word h) = says-empty h
   given (SaveCase.long-word h l) = says-long h l
+  given (SaveCase.short-word h l b) = says-one-letter h l b
   given (SaveCase.short-room h l s) = says-short h l s
   given (SaveCase.short-output h l s o) = says-full h l s o
   given (SaveCase.accepted h l s o) = says-done h l s o
@@ -95,7 +109,7 @@ module _ (word : Word) (T O : List ℕ) where
     pub entries : take (room m) (o .tables) ≡ tableOf word
     pub others : drop (room m) (o .tables) ≡ drop (room m) T
 
-  pub done-leaves : 1 ≤ m → m ≤ longestWord → room m ≤ length T → size ≤ length O → Left (saveSays word T O)
+  pub done-leaves : leastSaved ≤ m → m ≤ longestWord → room m ≤ length T → size ≤ length O → Left (saveSays word T O)
   done-leaves h l s o = rw (says-done h l s o) (record {
     file = take-at (spell word) (drop size O) size refl;
     behind = drop-at (spell word) (drop size O) size refl;
@@ -113,6 +127,7 @@ module _ (word : Word) (T O : List ℕ) where
           → (o .output ≡ O) × ((o .tables ≡ T) ⊎ (o .tables ≡ replicate (room m) 0 ++ drop (room m) T))
       by (SaveCase.empty-word h) e = (refl, inl refl)
       by (SaveCase.long-word h l) e = (refl, inl refl)
+      by (SaveCase.short-word h l b) e = (refl, inl refl)
       by (SaveCase.short-room h l s) e = (refl, inl refl)
       by (SaveCase.short-output h l s o) e = (refl, inr refl)
       by (SaveCase.accepted h l s o) e = done-not-refused e
@@ -124,8 +139,9 @@ module _ (word : Word) (T O : List ℕ) where
       by : {o : Outcome} → SaveCase word T O o → o .answer ≡ refused shortOutput → ⊥
       by (SaveCase.empty-word h) e = let z : _≡_ {A = ℕ} 1 12 = cc in omega arith
       by (SaveCase.long-word h l) e = let z : _≡_ {A = ℕ} 2 12 = cc in omega arith
+      by (SaveCase.short-word h l b) e = let z : _≡_ {A = ℕ} 17 12 = cc in omega arith
       by (SaveCase.short-room h l s) e = let z : _≡_ {A = ℕ} 3 12 = cc in omega arith
-      by (SaveCase.short-output h l s o) e = omega (arith, size-most word h l)
+      by (SaveCase.short-output h l s o) e = omega (arith, size-most word (omega (arith, saved-some, h)) l)
       by (SaveCase.accepted h l s o) e = done-not-refused e
 
 -- ── What the code's steps come to ──────────────────────────────────────────
@@ -144,8 +160,8 @@ module _ (word : Word) {P : List ℕ} (R : List ℕ) (filled-in : P ≡ tableOf 
   pub lent-size : room (length word) ≡ length lent
   lent-size = sym (ap length lent-table ∙ table-size word)
 
-  pub lent-tabled : 1 ≤ length word → length word ≤ longestWord → Tabled word lent
-  lent-tabled h l = record { table = lent-table; least = h; most = omega (arith, words-fit) }
+  pub lent-tabled : leastSaved ≤ length word → length word ≤ longestWord → Tabled word lent
+  lent-tabled h l = record { table = lent-table; least = omega (arith, saved-some, h); most = omega (arith, words-fit) }
 
   pub wiped : {C : List ℕ} (O : List ℕ) → C ≡ replicate (length lent) 0
       → outcome (refused shortOutput) (C ++ drop (room (length word)) (P ++ R)) O

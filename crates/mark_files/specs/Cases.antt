@@ -2,7 +2,7 @@
 -- have to be for it and the whole outcome that it has: the answer and every lent buffer. The theorems show that an entry's outcome is o
 -- exactly when a case with the outcome o applies.
 --
---   SaveCase word T O o                save with the tables T and the output O: 1, 2, 3, 12
+--   SaveCase word T O o                save with the tables T and the output O: 1, 2, 17, 3, 12
 --   LoadCase file R T o                load into the word room R: up to the letters 5 to 8, then 3, behind them 5, 6, 9 to 11; all but 3
 --                                      with the place of the file where they show
 --   SearchFileCase file text R T F o   search with a file: 4, then as loading
@@ -14,13 +14,13 @@ use mathlib.Core.List.{List, _++_}
 use Prim.Native.Nat.{ℕ, _+_, _≤_, _<_}
 use lib.ListN.{length, take, drop, replicate}
 use Rattle.words.specs.Words.{Word, Place, part, mirror, occurrences}
-use Rattle.words.specs.Limits.{longestWord, longestText}
+use Rattle.words.specs.Limits.{leastSaved, longestWord, longestText}
 use Rattle.table.specs.Table.{room, tableOf}
 use Rattle.finds.specs.Finds.{filled}
 use Rattle.saved.specs.File.{spell}
 use Rattle.loaded.specs.Load.{letters, stop, right, wrong}
 use Rattle.loaded.specs.Cases.{FrontCase, VerdictCase}
-use Rattle.answers.specs.Answers.{done, refused, refusedAt, emptyWord, longWord, shortRoom, longText, shortOutput}
+use Rattle.answers.specs.Answers.{done, refused, refusedAt, emptyWord, longWord, shortWord, shortRoom, longText, shortOutput}
 use Rattle.marks.specs.Search.{found}
 use Rattle.mark_files.specs.Save
 use Rattle.mark_files.specs.Load
@@ -38,10 +38,11 @@ module _ (word : Word) where
   pub data SaveCase (T O : List ℕ) : Save.Outcome → Type 0 where
     empty-word : m < 1 → SaveCase T O (Save.outcome (refused emptyWord) T O)
     long-word : 1 ≤ m → longestWord < m → SaveCase T O (Save.outcome (refused longWord) T O)
-    short-room : 1 ≤ m → m ≤ longestWord → length T < room m → SaveCase T O (Save.outcome (refused shortRoom) T O)
-    short-output : 1 ≤ m → m ≤ longestWord → room m ≤ length T → length O < size
+    short-word : 1 ≤ m → m ≤ longestWord → m < leastSaved → SaveCase T O (Save.outcome (refused shortWord) T O)
+    short-room : leastSaved ≤ m → m ≤ longestWord → length T < room m → SaveCase T O (Save.outcome (refused shortRoom) T O)
+    short-output : leastSaved ≤ m → m ≤ longestWord → room m ≤ length T → length O < size
         → SaveCase T O (Save.outcome (refused shortOutput) (replicate (room m) 0 ++ drop (room m) T) O)
-    accepted : 1 ≤ m → m ≤ longestWord → room m ≤ length T → size ≤ length O
+    accepted : leastSaved ≤ m → m ≤ longestWord → room m ≤ length T → size ≤ length O
         → SaveCase T O (Save.outcome (done size) (tableOf word ++ drop (room m) T) (spell word ++ drop size O))
 
 -- ── Loading, and searching with a file ─────────────────────────────────────

@@ -3,23 +3,23 @@
 --   Outcome              the answer, and the room and the output as they are left
 --   savedAs r T O        the outcome of code that answers r and leaves T and O
 --   saveWithin n word T O
---                        what it must be where a word may have n letters: 1, 2, 3, 12 in that order, else the file at the start of the
+--                        what it must be where a word may have n letters: 1, 2, 17, 3, 12 in that order, else the file at the start of the
 --                        output and its length, and the word's table in the room. 12 leaves zeros in the word's part of the room; the
 --                        output is not touched by a refusal
 --   saveSays word T O    the same with the limit that there is
 --
--- 01, 'The file on disk' and 'When the library says no'; demands 1 and 3.
+-- 01, 'The file on disk' and 'When the library says no'; 02, 'One-letter marks'; demands 1 and 3.
 use mathlib.Core.Bool.{cond}
 use mathlib.Core.List.{List, _++_}
 use Prim.Native.Nat.{ℕ}
 use lib.ListN.{length, drop, replicate}
 use lib.Dec.{ltb}
 use Rattle.words.specs.Words.{Word}
-use Rattle.words.specs.Limits.{longestWord}
+use Rattle.words.specs.Limits.{longestWord, leastSaved}
 use Rattle.table.specs.Table.{room, tableOf}
 use Rattle.saved.specs.File.{spell}
 use Rattle.answers.specs.declared.SizeAnswer.{SizeAnswer}
-use Rattle.answers.specs.Answers.{Answer, done, refused, sizeAnswer, emptyWord, longWord, shortRoom, shortOutput}
+use Rattle.answers.specs.Answers.{Answer, done, refused, sizeAnswer, emptyWord, longWord, shortWord, shortRoom, shortOutput}
 
 pub record Outcome : Type 0 where
   pub answer : Answer ℕ
@@ -38,9 +38,10 @@ saveWithin n word T O =
     let file = spell word in
     cond (ltb m 1) (outcome (refused emptyWord) T O)
     (cond (ltb n m) (outcome (refused longWord) T O)
+    (cond (ltb m leastSaved) (outcome (refused shortWord) T O)
     (cond (ltb (length T) (room m)) (outcome (refused shortRoom) T O)
     (cond (ltb (length O) (length file)) (outcome (refused shortOutput) (replicate (room m) 0 ++ drop (room m) T) O)
-    (outcome (done (length file)) (tableOf word ++ drop (room m) T) (file ++ drop (length file) O)))))
+    (outcome (done (length file)) (tableOf word ++ drop (room m) T) (file ++ drop (length file) O))))))
 
 unfoldable pub saveSays : Word → List ℕ → List ℕ → Outcome
 saveSays word T O = saveWithin longestWord word T O

@@ -28,6 +28,9 @@ pub fn save(word: &[u8], tables: &mut [u16], out: &mut [u8]) -> SizeAnswer
     if words::WORD_LIMIT < m {
         return SizeAnswer::Refused(Refusal::Numbered(answers::LONG_WORD));
     }
+    if m < words::LEAST_SAVED {
+        return SizeAnswer::Refused(Refusal::Numbered(answers::SHORT_WORD));
+    }
     let need = 6 * (m + 1);
     if tables.len() < need {
         return SizeAnswer::Refused(Refusal::Numbered(answers::SHORT_ROOM));

@@ -52,7 +52,7 @@ build-done word T m = done-exactly (1 ∷ 2 ∷ 3 ∷ []) [] refl refl _ (build-
 
 pub save-done : (word : Word) (T O : List ℕ) (n : ℕ) → (saveCallSays word T O n .result ≡ 0) ↔ Succeeds (saveSays word T O .answer)
 unfolding oneOf
-save-done word T O n = done-exactly (1 ∷ 2 ∷ 3 ∷ 12 ∷ []) [] refl refl _ (save-numbers word T O)
+save-done word T O n = done-exactly (1 ∷ 2 ∷ 17 ∷ 3 ∷ 12 ∷ []) [] refl refl _ (save-numbers word T O)
 
 pub load-done : (file R T : List ℕ) (m : ℕ) (p : Place) → (loadCallSays file R T m p .result ≡ 0) ↔ Succeeds (loadSays file R T .answer)
 unfolding oneOf

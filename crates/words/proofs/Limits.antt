@@ -26,7 +26,7 @@ unfolding longestStreamed
 streamed-limit = refl
 
 -- LEAST_SAVED
-pub least-saved : leastSaved ≡ 1
+pub least-saved : leastSaved ≡ 2
 unfolding leastSaved
 least-saved = refl
 

@@ -6,7 +6,7 @@
 --   leastSaved      the least number of letters of a word that is saved
 --   greatestFile    so many bytes are always room enough for a file
 --
--- 01, 'What the base holds' and 'The file on disk'; 02, 'Uploads in pieces'.
+-- 01, 'What the base holds' and 'The file on disk'; 02, 'Uploads in pieces' and 'One-letter marks'.
 use Prim.Native.Nat.{ℕ, _+_, _*_}
 
 unfoldable pub longestWord : ℕ
@@ -19,7 +19,7 @@ unfoldable pub longestStreamed : ℕ
 longestStreamed = 64
 
 unfoldable pub leastSaved : ℕ
-leastSaved = 1
+leastSaved = 2
 
 unfoldable pub greatestFile : ℕ
 greatestFile = 5 * longestWord + 1

@@ -7,7 +7,7 @@ pub const TEXT_LIMIT: usize = 16777216;
 
 pub const STREAMED_LIMIT: usize = 64;
 
-pub const LEAST_SAVED: usize = 1;
+pub const LEAST_SAVED: usize = 2;
 
 pub struct Letter(pub u8);
 
