@@ -9,7 +9,7 @@
 //! let mut mark = Mark::new(b"aba")?;
 //! assert_eq!(mark.find_iter(b"ababa").collect::<Vec<_>>(), [0, 2]);
 //!
-//! let file = mark.to_file();
+//! let file = mark.to_file()?;
 //! let mut again = Mark::from_file(&file)?;
 //! assert_eq!(again.word(), b"aba");
 //! assert_eq!(again.count(b"xxabaxx"), 1);
@@ -57,6 +57,9 @@ pub use taken::Taken;
 
 /// The longest word, in bytes.
 pub const LONGEST_WORD: usize = 4_096;
+
+/// The shortest word that is saved, in bytes. A shorter one can be looked for all the same.
+pub const LEAST_SAVED: usize = 2;
 
 /// The longest text that one call of an entry takes, in bytes, or one searcher in all. [`Mark`] and [`Stream`] take longer ones, in parts.
 pub const LONGEST_TEXT: usize = 16_777_216;

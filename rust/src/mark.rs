@@ -81,19 +81,25 @@ impl Mark {
         &self.word
     }
 
-    /// The file from which [`from_file`](Mark::from_file) makes this mark again. It is the only file that does.
+    /// The file from which [`from_file`](Mark::from_file) makes this mark again. It is the only file that does. A mark of one letter has none, as whoever
+    /// searched with it would drown in finds: [`Refusal::ShortWord`], the one refusal there is here.
     ///
     /// ```
-    /// # use marks::Mark;
-    /// assert_eq!(Mark::new(b"a")?.to_file(), [0x01, 0x01, 0x61, 0x00]);
-    /// # Ok::<(), marks::Refusal>(())
+    /// use marks::{Mark, Refusal};
+    ///
+    /// assert_eq!(Mark::new(b"aa")?.to_file()?, [0x01, 0x02, 0x61, 0x61, 0x00]);
+    ///
+    /// let mut letter = Mark::new(b"a")?;
+    /// assert_eq!(letter.to_file(), Err(Refusal::ShortWord));
+    /// assert_eq!(letter.count(b"aba"), 2); // it is looked for directly
+    /// # Ok::<(), Refusal>(())
     /// ```
-    pub fn to_file(&self) -> Vec<u8> {
+    pub fn to_file(&self) -> Result<Vec<u8>, Refusal> {
         let mirror: Vec<u8> = self.word.iter().rev().copied().collect();
         let (mut tables, mut out) = (vec![0; self.tables.len()], vec![0; LONGEST_FILE]);
-        let length = entries::save(&mirror, &mut tables, &mut out).expect("a mark's word is within the limit and has room");
+        let length = entries::save(&mirror, &mut tables, &mut out)?;
         out.truncate(length as usize);
-        out
+        Ok(out)
     }
 
     /// Every place where the word stands in the text, overlaps included, rising. However many there are, and however long the text, none is missed.

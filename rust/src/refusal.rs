@@ -12,7 +12,7 @@ use std::{error::Error, fmt};
 /// let refused = Mark::from_file(&[0x01, 0xFF, 0xFF, 0xFF, 0xFF, 0x0F]).unwrap_err().refusal;
 /// assert_eq!(refused, Refusal::BadLength);
 /// assert_eq!(refused.number(), 8);
-/// assert_eq!(refused.to_string(), "the file declares a word of no letters or of more than 4,096 (8)");
+/// assert_eq!(refused.to_string(), "the file declares a word of fewer than 2 letters or of more than 4,096 (8)");
 /// ```
 #[derive(Clone, Copy, Debug, PartialEq, Eq, Hash, PartialOrd, Ord)]
 #[repr(u32)]
@@ -31,7 +31,7 @@ pub enum Refusal {
     BadNumber = 6,
     /// The file's edition is not 1.
     OtherEdition = 7,
-    /// The declared length of the word is 0 or above 4,096.
+    /// The declared length of the word is below 2 or above 4,096.
     BadLength = 8,
     /// More arrows are declared than the word's length less 1.
     BadCount = 9,
@@ -43,10 +43,12 @@ pub enum Refusal {
     ShortOutput = 12,
     /// The searcher is one that opening and taking bytes could never have made.
     Unmade = 16,
+    /// The word to be saved has one letter.
+    ShortWord = 17,
 }
 
 impl Refusal {
-    const TABLE: [Refusal; 13] = [
+    const TABLE: [Refusal; 14] = [
         Refusal::EmptyWord,
         Refusal::LongWord,
         Refusal::ShortRoom,
@@ -60,9 +62,10 @@ impl Refusal {
         Refusal::Leftovers,
         Refusal::ShortOutput,
         Refusal::Unmade,
+        Refusal::ShortWord,
     ];
 
-    /// Its number in the table, from 1 to 12 or 16.
+    /// Its number in the table: 1 to 12, 16 or 17. Others mean nothing.
     pub const fn number(self) -> u32 {
         self as u32
     }
@@ -86,12 +89,13 @@ impl Refusal {
             Refusal::CutFile => "the file ends before its last field does",
             Refusal::BadNumber => "a number in the file is not in its one spelling",
             Refusal::OtherEdition => "the file is of another edition than 1",
-            Refusal::BadLength => "the file declares a word of no letters or of more than 4,096",
+            Refusal::BadLength => "the file declares a word of fewer than 2 letters or of more than 4,096",
             Refusal::BadCount => "the file declares more arrows than its word can have",
             Refusal::WrongArrow => "the file's arrows are not those of its word",
             Refusal::Leftovers => "bytes follow the file's last arrow",
             Refusal::ShortOutput => "the room lent for the file is too short",
             Refusal::Unmade => "no opening and taking can have made this searcher: open one anew and take the text from its start",
+            Refusal::ShortWord => "a word of one letter is not saved",
         }
     }
 }
@@ -111,7 +115,7 @@ mod tests {
     #[test]
     fn each_number_is_that_of_one_refusal() {
         let numbers = Refusal::TABLE.map(Refusal::number);
-        assert_eq!(numbers, [1, 2, 3, 4, 5, 6, 7, 8, 9, 10, 11, 12, 16]);
+        assert_eq!(numbers, [1, 2, 3, 4, 5, 6, 7, 8, 9, 10, 11, 12, 16, 17]);
         assert_eq!(numbers.map(Refusal::of), Refusal::TABLE);
     }
 

@@ -269,7 +269,7 @@ fn what_was_not_handed_out_can_be_counted() {
 
 #[test]
 fn a_mark_of_a_file_takes_an_engine_too() {
-    let file = Mark::new(b"aba").unwrap().to_file();
+    let file = Mark::new(b"aba").unwrap().to_file().unwrap();
     let mut loaded = Mark::from_file(&file).unwrap();
     assert_eq!(loaded.tally(b"ababa"), Tally { count: 2, letters: 6 });
     assert_eq!(loaded.engine(Engine::Turbo).tally(b"ababa"), Tally { count: 2, letters: 10 });

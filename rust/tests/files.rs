@@ -41,6 +41,24 @@ fn an_output_one_byte_short_is_not_touched() {
 }
 
 #[test]
+fn a_word_of_one_letter_is_not_saved_whatever_the_rooms() {
+    let (mut tables, mut out) = ([7u16; 13], [9u8; 5]);
+    for letter in 0..=255 {
+        for (entries, bytes) in [(0, 0), (11, 5), (12, 3), (13, 5)] {
+            assert_eq!(save(&[letter], &mut tables[..entries], &mut out[..bytes]), Err(Refusal::ShortWord));
+        }
+        let (mut room, mut finds) = ([8u8; 1], [5u32; 1]);
+        let file = [1, 1, letter, 0];
+        assert_eq!(load(&file, &mut room, &mut tables), refused(Refusal::BadLength, Some(1)));
+        assert_eq!(search_file(&file, b"aba", &mut room, &mut tables, &mut finds), refused(Refusal::BadLength, Some(1)));
+        assert_eq!((room, finds), ([8], [5]));
+    }
+    assert_eq!((tables, out), ([7; 13], [9; 5]));
+    assert_eq!(save(b"", &mut tables, &mut out), Err(Refusal::EmptyWord));
+    assert_eq!(save(&[0; LONGEST_WORD + 1], &mut [], &mut []), Err(Refusal::LongWord));
+}
+
+#[test]
 fn the_text_comes_before_the_file_and_the_room_before_the_arrows() {
     let text = vec![b'a'; LONGEST_TEXT + 1];
     let (mut room, mut tables, mut finds) = ([8u8; 3], [7u16; 24], [5u32; 2]);

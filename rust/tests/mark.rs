@@ -1,5 +1,5 @@
 //! A mark against the plainest search there is: no find missed or doubled, however many there are and wherever the parts of a long text meet.
-use marks::{LoadError, Mark, Refusal, LONGEST_TEXT, LONGEST_WORD};
+use marks::{LoadError, Mark, Refusal, LEAST_SAVED, LONGEST_TEXT, LONGEST_WORD};
 
 fn plain(word: &[u8], text: &[u8]) -> Vec<usize> {
     text.windows(word.len()).enumerate().filter(|(_, part)| *part == word).map(|(at, _)| at).collect()
@@ -62,10 +62,10 @@ fn a_text_of_several_parts_loses_and_doubles_nothing_at_a_seam() {
 #[test]
 fn a_file_gives_the_mark_back() {
     let mut seed = 362436069;
-    for m in [1, 2, 3, 7, 64, 255, 256, LONGEST_WORD - 1, LONGEST_WORD] {
+    for m in [LEAST_SAVED, 3, 7, 64, 255, 256, LONGEST_WORD - 1, LONGEST_WORD] {
         for letters in [1u64, 2, 4, 256] {
             let word: Vec<u8> = (0..m).map(|_| (random(&mut seed) >> 20).wrapping_rem(letters) as u8).collect();
-            let file = Mark::new(&word).unwrap().to_file();
+            let file = Mark::new(&word).unwrap().to_file().unwrap();
             assert_eq!(Mark::from_file(&file).unwrap().word(), word);
             let (cut, longer) = (Mark::from_file(&file[..file.len() - 1]), Mark::from_file(&[&file[..], &[0]].concat()));
             assert_eq!(cut.unwrap_err(), LoadError { refusal: Refusal::CutFile, offset: Some(file.len() - 1) });

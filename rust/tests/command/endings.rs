@@ -22,8 +22,8 @@ fn a_closed_pipe_ends_it_quietly() {
 
 #[test]
 fn an_output_that_is_full_is_trouble() {
-    let here = Folder::new("full").with("ride", "ababa").with("good", b"\x01\x01a\0");
-    for words in [&["find", "aba", "ride"][..], &["check", "good"], &["show", "good"], &["save", "a", "-"], &["--help"]] {
+    let here = Folder::new("full").with("ride", "ababa").with("good", b"\x01\x02aa\0");
+    for words in [&["find", "aba", "ride"][..], &["check", "good"], &["show", "good"], &["save", "aa", "-"], &["--help"]] {
         let output = here.command(MARKS).args(words).stdout(File::create("/dev/full").unwrap()).output().unwrap();
         let err = String::from_utf8(output.stderr).unwrap();
         let said = "marks: (standard output): the disk is full; make room and run it again, for what was written is not whole\n";

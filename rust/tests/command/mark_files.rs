@@ -12,12 +12,29 @@ fn a_saved_mark_finds_its_word() {
     here.marks(&["save", "-x", "00ff", "bytes.mark"]).is(0, "");
     assert_eq!(fs::read(here.path("bytes.mark")).unwrap(), b"\x01\x02\xff\x00\x01\0\0");
     // over a longer file
-    here.marks(&["save", "a", "ab.mark"]).is(0, "");
-    assert_eq!(fs::read(here.path("ab.mark")).unwrap(), b"\x01\x01a\0");
-    here.marks(&["save", "a", "-"]).is(0, "\u{1}\u{1}a\0");
+    here.marks(&["save", "aa", "ab.mark"]).is(0, "");
+    assert_eq!(fs::read(here.path("ab.mark")).unwrap(), b"\x01\x02aa\0");
+    here.marks(&["save", "aa", "-"]).is(0, "\u{1}\u{2}aa\0");
     here.shell("marks save abc - | marks find -m - /dev/null").is(1, "");
     here.shell("marks save abc - | marks check -")
         .is(0, "(standard input): good, finds \"abc\" (3 letters; it holds the mirror, \"cba\")\n");
+}
+
+#[test]
+fn a_word_of_one_letter_is_not_saved_but_found() {
+    let here = Folder::new("one-letter").with("ride", "aba").with("kept", "as it was").with("old", b"\x01\x01a\0");
+    let complaint = "marks: WORD: a word of one letter is not saved (17); look for it directly: marks find WORD FILE\n";
+    for words in [&["save", "a", "kept"][..], &["save", "-x", "61", "kept"], &["save", "a", "-"], &["save", "a", "no/out"]] {
+        here.marks(words).is_with(2, "", complaint);
+    }
+    assert_eq!(fs::read(here.path("kept")).unwrap(), b"as it was");
+    here.marks(&["find", "a", "ride"]).is(0, "0\n2\n");
+    // and the file that one once had is not taken
+    let refused = "the file declares a word of fewer than 2 letters or of more than 4,096 (8), at offset 1; \
+                   it is damaged, no mark file, or of one letter: save a mark of 2 to 4,096 bytes";
+    here.marks(&["find", "-m", "old", "ride"]).is_with(2, "", &format!("marks: old: {refused}\n"));
+    let place = "  00000000  01 01 61 00                                       |..a.|\n               ^^\n";
+    here.marks(&["check", "old"]).is(1, &format!("old: refused: {refused}\n{place}"));
 }
 
 #[test]
@@ -50,13 +67,13 @@ fn an_out_that_cannot_be_written() {
 
 #[test]
 fn check_says_what_good_files_find() {
-    let here = Folder::new("good").with("7", GOOD).with("1", b"\x01\x01a\0").with("3", b"\x01\x03aaa\0");
+    let here = Folder::new("good").with("7", GOOD).with("2", b"\x01\x02aa\0").with("3", b"\x01\x03aaa\0");
     here.marks(&["save", "-x", "00 20 22 5c 80 7e", "odd"]).is(0, "");
-    here.marks(&["check", "7", "1", "3", "odd"]).is(
+    here.marks(&["check", "7", "2", "3", "odd"]).is(
         0,
         concat!(
             "7: good, finds \"baabbba\" (7 letters; it holds the mirror, \"abbbaab\")\n",
-            "1: good, finds \"a\" (1 letter)\n",
+            "2: good, finds \"aa\" (2 letters)\n",
             "3: good, finds \"aaa\" (3 letters)\n",
             "odd: good, finds \"\\x00 \\\"\\\\\\x80~\" (6 letters; it holds the mirror, \"~\\x80\\\\\\\" \\x00\")\n",
         ),
@@ -68,19 +85,20 @@ fn every_refusal_of_a_file_is_told_with_its_number_and_offset() {
     let again = "save the mark again";
     let damaged = format!("it is damaged or no mark file: {again}");
     let cut = ("the file ends before its last field does (5)", format!("it was cut: copy it again, or {again}"));
-    let no_word = format!("the file declares a word of no letters or of more than {} (8)", told(LONGEST_WORD));
-    let length = (&no_word[..], damaged.clone());
+    let no_word = format!("the file declares a word of fewer than 2 letters or of more than {} (8)", told(LONGEST_WORD));
+    let length = (&no_word[..], "it is damaged, no mark file, or of one letter: save a mark of 2 to 4,096 bytes".to_string());
     let arrows = ("the file's arrows are not those of its word (10)", damaged.clone());
     let spelling = ("a number in the file is not in its one spelling (6)", format!("{damaged}; docs/FILE.md has the spelling"));
-    let cases: [(&[u8], usize, _); 11] = [
+    let cases: [(&[u8], usize, _); 12] = [
         (b"", 0, cut.clone()),
         (&GOOD[..17], 17, cut),
         (b"\x01\x83\x00aaa\x00", 2, spelling.clone()),
         (b"\x01\xff\xff\xff\xff\x10", 5, spelling),
         (b"\x02\x01a\0", 0, ("the file is of another edition than 1 (7)", format!("it is no mark file, or of a later edition: {again}"))),
-        // four billion letters, and none
+        // four billion letters, none, and one
         (b"\x01\xff\xff\xff\xff\x0f", 1, length.clone()),
-        (b"\x01\x00", 1, length),
+        (b"\x01\x00", 1, length.clone()),
+        (b"\x01\x01a\0", 1, length),
         (b"\x01\x03aaa\x03", 5, ("the file declares more arrows than its word can have (9)", damaged)),
         (b"\x01\x03aaa\x01\0\0", 6, arrows.clone()),
         (b"\x01\x02ab\0", 5, arrows),
@@ -102,9 +120,9 @@ fn every_refusal_of_a_file_is_told_with_its_number_and_offset() {
 
 #[test]
 fn trouble_with_a_file_is_not_a_refusal() {
-    let here = Folder::new("unreadable-marks").with("good", b"\x01\x01a\0").with("bad", "");
+    let here = Folder::new("unreadable-marks").with("good", b"\x01\x02aa\0").with("bad", "");
     let gone = "marks: gone: there is no such file; check its name\n";
-    here.marks(&["check", "gone", "good"]).is_with(2, "good: good, finds \"a\" (1 letter)\n", gone);
+    here.marks(&["check", "gone", "good"]).is_with(2, "good: good, finds \"aa\" (2 letters)\n", gone);
     here.marks(&["check", "."]).is_with(2, "", "marks: .: it is a directory; name the files in it\n");
     here.marks(&["show", "gone"]).is_with(2, "", gone);
     assert_eq!(here.marks(&["check", "gone", "bad"]).status, Some(2));

@@ -28,7 +28,7 @@ fn the_faulty_byte_is_marked() {
         ]
     );
     assert_eq!(
-        shown(&here, "huge", "the file declares a word of no letters or of more than 4,096 (8), at offset 1"),
+        shown(&here, "huge", "the file declares a word of fewer than 2 letters or of more than 4,096 (8), at offset 1"),
         ["  00000000  01 ff ff ff ff 0f                                 |......|", "               ^^"]
     );
 }
@@ -61,7 +61,7 @@ fn the_end_of_a_file_is_marked_behind_its_last_byte() {
 
 #[test]
 fn each_place_stands_below_its_own_file() {
-    let here = Folder::new("several").with("1", b"\x02").with("2", b"\x01\x01a\0").with("3", b"\x01\x01a\0\x1b[2J");
+    let here = Folder::new("several").with("1", b"\x02").with("2", b"\x01\x02aa\0").with("3", b"\x01\x02aa\0\x1b[2J");
     let said = here.marks_reading(&["check", "1", "2", "gone", "3", "-"], b"\x01\0");
     said.is_with(
         2,
@@ -69,11 +69,11 @@ fn each_place_stands_below_its_own_file() {
 1: refused: the file is of another edition than 1 (7), at offset 0; it is no mark file, or of a later edition: save the mark again
   00000000  02                                                |.|
             ^^
-2: good, finds \"a\" (1 letter)
-3: refused: bytes follow the file's last arrow (11), at offset 4; something was added to it: save the mark again
-  00000000  01 01 61 00 1b 5b 32 4a                           |..a..[2J|
-                        ^^
-(standard input): refused: the file declares a word of no letters or of more than 4,096 (8), at offset 1; it is damaged or no mark file: save the mark again
+2: good, finds \"aa\" (2 letters)
+3: refused: bytes follow the file's last arrow (11), at offset 5; something was added to it: save the mark again
+  00000000  01 02 61 61 00 1b 5b 32  4a                       |..aa..[2J|
+                           ^^
+(standard input): refused: the file declares a word of fewer than 2 letters or of more than 4,096 (8), at offset 1; it is damaged, no mark file, or of one letter: save a mark of 2 to 4,096 bytes
   00000000  01 00                                             |..|
                ^^
 ",
@@ -133,7 +133,7 @@ fn a_hundred_kilobytes_of_leftovers() {
     );
     judged_as_the_whole(here, &file);
     // behind the file of a word of the most letters
-    let file = Mark::new(&garbage()[..LONGEST_WORD]).unwrap().to_file();
+    let file = Mark::new(&garbage()[..LONGEST_WORD]).unwrap().to_file().unwrap();
     judged_as_the_whole(Folder::new("leftovers-of-longest"), &[file, garbage()].concat());
 }
 
@@ -143,7 +143,7 @@ fn a_hundred_kilobytes_of_garbage() {
     assert_eq!(shown(&here, "file", "the file is of another edition than 1 (7), at offset 0").len(), 2);
     judged_as_the_whole(here, &garbage());
     // from each field of a good file on
-    let file = Mark::new(&garbage()[..LONGEST_WORD]).unwrap().to_file();
+    let file = Mark::new(&garbage()[..LONGEST_WORD]).unwrap().to_file().unwrap();
     for kept in [1, 3, 3 + LONGEST_WORD, 5 + LONGEST_WORD, file.len() - 3] {
         judged_as_the_whole(Folder::new(&format!("garbage-from-{kept}")), &[&file[..kept], &garbage()].concat());
     }

@@ -22,5 +22,5 @@ marks finds byte marks in files of any size, with a proved library.
 
 WORD has 1 to 4,096 bytes; finds may overlap. The file - is standard input, and
 -- ends the options. A mark file holds its mark from last letter to first, the
-mirror, because the search reads backward.
+mirror, because the search reads backward; a word of one letter is not saved.
 Status: 0 found or good, 1 none found or a mark file refused, 2 trouble.";
