@@ -1,8 +1,9 @@
 /* Finding marks in broken ride files, for C99 and C++.
  *
  * A mark is a word of 1 to 4,096 bytes. marks_search lists every place where it stands in a text; so does marks_turbo, in linear time whatever the text.
- * marks_save writes its index to a file of at most 20,481 bytes, marks_load reads such a file, and marks_search_file searches with one. c/find.c is a
- * program to start from. For a text that comes in pieces there are marks_open and marks_take, for marks of 1 to 64 bytes, and c/pieces.c.
+ * marks_save writes its index to a file of 5 to 20,481 bytes, but not that of a single letter, with which everybody would drown in finds; marks_load reads
+ * such a file, and marks_search_file searches with one. c/find.c is a program to start from. For a text that comes in pieces there are marks_open and
+ * marks_take, for marks of 1 to 64 bytes, and c/pieces.c.
  *
  * Which search: marks_turbo where strangers choose the text or the mark, as it reads no more than two letters for each letter of the text. marks_search
  * where you know both, as it is a little quicker on most texts, but may read m letters for each of a hostile one.
@@ -38,17 +39,19 @@ enum {
     MARKS_CUT_FILE = 5,      /* the file ends before or inside a number, or before the last of the m letters */
     MARKS_BAD_NUMBER = 6,    /* a number's last of several groups is zero, or its fifth byte is above 15 */
     MARKS_OTHER_EDITION = 7, /* edition other than 1 */
-    MARKS_BAD_LENGTH = 8,    /* declared m is 0 or above 4,096 */
+    MARKS_BAD_LENGTH = 8,    /* declared m is below 2 or above 4,096 */
     MARKS_BAD_COUNT = 9,     /* declared arrows exceed m-1 */
     MARKS_WRONG_ARROW = 10,  /* an arrow differs from the word's extra arrow at that place or none is left there, or arrows are missing */
     MARKS_LEFTOVERS = 11,    /* bytes remain after the last arrow */
     MARKS_SHORT_OUTPUT = 12, /* output room is below the size of the file to be saved */
-    MARKS_UNMADE = 16        /* the searcher is one that opening and taking bytes could never have made */
+    MARKS_UNMADE = 16,       /* the searcher is one that opening and taking bytes could never have made */
+    MARKS_SHORT_WORD = 17    /* the word to be saved has one letter */
 };
 
 /* Room, in elements of the buffer that it is for. A text may be empty, and a list of finds may have any length, 0 too. */
 #define MARKS_LONGEST_WORD 4096                             /* also word room for every file */
 #define MARKS_LONGEST_TEXT 16777216
+#define MARKS_LEAST_SAVED 2                                 /* bytes of a word that is saved */
 #define MARKS_TABLES(m) (6 * ((m) + 1))                     /* table entries for a word of m letters */
 #define MARKS_MOST_TABLES MARKS_TABLES(MARKS_LONGEST_WORD)  /* table entries for every word */
 #define MARKS_MOST_FILE (5 * MARKS_LONGEST_WORD + 1)        /* output for the file of every word */
@@ -64,7 +67,7 @@ extern "C" {
 uint32_t marks_build(const uint8_t *word, size_t word_len, uint16_t *tables, size_t tables_len, uint64_t *m);
 
 /* The file of the word, at the start of out; tables are left as by marks_build. The answer is the file's length. docs/FILE.md has its layout.
- * Refusals: 1, 2, 3, 12. 1, 2 and 3 change nothing; 12 leaves the first MARKS_TABLES(m) entries of tables zero, and out as it was. */
+ * Refusals: 1, 2, 17, 3, 12. 12 leaves the first MARKS_TABLES(m) entries of tables zero, and out as it was; the others change nothing. */
 uint32_t marks_save(const uint8_t *word, size_t word_len, uint16_t *tables, size_t tables_len, uint8_t *out, size_t out_len, uint64_t *length);
 
 /* The file's word in the first m bytes of room, and its table, as marks_build makes it, in the first MARKS_TABLES(m) entries of tables. The answer is m.

@@ -149,7 +149,7 @@ module _ (word text : Word) (file R T O : List ℕ) (F : List Place) where
   -- left out or moved is refused by the prover, as the must-fail edits no_limit_check and count_unchecked of crates/loaded and
   -- load_room_unchecked of crates/mark_files show.
 
-  -- Shut out: a loader that clears before 8. A declared length that no word may have is refused with every lent buffer as it was
+  -- Shut out: a loader that clears before 8. A declared length that no saved word has is refused with every lent buffer as it was
   pub bad-length-touches-nothing : {i m j : ℕ} → Reads file 0 edition i → Reads file i m j → BadLength m
       → loadSays file R T ≡ Load.outcome (refusedAt 8 i) R T
   bad-length-touches-nothing = LoadTheorems.bad-length-one R T file

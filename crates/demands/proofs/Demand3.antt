@@ -30,8 +30,8 @@ use Rattle.mark_files.proofs.SearchFileSays
 use Rattle.mark_files.proofs.LoadTheorems.{Handed}
 use Rattle.mark_files.proofs.LoadTheorems
 
--- ── 'Given enough room, a saved file is accepted exactly when it is the one spelling of some word of 1 to 1,024 [4,096] bytes with that
---    word's oracle,' ──
+-- ── 'Given enough room, a saved file is accepted exactly when it is the one spelling of some word of 1 [2] to 1,024 [4,096] bytes with
+--    that word's oracle,' ──
 
 -- s is bytes, as whatever a caller hands over is; `spell` is the spelling, and `Saved s` says that s is that of some word within the limits
 pub accepted-exactly : (s R T : List ℕ) → Bytes s

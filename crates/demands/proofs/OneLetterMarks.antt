@@ -54,7 +54,7 @@ module _ (file R T : List ℕ) {i m j : ℕ} (edition-read : Reads file 0 editio
       → searchFileSays file text R T F ≡ SearchFile.outcome (refusedAt 8 i) R T F
   search-file-refuses text F short = says-after file text R T F short load-refuses
 
--- and for no other length that a word may have: a length of 2 is not refused with it
+-- and for no other length up to the limit: a length of 2 is not refused with it
 module _ (file R T : List ℕ) where
   length-at-fault : {r : ℕ} {p q : Place} → FaultAt file r p q → r ≡ 8 → (m : ℕ) × Reads file 0 edition p × Reads file p m q × BadLength m
   length-at-fault (number-cut N c) e = absurd (omega arith)

@@ -5,7 +5,7 @@
 --                           one spelling stands there (`number/Theorems/value-exactly`)
 --   Unread s i r p          none is read there: 5 where the file ends before or inside it, 6 where a byte is refused, and the place p where
 --                           that shows; `numberAt` refuses exactly so (`number/Theorems/cut-exactly`, `number/Theorems/bad-exactly`)
---   BadLength m             no word may have m letters
+--   BadLength m             no word that is saved has m letters
 --   FrontCaseAt s o f       what the file that stands in s from place o on shows up to its letters
 --   FrontCase s f           the same of a file that is all of s
 --   ArrowsCase s i n l e    what n declared arrows from place i on show, where l are the word's own that are left

@@ -151,7 +151,7 @@ module _ (R T : List ℕ) where
 
   -- ── Any bad number ───────────────────────────────────────────────────────
 
-  -- 8: the outcome is one, whichever length that no word may have was declared, and whatever follows
+  -- 8: the outcome is one, whichever length that no saved word has was declared, and whatever follows
   pub bad-length-one : (s : List ℕ) {i m j : ℕ} → Reads s 0 edition i → Reads s i m j → BadLength m
       → loadSays s R T ≡ outcome (refusedAt 8 i) R T
   bad-length-one s a b c = load-is s R T _ .1 (LoadCase.head-refused (length-bad a b c))
