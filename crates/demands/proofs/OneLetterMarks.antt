@@ -1,12 +1,12 @@
 -- ONE-LETTER MARKS, the sixth request of 02, sentence by sentence: each is quoted, and under it stands what says just that.
 use mathlib.Core.Path.{_≡_, refl, sym, ap, _∙_}
-use mathlib.Core.Logic.{_⊎_, inl, inr, _↔_}
-use mathlib.Core.List.{List, [], _∷_, _++_, append-nil}
+use mathlib.Core.Logic.{_⊎_, inl, _↔_}
+use mathlib.Core.List.{List, [], _++_, append-nil}
 use Prim.Native.Nat.{ℕ, _≤_, _<_}
 use native.Mathlib.Omega.{arith}
 use lib.ListN.{length}
 use Rattle.words.specs.Words.{Word, Place}
-use Rattle.words.specs.Limits.{longestWord, longestText, longestStreamed, leastSaved}
+use Rattle.words.specs.Limits.{longestWord, longestText}
 use Rattle.words.proofs.Limits.{word-limit, streamed-limit, least-saved}
 use Rattle.table.specs.Table.{room, tableOf}
 use Rattle.table.proofs.Theorems.{table-size}
@@ -70,22 +70,17 @@ module _ (file R T : List ℕ) where
 
   pub eight-exactly : (p : Place) → (loadSays file R T .answer ≡ refusedAt 8 p)
       ↔ ((m : ℕ) × (q : Place) × Reads file 0 edition p × Reads file p m q × ((m < 2) ⊎ (longestWord < m)))
-  eight-exactly p = (there, back)
-    where
-      there : loadSays file R T .answer ≡ refusedAt 8 p
-          → (m : ℕ) × (q : Place) × Reads file 0 edition p × Reads file p m q × ((m < 2) ⊎ (longestWord < m))
-      there e =
-          let f = load-fault file R T e in
-          let b = length-at-fault (f .1) refl in
-          (b .0, f .0, b .1, b .2, rw least-saved at (b .3))
-
-      back : (m : ℕ) × (q : Place) × Reads file 0 edition p × Reads file p m q × ((m < 2) ⊎ (longestWord < m))
-          → loadSays file R T .answer ≡ refusedAt 8 p
-      back a = ap (λ o. o .answer) (bad-length-one R T file (a .2) (a .3) (rw least-saved (a .4)))
+  eight-exactly p = (
+    λ e.
+        let f = load-fault file R T e in
+        let b = length-at-fault (f .1) refl in
+        (b .0, f .0, b .1, b .2, rw least-saved at (b .3)),
+    λ a. ap (λ o. o .answer) (bad-length-one R T file (a .2) (a .3) (rw least-saved (a .4))),
+  )
 
 -- ── 'so 01 01 61 00 is refused.' ───────────────────────────────────────────
 
--- this file is computed in `examples`; so is what would be the file of any word of one letter
+-- that one is computed in `examples`; here what would be the file of any word of one letter
 module _ (word : Word) (one : length word ≡ 1) (R T : List ℕ) where
   pub one-letter-refused : loadSays (spell word) R T ≡ Load.outcome (refusedAt 8 1) R T
   unfolding spell body
@@ -152,13 +147,10 @@ module _ (word : Word) (one : length word ≡ 1) (text : Word) (T : List ℕ) (F
 -- ── 'Demand 3's set of files starts at length 2,' ──────────────────────────
 
 pub set-of-files : (s : List ℕ) → Saved s ↔ ((w : Word) × Bytes w × (2 ≤ length w) × (length w ≤ longestWord) × (s ≡ spell w))
-set-of-files s = (there, back)
-  where
-    there : Saved s → (w : Word) × Bytes w × (2 ≤ length w) × (length w ≤ longestWord) × (s ≡ spell w)
-    there f = (f .word, f .savable .bytes, rw least-saved at (f .savable .least), f .savable .most, f .file)
-
-    back : (w : Word) × Bytes w × (2 ≤ length w) × (length w ≤ longestWord) × (s ≡ spell w) → Saved s
-    back a = record { word = a .0; savable = record { bytes = a .1; least = rw least-saved (a .2); most = a .3 }; file = a .4 }
+set-of-files s = (
+  λ f. (f .word, f .savable .bytes, rw least-saved at (f .savable .least), f .savable .most, f .file),
+  λ a. record { word = a .0; savable = record { bytes = a .1; least = rw least-saved (a .2); most = a .3 }; file = a .4 },
+)
 
 -- what would be the file of a word of one letter is in it under no other word either
 pub no-file : (word : Word) → length word ≡ 1 → Saved (spell word) → ⊥
