@@ -17,7 +17,12 @@
      slip 117: past the worked examples, turbo lists its first find one place late on both sides
      slip 118: past the worked examples, turbo clears the first entry of the tables on both sides
      slip 119: past the worked examples, turbo reads 2n+1 letters on both sides
-     slip 120: where turbo is not held against the library's search, it has one find fewer on both sides */
+     slip 120: where turbo is not held against the library's search, it has one find fewer on both sides
+     slip 140: past the worked examples, both sides refuse to save one letter with 3
+     slip 141: past the worked examples, both sides refuse to save two letters with 17
+     slip 142: past the worked examples, 17 changes the tables on both sides
+     slip 143: past the worked examples, both sides load a file of one letter
+     slip 144: past the worked examples, both sides refuse a file of one letter with 3 */
 #define _DEFAULT_SOURCE
 #include "entries.h"
 
@@ -64,18 +69,6 @@ static size_t some_length(size_t most)
 
 /* ---- where a file is broken, found without the second implementation's reading: by the file of the word that it shows ---- */
 
-/* the file of a word, by the second implementation; its length */
-static size_t file_of(const uint8_t *word, size_t m, uint8_t *file)
-{
-    static uint16_t tables[6 * (MOST_LETTERS + 1)];
-    uint64_t length;
-    if (second_save(word, m, tables, sizeof tables / sizeof *tables, file, MOST_FILE, &length) != 0) {
-        fprintf(stderr, "compare: no file of a word of %zu letters\n", m);
-        exit(2);
-    }
-    return length;
-}
-
 /* where the number at a place ends, or the file */
 static size_t behind_number(const uint8_t *file, size_t len, size_t at)
 {
@@ -88,6 +81,19 @@ static size_t behind_number(const uint8_t *file, size_t len, size_t at)
 static size_t small_number(const uint8_t *file, size_t at)
 {
     return file[at] < 128 ? file[at] : file[at] % 128 + (size_t)128 * file[at + 1];
+}
+
+/* whether a file of edition 1 declares fewer letters than any file has */
+static bool declares_too_few(const uint8_t *file, size_t len)
+{
+    return len > 1 && file[0] == 1 && file[1] < LEAST_SAVED;
+}
+
+/* whether a file of edition 1 declares more letters than a word has: in three groups or more it always does */
+static bool declares_too_many(const uint8_t *file, size_t len)
+{
+    size_t groups = behind_number(file, len, 1) - 1;
+    return len > 1 && file[0] == 1 && (groups > 2 || small_number(file, 1) > MOST_LETTERS);
 }
 
 /* whether no number has the byte at its place: zero behind a group, or above 15 behind four */
@@ -133,8 +139,8 @@ static bool breaks_at(const uint8_t *file, size_t len, uint32_t number, size_t o
     case 5: return offset == len;
     case 6: return is_no_group(file, offset);
     case 7: return offset == 0 && file[0] != 1;
-    case 8: return offset == 1 && file[0] == 1;
-    default: return offset == broken_at(file, len, number);
+    case 8: return offset == 1 && (declares_too_few(file, len) || declares_too_many(file, len));
+    default: return !declares_too_few(file, len) && !declares_too_many(file, len) && offset == broken_at(file, len, number);
     }
 }
 
@@ -164,6 +170,7 @@ static struct zone zones[SLICES];
 static uint8_t noise[NOISE];
 static uint64_t seen[ENTRIES][NUMBERS];
 static uint64_t cases;
+static bool past_examples;
 
 static uint8_t *reserve(uint8_t *old, size_t bytes)
 {
@@ -252,7 +259,7 @@ static size_t first_other(const uint8_t *a, const uint8_t *b, size_t bytes)
 }
 
 /* says what is wrong with a slice after an answer, or nothing */
-static bool slice_differs(enum entry entry, int s, uint32_t number, char *what, size_t room)
+static bool slice_differs(int s, uint32_t number, char *what, size_t room)
 {
     const struct zone *z = &zones[s];
     size_t all = z->at + z->bytes + GUARD, width = slice_width[s];
@@ -262,7 +269,7 @@ static bool slice_differs(enum entry entry, int s, uint32_t number, char *what, 
                  z->bytes, z->marks[i], z->second[i], z->was[i]);
         return true;
     }
-    size_t behind = z->at + may_write(entry, s, z->bytes / width, number) * width;
+    size_t behind = z->at + may_write(s, z->bytes / width, number) * width;
     i = first_other(z->marks, z->was, z->at);
     if (i == z->at)
         i = behind + first_other(z->marks + behind, z->was + behind, all - behind);
@@ -300,7 +307,7 @@ static bool also_searched(const struct asked *a)
 static void slip_turbo(const struct asked *a, struct outcome *m, struct outcome *s)
 {
     const struct zone *list = &zones[FINDS], *tables = &zones[TABLES];
-    bool finds = m->number == 0 && m->answer[0] > 0, past_examples = cases > 1000;
+    bool finds = m->number == 0 && m->answer[0] > 0;
     if (finds && ((SLIP == 116 && past_examples) || (SLIP == 120 && !also_searched(a))))
         s->answer[0] = --m->answer[0];
     if (SLIP == 117 && past_examples && finds && list->bytes > 0)
@@ -311,10 +318,36 @@ static void slip_turbo(const struct asked *a, struct outcome *m, struct outcome 
         m->answer[1] = s->answer[1] = 2 * (uint64_t)a->len[TEXT] + 1;
 }
 
+/* the same number on both sides in the place of their own, with no offset; the answer of success */
+static void say_both(uint32_t number, uint64_t answer, struct outcome *m, struct outcome *s)
+{
+    m->number = s->number = number;
+    m->offset = s->offset = UNTOUCHED;
+    if (number == 0)
+        m->answer[0] = s->answer[0] = answer;
+}
+
+static void slip_one_letter(const struct asked *a, struct outcome *m, struct outcome *s)
+{
+    const struct zone *tables = &zones[TABLES];
+    size_t len = a->len[INPUT];
+    bool file_of_one = a->entry == LOAD && len == 4 && memcmp(a->input, "\1\1", 2) == 0;
+    if (SLIP == 140 && m->number == 17)
+        say_both(3, 0, m, s);
+    if (SLIP == 141 && a->entry == SAVE && len == 2 && m->number == 3)
+        say_both(17, 0, m, s);
+    if (SLIP == 142 && m->number == 17 && tables->bytes > 0)
+        tables->second[tables->at] = ++tables->marks[tables->at];
+    if (SLIP == 143 && file_of_one)
+        say_both(0, 1, m, s);
+    if (SLIP == 144 && file_of_one)
+        say_both(3, 0, m, s);
+}
+
 /* the mistakes of this file that happen after the call */
 static void slip_after(enum entry entry, struct outcome *m, struct outcome *s)
 {
-    bool streams = entry == OPEN || entry == TAKE, past_examples = cases > 1000;
+    bool streams = entry == OPEN || entry == TAKE;
     size_t behind = zones[SEARCHER].at + SEARCHER_BYTES;
     if (SLIP == 32 && (lent_slices[entry] & 1 << TABLES))
         zones[TABLES].marks[zones[TABLES].at + zones[TABLES].bytes] ^= 1;
@@ -382,16 +415,20 @@ static struct outcome compare(const struct asked *a)
     slip_after(a->entry, &m, &s);
     if (a->entry == TURBO)
         slip_turbo(a, &m, &s);
+    if (past_examples)
+        slip_one_letter(a, &m, &s);
     if (!same_outcome(&m, &s))
         fail(a, "the number, the answers or the offset", &m, &s);
     for (int i = 0; i < SLICES; i++)
-        if ((lent_slices[a->entry] & 1u << i) && !(a->inside && i == INPUT) && slice_differs(a->entry, i, m.number, what, sizeof what))
+        if ((lent_slices[a->entry] & 1u << i) && !(a->inside && i == INPUT) && slice_differs(i, m.number, what, sizeof what))
             fail(a, what, &m, &s);
     const char *wrong = wrong_in_itself(a->entry, &m, a->len);
     if (wrong != NULL)
         fail(a, wrong, &m, &s);
     if (has_offset(m.number) && !breaks_at(a->input, a->len[INPUT], m.number, m.offset))
         fail(a, "both sides show the file broken where it is not", &m, &s);
+    if (reads_file(a->entry) && declares_too_few(a->input, a->len[INPUT]) && m.number != 8 && m.number != 4)
+        fail(a, "both sides give another refusal than 8, or none, where a file declares fewer letters than any has", &m, &s);
     if (a->entry == TURBO)
         check_turbo(a, &for_second, &m);
     seen[a->entry][m.number]++;
@@ -525,6 +562,14 @@ static struct asked ask(enum entry entry, const uint8_t *input, size_t input_len
     return a;
 }
 
+/* no room, one short, exactly enough, more */
+static const size_t room_choices = 4;
+
+static size_t room_choice(size_t need, size_t choice)
+{
+    return choice == 0 ? 0 : choice == 1 ? (need > 0 ? need - 1 : 0) : choice == 2 ? need : need + 1 + (below(2) ? 0 : below(40));
+}
+
 static struct outcome run_search(enum entry entry, const uint8_t *input, size_t input_len, size_t m, const uint8_t *text, size_t text_len,
                                  size_t list)
 {
@@ -582,7 +627,7 @@ static void set_taken(uint8_t *searcher, uint64_t taken)
         searcher[AT_TAKEN + i] = (uint8_t)(taken >> (8 * i));
 }
 
-/* build, save, load back */
+/* build, save, load back; the last two are refused where it is one letter */
 static size_t there_and_back(const uint8_t *word, size_t m, uint8_t *file)
 {
     size_t size = file_of(word, m, file);
@@ -719,6 +764,54 @@ static void example_arrows(const char *word, const uint16_t *pairs, size_t arrow
         expect(t[n + i] == supplies[i - 1], word);
 }
 
+/* saving so many a's, with every choice of tables and output: a refusal before the rooms, or else what the rooms say */
+static void example_saving(size_t m, uint32_t before_rooms)
+{
+    static uint8_t word[MOST_LETTERS + 1];
+    memset(word, 'a', sizeof word);
+    for (size_t c = 0; c < room_choices * room_choices; c++) {
+        size_t tables = c % room_choices, out = c / room_choices;
+        bool short_tables = tables < 2, short_out = out < 2;
+        struct asked a = ask(SAVE, word, m, m);
+        a.len[TABLES] = room_choice(entries(m), tables);
+        a.len[OUT] = room_choice(m + 3, out);
+        a.nulls = below(2);
+        struct outcome o = compare(&a);
+        expect(o.number == (before_rooms != 0 ? before_rooms : short_tables ? 3 : short_out ? 12 : 0), "saving a's in every room");
+        expect(o.number != 0 || o.answer[0] == m + 3, "saving a's in every room");
+    }
+}
+
+/* loading, and searching with, a file that is refused whatever word room and tables are lent */
+static void example_in_every_room(const uint8_t *file, size_t len, size_t m, uint32_t number, uint64_t offset)
+{
+    for (size_t c = 0; c < 2 * room_choices * room_choices; c++) {
+        struct asked a = ask(c % 2 ? LOAD : SEARCH_FILE, file, len, m);
+        a.len[TABLES] = room_choice(entries(m), c / 2 % room_choices);
+        a.len[ROOM] = room_choice(m, c / 2 / room_choices);
+        a.nulls = below(2);
+        struct outcome o = compare(&a);
+        expect(o.number == number && o.offset == offset, "a file that is refused in every room");
+    }
+}
+
+/* One letter has no file, whichever it is. Twice the same letter has the least one. */
+static void examples_of_least_files(void)
+{
+    for (unsigned letter = 0; letter < 256; letter++) {
+        const uint8_t one[] = {1, 1, (uint8_t)letter, 0, 0}, two[] = {1, 2, (uint8_t)letter, (uint8_t)letter, 0};
+        for (size_t len = 2; len <= sizeof one; len++)
+            example_in_every_room(one, len, 1, 8, 1);
+        struct outcome saved = run_save(two + 2, 2, sizeof two);
+        expect(saved.number == 0 && memcmp(zones[OUT].marks + zones[OUT].at, two, sizeof two) == 0, "saving twice the same letter");
+        example_loading(two, sizeof two, 2, 0, UNTOUCHED, "the file of twice the same letter");
+    }
+    example_saving(0, 1);
+    example_saving(1, 17);
+    example_saving(2, 0);
+    example_saving(MOST_LETTERS + 1, 2);
+}
+
 /* a file: its first bytes, so many letters, each an a, and the bytes behind */
 static void example_long(const char *front, size_t letters, const char *behind, size_t m, uint32_t number, uint64_t offset)
 {
@@ -780,6 +873,7 @@ static void examples_refused(void)
 {
     example_refused("", 5, 0);
     example_refused("01 00", 8, 1);
+    example_refused("01 01 61 00", 8, 1);
     example_refused("01 FF FF FF FF 0F", 8, 1);
     example_refused("01 83 00 61 61 61 00", 6, 2);
     example_refused("01 03 61 61 61 03", 9, 5);
@@ -803,6 +897,13 @@ static void examples_of_fronts(void)
     example_refused("01 80 80 80 80", 5, 5);
     example_refused("01 80 80 80 80 00", 6, 5);
     example_refused("01 FF FF FF FF 8F 00", 6, 5);
+    example_refused("01 01", 8, 1);
+    example_refused("01 01 61 01 00 00", 8, 1);
+    example_refused("01 01 61 80 00", 8, 1);
+    example_refused("01 81 00 61 00", 6, 2);
+    example_refused("02 01 61 00", 7, 0);
+    example_refused("01 02", 5, 2);
+    example_refused("01 02 61", 5, 3);
     example_refused("01 03", 5, 2);
     example_refused("01 03 61 61", 5, 4);
 }
@@ -819,6 +920,11 @@ static void example_behind(const char *behind, uint32_t number, uint64_t offset)
 
 static void examples_of_arrows(void)
 {
+    example_refused("01 02 61 61", 5, 4);
+    example_refused("01 02 61 61 02", 9, 4);
+    example_refused("01 02 61 61 01", 5, 5);
+    example_refused("01 02 61 61 01 00 00", 10, 5);
+    example_refused("01 02 61 61 00 00", 11, 5);
     example_behind("84", 5, 10);
     example_behind("84 00 00 00", 6, 10);
     example_behind("07 00 00", 9, 9);
@@ -869,6 +975,7 @@ static void examples_of_loading(void)
     examples_of_arrows();
     example_last_arrow();
     examples_at_the_limit();
+    examples_of_least_files();
 }
 
 /* a stream whose pieces are parted by bars: the finds of all of them, and how many letters are kept at the end */
@@ -957,11 +1064,18 @@ static void examples_of_turbo(void)
     example_turbo("abc", "ab", 0, (const uint32_t[]){0}, 0);
 }
 
+/* by the word alone, as one letter has no file */
+static void example_search_one_letter(void)
+{
+    static const uint8_t text[] = "aba";
+    expect_finds(run_search(SEARCH, text, 1, 1, text, 3, 2), "a", 2, (const uint32_t[]){0, 2}, 3);
+}
+
 static void examples(void)
 {
     static const uint16_t first[] = {0, 2, 1, 6, 2, 5, 3, 5}, supplies[] = {0, 0, 2, 3, 1, 1, 2};
     static const uint16_t other[] = {0, 2, 0, 3, 0, 6, 0, 9, 1, 5, 3, 6, 3, 9, 5, 9};
-    example_file("a", "01 01 61 00");
+    example_file("aa", "01 02 61 61 00");
     example_file("aaa", "01 03 61 61 61 00");
     example_file("ab", "01 02 61 62 01 00 00");
     example_file("abbbaab", "01 07 61 62 62 62 61 61 62 04 00 00 01 03 01 01 01 00");
@@ -969,6 +1083,7 @@ static void examples(void)
     example_arrows("aaa", NULL, 0, NULL);
     example_arrows("abbbaab", first, 4, supplies);
     example_arrows("abcacdace", other, 8, NULL);
+    example_search_one_letter();
     example_search("aa", "aaaa", 3, (const uint32_t[]){0, 1, 2}, 6);
     example_search("ab", "aab", 1, (const uint32_t[]){1}, 4);
     example_search("aba", "ababa", 2, (const uint32_t[]){0, 2}, 6);
@@ -1687,7 +1802,9 @@ static void short_lists(void)
     lists_of("a", "");
     lists_of("a", "a");
     lists_of("a", "b");
+    lists_of("aa", "");
     lists_of("aa", "a");
+    lists_of("aa", "bb");
     lists_of("abc", "ab");
     lists_of("abc", "abc");
     lists_of("a", "aaaaa");
@@ -1702,7 +1819,7 @@ static void short_lists(void)
     every_list((const uint8_t *)"\xFF\0\xFF", 3, (const uint8_t *)"\0\xFF\0\xFF\0\xFF", 6);
 }
 
-/* long words: where the text begins, inside it, all of it, more than it; and the text's last letter */
+/* long words: where the text begins, inside it, all of it, more than it; and the text's last letter and last two */
 static void long_lists(size_t m)
 {
     static uint8_t text[2 * MOST_LETTERS + 100];
@@ -1715,6 +1832,7 @@ static void long_lists(size_t m)
         every_list(text, m, text, m);
         every_list(text, m, text, m - 1);
         every_list(text + n - 1, 1, text, n);
+        every_list(text + n - 2, 2, text, n);
     }
 }
 
@@ -1727,13 +1845,6 @@ static void lists(void)
 }
 
 /* ---- rooms: one short, exact, one long, for every buffer; every refusal with what stands in them before ---- */
-
-static const size_t room_choices = 4;
-
-static size_t room_choice(size_t need, size_t choice)
-{
-    return choice == 0 ? 0 : choice == 1 ? (need > 0 ? need - 1 : 0) : choice == 2 ? need : need + 1 + (below(2) ? 0 : below(40));
-}
 
 enum { PAST_16_BITS = 65536, LONGEST_TRIED = PAST_16_BITS + MOST_LETTERS };
 
@@ -1968,7 +2079,7 @@ static void damage_longer(const uint8_t *word, size_t m)
 
 static void damaged_files(void)
 {
-    static const char *const short_ones[] = {"a", "ab", "aaa", "abbbaab", "abcacdace"};
+    static const char *const short_ones[] = {"a", "aa", "ab", "aaa", "abbbaab", "abcacdace"};
     static const struct {
         size_t m, letter_in, byte_in;
     } longer[] = {{12, 1, 1},
@@ -1995,10 +2106,27 @@ static void damaged_files(void)
     }
 }
 
+/* Every file of up to 5 bytes over a few values. Only the least files are taken: twice the same letter, and no arrow. */
+static void least_files(void)
+{
+    static const uint8_t bytes[] = {0, 1, 2, 3, 'a', 0x80, 0x81, 0xFF}, text[] = "\1\1aaa\3\3";
+    uint8_t file[LEAST_FILE];
+    for (size_t len = 0, many = 1; len <= sizeof file; len++, many *= sizeof bytes)
+        for (size_t number = 0; number < many; number++) {
+            for (size_t i = 0, rest = number; i < len; i++, rest /= sizeof bytes)
+                file[i] = bytes[rest % sizeof bytes];
+            bool least = len == sizeof file && file[0] == 1 && file[1] == 2 && file[2] == file[3] && file[4] == 0;
+            size_t m = LEAST_SAVED + below(2), list = below(3);
+            struct outcome loaded = run_plain(LOAD, file, len, m);
+            struct outcome sought = run_search(SEARCH_FILE, file, len, m, text, sizeof text - 1, list);
+            expect((loaded.number == 0) == least && (sought.number == 0) == least, "a file of up to 5 bytes");
+        }
+}
+
 static void random_file(void)
 {
     static uint8_t file[200];
-    size_t len = some_length(199), kept = 0, m = 1 + some_length(20);
+    size_t len = some_length(199), kept = 0, least = below(8) ? LEAST_SAVED : 1, m = least + some_length(20);
     for (size_t i = 0; i < len; i++)
         file[i] = below(2) ? (uint8_t)chance() : (uint8_t)below(4);
     if (below(8) != 0)
@@ -2025,8 +2153,8 @@ static void random_files(void)
 static void texts_at_the_limit(void)
 {
     static const uint8_t word[] = {7, 1, 1, 7, 1, 7, 7, 1, 7, 1, 1, 1};
-    uint8_t mirrored[sizeof word], file[MOST_FILE], *text = reserve(NULL, MOST_TEXT + 1);
-    size_t m = sizeof word;
+    uint8_t mirrored[sizeof word], file[MOST_FILE], one_letter[4], *text = reserve(NULL, MOST_TEXT + 1);
+    size_t m = sizeof word, one_size = file_of(word, 1, one_letter);
     mirror(word, m, mirrored);
     size_t size = file_of(mirrored, m, file);
     for (size_t i = 0; i < MOST_TEXT + 1; i++)
@@ -2043,6 +2171,7 @@ static void texts_at_the_limit(void)
         run_search(SEARCH_FILE, file, size, m, text, MOST_TEXT + past, 10000);
         run_search(SEARCH_FILE, file, size - 1, m, text, MOST_TEXT + past, 10);
         run_search(SEARCH_FILE, file, size, m - 1, text, MOST_TEXT + past, 10);
+        run_search(SEARCH_FILE, one_letter, one_size, 1, text, MOST_TEXT + past, 10);
     }
     each_search(text + MOST_TEXT - 1025, 1025, text, MOST_TEXT);
     each_search(text + MOST_TEXT - MOST_LETTERS, MOST_LETTERS, text, MOST_TEXT);
@@ -2125,22 +2254,22 @@ static void vast_slices(void)
     for (int entry = 0; entry < ENTRIES; entry++)
         for (int s = 0; s < SLICES; s++)
             if (lent_slices[entry] & 1u << s) {
-                bool from_file = entry == LOAD || entry == SEARCH_FILE;
+                bool from_file = reads_file((enum entry)entry);
                 vast_slice((enum entry)entry, s, from_file ? file : word, from_file ? size : m, m);
             }
 }
 
 /* ---- null pointers with length 0 ---- */
 
-static void null_pointers(void)
+static void nulls_around(const uint8_t *word, size_t m)
 {
     uint8_t file[MOST_FILE], searcher[SEARCHER_BYTES];
-    const uint8_t *word = (const uint8_t *)"abbbaab", *text = (const uint8_t *)"babbbaabbbaab";
-    size_t m = 7, size = file_of(word, m, file);
+    const uint8_t *text = (const uint8_t *)"babbbaabbbaab";
+    size_t size = file_of(word, m, file);
     second_open(word, m, searcher, sizeof searcher);
     for (int entry = 0; entry < ENTRIES; entry++)
         for (unsigned empty = 0; empty < 1u << SLICES; empty++) {
-            bool from_file = entry == LOAD || entry == SEARCH_FILE;
+            bool from_file = reads_file((enum entry)entry);
             struct asked a = ask((enum entry)entry, from_file ? file : word, from_file ? size : m, m);
             a.text = text;
             a.searcher = entry == TAKE ? searcher : NULL;
@@ -2153,6 +2282,12 @@ static void null_pointers(void)
                     a.len[s] = 0;
             compare(&a);
         }
+}
+
+static void null_pointers(void)
+{
+    nulls_around((const uint8_t *)"abbbaab", 7);
+    nulls_around((const uint8_t *)"a", 1);
 }
 
 /* ---- everything mixed ---- */
@@ -2178,13 +2313,14 @@ static size_t damage_some(uint8_t *file, size_t len)
     return below(10) == 0 ? below(len + 1) : len;
 }
 
-/* mostly short, sometimes long, now and then at the limit or around a power of two */
-static size_t some_word_length(void)
+/* mostly short, sometimes long, now and then at the limit or around a power of two; for a file seldom one letter, which has none */
+static size_t some_word_length(bool for_file)
 {
     static const size_t edges[] = {127, 128, LONG_EDGES};
     if (below(2000) == 0)
         return edges[below(sizeof edges / sizeof *edges)];
-    return 1 + some_length(below(40) ? 200 : below(2) ? 1023 : MOST_LETTERS - 1);
+    size_t m = 1 + some_length(below(40) ? 200 : below(2) ? 1023 : MOST_LETTERS - 1);
+    return m == 1 && for_file && below(8) ? LEAST_SAVED : m;
 }
 
 /* one or two bytes changed, mostly by little */
@@ -2230,16 +2366,17 @@ static void mixed_case(void)
 {
     static uint8_t word[MOST_LETTERS + 8], mirrored[MOST_LETTERS], file[MOST_FILE], text[4 * MOST_LETTERS];
     static const unsigned alphabets[] = {2, 2, 3, 4, 256};
-    size_t m = some_word_length(), n = some_length(below(8) ? 600 : sizeof text);
+    enum entry entry = (enum entry)below(OPEN); /* the entries over whole texts */
+    bool for_file = entry == SAVE || reads_file(entry);
+    size_t m = some_word_length(for_file), n = some_length(below(8) ? 600 : sizeof text);
     if (m > 600 && below(2))
         n = m + some_length(sizeof text - m);
-    enum entry entry = (enum entry)below(OPEN); /* the entries over whole texts */
     choose_palette(alphabets[below(5)]);
     make_word(word, m, (enum kind)below(KINDS));
     mirror(word, m, mirrored);
     make_text(text, n, entry == SEARCH_FILE ? mirrored : word, m, (unsigned)below(1000));
     struct asked a = ask(entry, word, m, m);
-    size_t size = entry == SAVE || entry == LOAD || entry == SEARCH_FILE ? file_of(word, m, file) : 0;
+    size_t size = for_file ? file_of(word, m, file) : 0;
     a.text = text;
     a.len[TEXT] = n;
     a.len[TABLES] = some_room(entries(m));
@@ -2250,7 +2387,7 @@ static void mixed_case(void)
     a.inside = (entry == SEARCH || entry == TURBO) && m <= n && below(20) == 0;
     if (a.inside)
         a.input = text;
-    if (entry == LOAD || entry == SEARCH_FILE) {
+    if (reads_file(entry)) {
         a.input = file;
         a.len[INPUT] = damage_some(file, size);
     }
@@ -2346,6 +2483,7 @@ static void all_parts(bool costly)
     part("the worked examples", examples);
     if (SLIP == 31)
         return;
+    past_examples = true;
     part("every word of 1 to 8 letters over 3: build, save, load back, search", short_words);
     part("every word of 1 to 6 letters over 2 in every text of up to 10: both searches", short_texts);
     part("every word of 1 to 7 letters over 2 in every text of up to 12: turbo", short_texts_turbo);
@@ -2361,6 +2499,7 @@ static void all_parts(bool costly)
     part("null pointers with length 0", null_pointers);
     part("rooms too short, exact and too long; words empty and too long", rooms);
     part("damaged files", damaged_files);
+    part("every file of up to 5 bytes over 8 values", least_files);
     part("files of random bytes", random_files);
     part("words of 9 letters to the most, of each kind over 2, 4 and 256 letters", longer_words);
     part("lists of finds too short, exact and too long", lists);

@@ -9,6 +9,7 @@
 #include <inttypes.h>
 #include <stdbool.h>
 #include <stdio.h>
+#include <stdlib.h>
 #include <string.h>
 
 enum entry { BUILD, SAVE, LOAD, SEARCH, TURBO, SEARCH_FILE, OPEN, TAKE, ENTRIES };
@@ -36,20 +37,23 @@ static const unsigned lent_slices[ENTRIES] = {
 static const unsigned read_slices = 1 << INPUT | 1 << TEXT;
 
 /* the refusals that an entry can give, 0 (success) among them: bit n for the number n, which is below NUMBERS */
-enum { NUMBERS = 17 };
+enum { NUMBERS = 18 };
 
 static const unsigned can_give[ENTRIES] = {
-    1 << 0 | 1 << 1 | 1 << 2 | 1 << 3,          1 << 0 | 1 << 1 | 1 << 2 | 1 << 3 | 1 << 12,
+    1 << 0 | 1 << 1 | 1 << 2 | 1 << 3,          1 << 0 | 1 << 1 | 1 << 2 | 1 << 3 | 1 << 12 | 1 << 17,
     1 << 0 | 1 << 3 | 0xFE0,                    1 << 0 | 1 << 1 | 1 << 2 | 1 << 3 | 1 << 4,
     1 << 0 | 1 << 1 | 1 << 2 | 1 << 3 | 1 << 4, 1 << 0 | 1 << 3 | 1 << 4 | 0xFE0,
     1 << 0 | 1 << 1 | 1 << 2 | 1 << 3,          1 << 0 | 1 << 4 | 1 << 16,
 };
 
+/* the refusals that change nothing, whichever entry gives them: they come before the rooms or are the rooms' own */
+static const unsigned changes_nothing = 1 << 1 | 1 << 2 | 1 << 3 | 1 << 4 | 1 << 7 | 1 << 8 | 1 << 16 | 1 << 17;
+
 /* How many of the elements that a slice is lent an entry may write when it answers with the number: none of an input, those of the
-   searcher itself and no byte behind it, and nothing where a stream is refused. */
-static size_t may_write(enum entry entry, int slice, size_t len, uint32_t number)
+   searcher itself and no byte behind it, and none beside a refusal that changes nothing. */
+static size_t may_write(int slice, size_t len, uint32_t number)
 {
-    if ((read_slices & 1u << slice) || ((entry == OPEN || entry == TAKE) && number != 0))
+    if ((read_slices & 1u << slice) || (changes_nothing & 1u << number))
         return 0;
     return slice == SEARCHER && len > SEARCHER_BYTES ? SEARCHER_BYTES : len;
 }
@@ -98,6 +102,17 @@ static bool offset_can_be(uint32_t number, uint64_t offset, size_t file_len)
     return number == 5 ? offset == file_len : offset < file_len || (number == 10 && offset == file_len);
 }
 
+static bool reads_file(enum entry entry)
+{
+    return entry == LOAD || entry == SEARCH_FILE;
+}
+
+/* whether what an entry took or wrote, where it answers with success, is too short to be a file */
+static bool too_short_a_file(enum entry entry, const struct outcome *o, const size_t *len)
+{
+    return (reads_file(entry) && len[INPUT] < LEAST_FILE) || (entry == SAVE && o->answer[0] < LEAST_FILE);
+}
+
 /* what an outcome cannot be, whatever the other side says; NULL where it can be. Slices of so many elements were lent. */
 static const char *wrong_in_itself(enum entry entry, const struct outcome *o, const size_t *len)
 {
@@ -109,6 +124,10 @@ static const char *wrong_in_itself(enum entry entry, const struct outcome *o, co
         return "both sides write an offset where there is none, or none where there is one";
     if (has_offset(o->number) && !offset_can_be(o->number, o->offset, len[INPUT]))
         return "both sides give an offset that the refusal cannot have";
+    if ((o->number == 17) != (entry == SAVE && len[INPUT] == 1))
+        return "both sides give 17 where no single letter is saved, or something else where one is";
+    if (o->number == 0 && too_short_a_file(entry, o, len))
+        return "both sides take or write a file that is shorter than any";
     if (entry == TURBO && o->number == 0 && o->answer[1] > 2 * (uint64_t)len[TEXT])
         return "both sides read more than two letters for each of the text";
     return NULL;
@@ -159,5 +178,22 @@ static bool lists_places(const struct lent *l, uint64_t count)
 
 ASK(marks)
 ASK(second)
+
+/* The file of a word, by the second implementation; its length. One letter has none: it is spelled as if it had, to be refused. */
+static size_t file_of(const uint8_t *word, size_t m, uint8_t *file)
+{
+    static uint16_t tables[6 * (MOST_LETTERS + 1)];
+    uint64_t length;
+    if (m == 1) {
+        const uint8_t spelled[] = {1, 1, word[0], 0};
+        memcpy(file, spelled, sizeof spelled);
+        return sizeof spelled;
+    }
+    if (second_save(word, m, tables, sizeof tables / sizeof *tables, file, MOST_FILE, &length) != 0) {
+        fprintf(stderr, "no file of a word of %zu letters\n", m);
+        exit(2);
+    }
+    return length;
+}
 
 #endif

@@ -139,7 +139,7 @@ static void check_slice(const struct asked *a, int s, const struct lent *second,
     size_t bytes = a->len[s] * slice_width[s], from, to;
     if (memcmp(region[s].write + region[s].at, second->at[s], bytes) != 0)
         stop(a, "left otherwise: ", s, m, o);
-    for (size_t i = may_write(a->entry, s, a->len[s], m->number) * slice_width[s]; i < bytes; i++)
+    for (size_t i = may_write(s, a->len[s], m->number) * slice_width[s]; i < bytes; i++)
         if (region[s].write[region[s].at + i] != before(a, s, i))
             stop(a, "written where that may not be: ", s, m, o);
     beside(s, bytes, &from, &to);
@@ -215,14 +215,6 @@ static size_t declared(const uint8_t *file, size_t len)
     if (len > 2 && file[1] >= 128)
         m += (size_t)(file[2] % 128) * 128;
     return m <= MOST_LETTERS + 1 ? m : 3;
-}
-
-static size_t file_of(const uint8_t *word, size_t m, uint8_t *file)
-{
-    static uint16_t tables[6 * (MOST_LETTERS + 1)];
-    uint64_t length = 0;
-    second_save(word, m, tables, sizeof tables / sizeof *tables, file, MOST_FILE, &length);
-    return length;
 }
 
 /* the changes: how many, then for each what is done, where (two bytes), and a value; says how many bytes they took */

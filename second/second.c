@@ -109,8 +109,27 @@
      slip 113: turbo answers beside 4
      slip 114: turbo takes one beginning too short, where h is looked for
      slip 115: turbo falls to one border only, where h is carried
-   slip 31, slip 32, slip 67, slip 68, slip 69, slip 84, slip 85 and slip 116 to slip 120 stand in compare.c, slip 33, slip 34 and slip 70 in
-   fuzz.c. */
+     slip 121: saving takes one letter
+     slip 122: saving judges 3 before 17
+     slip 123: saving judges 17 last, after 12
+     slip 124: saving refuses one letter with 8
+     slip 125: saving refuses the empty word with 17
+     slip 126: saving refuses two letters with 17
+     slip 127: 17 clears the tables
+     slip 128: 17 touches the output
+     slip 129: build refuses one letter with 17
+     slip 130: search refuses one letter with 17
+     slip 131: turbo refuses one letter with 17
+     slip 132: opening refuses one letter with 17
+     slip 133: a file of one letter is loaded
+     slip 134: searching with a file takes one letter
+     slip 135: a file of two letters is refused with 8
+     slip 136: a declared length of 1 is judged after the letters
+     slip 137: a declared length of 1 is judged after the rooms
+     slip 138: a declared length of 1 clears the word room
+     slip 139: searching with a file judges a declared length of 1 before the text
+   slip 31, slip 32, slip 67, slip 68, slip 69, slip 84, slip 85, slip 116 to slip 120 and slip 140 to slip 144 stand in compare.c, slip 33,
+   slip 34 and slip 70 in fuzz.c. */
 #include "second.h"
 
 #include <stdbool.h>
@@ -320,7 +339,8 @@ static uint32_t read_front(const uint8_t *file, size_t file_len, size_t room_len
     size_t length_at = *at;
     if ((no = read_number(file, file_len, at, &number, offset)) != 0)
         return no;
-    if (number < 1 || number > MOST_LETTERS - (SLIP == 26))
+    bool too_few = number < LEAST_SAVED + (SLIP == 135), judged_later = number == 1 && (SLIP == 133 || SLIP == 136 || SLIP == 137);
+    if ((too_few && !judged_later) || number > MOST_LETTERS - (SLIP == 26))
         return shows(8, SLIP == 72 ? *at : length_at, offset);
     *m = number;
     bool short_room = tables_len < entries(*m) || room_len < *m;
@@ -328,8 +348,12 @@ static uint32_t read_front(const uint8_t *file, size_t file_len, size_t room_len
         return 3;
     if (file_len - *at < *m)
         return shows(5, SLIP == 77 ? *at : file_len, offset);
+    if (SLIP == 136 && too_few)
+        return shows(8, length_at, offset);
     if (short_room)
         return SLIP == 80 ? shows(3, 0, offset) : 3;
+    if (SLIP == 137 && too_few)
+        return shows(8, length_at, offset);
     *at += *m;
     return 0;
 }
@@ -664,6 +688,8 @@ uint32_t second_build(const uint8_t *word, size_t word_len, uint16_t *tables, si
         return 1;
     if (word_len > MOST_LETTERS + (SLIP == 11))
         return 2;
+    if (SLIP == 129 && word_len < LEAST_SAVED)
+        return 17;
     if (tables_len < entries(word_len))
         return 3;
     make_oracle(word, word_len);
@@ -674,16 +700,33 @@ uint32_t second_build(const uint8_t *word, size_t word_len, uint16_t *tables, si
     return 0;
 }
 
+/* the refusals of saving that come before the rooms */
+static uint32_t refuse_saving(size_t word_len)
+{
+    if (word_len == 0)
+        return SLIP == 125 ? 17 : 1;
+    if (word_len > MOST_LETTERS)
+        return 2;
+    if (word_len < LEAST_SAVED + (SLIP == 126) && SLIP != 121)
+        return SLIP == 124 ? 8 : 17;
+    return 0;
+}
+
 uint32_t second_save(const uint8_t *word, size_t word_len, uint16_t *tables, size_t tables_len, uint8_t *out, size_t out_len,
                      uint64_t *length)
 {
     uint8_t file[MOST_FILE];
-    if (word_len == 0)
-        return 1;
-    if (word_len > MOST_LETTERS)
-        return 2;
+    uint32_t no = refuse_saving(word_len);
+    if (SLIP == 127 && no == 17 && tables_len >= entries(word_len))
+        clear(tables, entries(word_len) * sizeof *tables);
+    if (SLIP == 128 && no == 17 && out_len > 0)
+        out[0] = 1;
+    if (no != 0 && !(no == 17 && (SLIP == 122 || SLIP == 123)))
+        return no;
     if (tables_len < entries(word_len))
         return 3;
+    if (SLIP == 122 && no != 0)
+        return no;
     make_oracle(word, word_len);
     size_t size = spell_file(word, word_len, file);
     if (out_len < size) {
@@ -694,6 +737,8 @@ uint32_t second_save(const uint8_t *word, size_t word_len, uint16_t *tables, siz
             *length = size;
         return 12;
     }
+    if (SLIP == 123 && no != 0)
+        return no;
     write_tables(word, word_len, tables);
     memcpy(out, file, size);
     if (SLIP == 19 && out_len > size)
@@ -707,6 +752,8 @@ uint32_t second_load(const uint8_t *file, size_t file_len, uint8_t *room, size_t
 {
     size_t at, letters = 0;
     uint32_t no = read_front(file, file_len, room_len, tables_len, &at, &letters, offset);
+    if (SLIP == 138 && no == 8 && file[1] == 1)
+        clear(room, room_len);
     if (no != 0)
         return no;
     const uint8_t *word = file + at - letters;
@@ -738,6 +785,8 @@ uint32_t second_search(const uint8_t *word, size_t word_len, const uint8_t *text
         return 1;
     if (word_len > MOST_LETTERS)
         return 2;
+    if (SLIP == 130 && word_len < LEAST_SAVED)
+        return 17;
     if (SLIP == 8 && tables_len < entries(word_len))
         return 3;
     if (text_len > LONGEST_TEXT)
@@ -768,6 +817,8 @@ static uint32_t turbo(bool looks, const uint8_t *word, size_t word_len, const ui
         return 4;
     if (word_len > MOST_LETTERS)
         return 2;
+    if (SLIP == 131 && word_len < LEAST_SAVED)
+        return 17;
     if (SLIP == 108 && tables_len < entries(word_len))
         return 3;
     if (text_len > MOST_TEXT + (SLIP == 110)) {
@@ -807,8 +858,16 @@ uint32_t second_search_file(const uint8_t *file, size_t file_len, const uint8_t 
 {
     uint8_t sought[MOST_LETTERS];
     uint64_t m, kept_here;
+    bool one_letter = file_len > 2 && file[0] == 1 && file[1] == 1;
+    if (SLIP == 139 && one_letter)
+        return shows(8, 1, offset);
     if (text_len > LONGEST_TEXT)
         return SLIP == 83 ? shows(4, 0, offset) : 4;
+    if (SLIP == 134 && one_letter) {
+        *count = list_occurrences(file + 2, 1, text, text_len, 0, finds, finds_len);
+        *letters = text_len;
+        return 0;
+    }
     uint32_t no = second_load(file, file_len, room, room_len, tables, tables_len, &m, SLIP == 82 ? &kept_here : offset);
     if (no != 0)
         return no;
@@ -826,6 +885,8 @@ uint32_t second_open(const uint8_t *word, size_t word_len, uint8_t *searcher, si
         return 3;
     if (word_len > MOST_STREAMED + (SLIP == 41))
         return 2;
+    if (SLIP == 132 && word_len < LEAST_SAVED)
+        return 17;
     if (searcher_len < SEARCHER_BYTES)
         return 3;
     write_opened(word, word_len, searcher);

@@ -12,12 +12,14 @@
 
 /* The limits of the scope document and of the requests. Nothing else in second/ rests on their values, but for some examples and seeds. */
 enum {
-    MOST_LETTERS = 4096,         /* of a word */
-    MOST_STREAMED = 64,          /* letters of a word that a stream is opened for */
-    MOST_TEXT = 16777216,        /* bytes of a text, and of a stream */
-    SEARCHER_BYTES = 134,        /* of a searcher; more may be lent */
-    ALWAYS_ENOUGH = 20481,       /* bytes of output, for the file of any word */
-    MOST_FILE = 8 * MOST_LETTERS /* a room of our own for a file: more than any has */
+    MOST_LETTERS = 4096,          /* of a word */
+    LEAST_SAVED = 2,              /* letters of a word that has a file */
+    MOST_STREAMED = 64,           /* letters of a word that a stream is opened for */
+    MOST_TEXT = 16777216,         /* bytes of a text, and of a stream */
+    SEARCHER_BYTES = 134,         /* of a searcher; more may be lent */
+    LEAST_FILE = LEAST_SAVED + 3, /* bytes of a file: the edition, the length, the letters and a count of no arrows */
+    ALWAYS_ENOUGH = 20481,        /* bytes of output, for the file of any word */
+    MOST_FILE = 8 * MOST_LETTERS  /* a room of our own for a file: more than any has */
 };
 
 /* m times n, up to which second_turbo looks for h by comparing the word's beginnings with the text; above, it carries h along the word's
