@@ -198,13 +198,15 @@ static enum entry entry_of(unsigned call)
     return call == LOAD_CHANGED ? LOAD : call == SEARCH_FILE_CHANGED ? SEARCH_FILE : call == TAKE_CHANGED ? TAKE : (enum entry)call;
 }
 
+enum { EXACT, ONE_SHORT, LONGER, SO_MANY, CHOICES };
+
 static size_t chosen(size_t need, uint8_t choice)
 {
-    switch (choice % 4) {
-    case 0: return need;
-    case 1: return need > 0 ? need - 1 : 0;
-    case 2: return need + 1 + choice / 4;
-    default: return choice / 4;
+    switch (choice % CHOICES) {
+    case EXACT: return need;
+    case ONE_SHORT: return need > 0 ? need - 1 : 0;
+    case LONGER: return need + 1 + choice / CHOICES;
+    default: return choice / CHOICES;
     }
 }
 
@@ -335,11 +337,13 @@ static void understand(const uint8_t *data, size_t size, struct asked *a)
 static const char *seed_dir;
 static unsigned seeds;
 
-static void seed(unsigned call, uint8_t flags, const uint8_t *input, size_t input_len, const uint8_t *tail, size_t tail_len)
+/* the tables, and with them word room and output, by choice */
+static void seed_in(uint8_t tables, uint8_t room, unsigned call, uint8_t flags, const uint8_t *input, size_t input_len, const uint8_t *tail,
+                    size_t tail_len)
 {
     static uint8_t bytes[MOST_INPUT];
     char path[4096];
-    uint8_t head[HEAD] = {(uint8_t)call, flags, 0, 0, 0, 4, (uint8_t)(input_len % 256), (uint8_t)(input_len / 256)};
+    uint8_t head[HEAD] = {(uint8_t)call, flags, tables, room, room, 4, (uint8_t)(input_len % 256), (uint8_t)(input_len / 256)};
     if (HEAD + input_len + tail_len > MOST_INPUT) {
         fprintf(stderr, "fuzz: a seed of %zu bytes would not be run\n", HEAD + input_len + tail_len);
         exit(2);
@@ -352,6 +356,11 @@ static void seed(unsigned call, uint8_t flags, const uint8_t *input, size_t inpu
     FILE *f = must(fopen(path, "wb"));
     fwrite(bytes, 1, HEAD + input_len + tail_len, f);
     fclose(f);
+}
+
+static void seed(unsigned call, uint8_t flags, const uint8_t *input, size_t input_len, const uint8_t *tail, size_t tail_len)
+{
+    seed_in(EXACT, EXACT, call, flags, input, input_len, tail, tail_len);
 }
 
 /* the text of a seed: the word and its mirror */
@@ -538,6 +547,22 @@ static void seed_hostile(size_t m)
     }
 }
 
+/* A letter, which has no file, and the same letter twice, which has the least one: saved, loaded and searched with, in every choice of
+   rooms, where no room is a null pointer. */
+static void seed_least(void)
+{
+    static const uint8_t aa[] = "aa", one[] = {1, 1, 'a', 0}, two[] = {1, 2, 'a', 'a', 0};
+    for (uint8_t c = 0; c < CHOICES * CHOICES; c++) {
+        uint8_t tables = c % CHOICES, room = c / CHOICES, flags = 2 + c % 2;
+        seed_in(tables, room, SAVE, flags, aa, 1, aa, 0);
+        seed_in(tables, room, SAVE, flags, aa, 2, aa, 0);
+        seed_in(tables, room, LOAD, flags, one, sizeof one, aa, 0);
+        seed_in(tables, room, LOAD, flags, two, sizeof two, aa, 0);
+        seed_in(tables, room, SEARCH_FILE, flags, one, sizeof one, aa, 2);
+        seed_in(tables, room, SEARCH_FILE, flags, two, sizeof two, aa, 2);
+    }
+}
+
 static void seed_hex(const char *hex)
 {
     uint8_t file[64];
@@ -583,6 +608,11 @@ static void write_seeds(void)
                                         "01",
                                         "0100",
                                         "0101",
+                                        "010161",
+                                        "0101610000",
+                                        "0102",
+                                        "01026161",
+                                        "010261610000",
                                         "01FFFFFFFF0F",
                                         "0180808080",
                                         "8100",
@@ -614,6 +644,7 @@ static void write_seeds(void)
         seed_word((const uint8_t *)words[i], strlen(words[i]));
     for (size_t i = 0; i < sizeof files / sizeof *files; i++)
         seed_hex(files[i]);
+    seed_least();
     seed_spellings((const uint8_t *)"abbbaab", 7);
     for (size_t i = 0; i < sizeof periodic / sizeof *periodic; i++)
         seed_periodic(periodic[i][0], periodic[i][1]);
