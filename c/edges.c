@@ -1,6 +1,7 @@
-/* What only a caller in C can hand over, a null pointer with length 0 for each buffer; turbo at its edges; and the deepest calls there are, every entry on
- * eight threads at once. Each thread has a stack of 64 KiB, or the least that the system gives where that is more, above a page that nobody may touch. It is
- * painted before, and less than 64 KiB of it may be touched, by the calls and by what a thread needs of its own. */
+/* What only a caller in C can hand over, a null pointer with length 0 for each buffer; turbo at its edges; one letter, which has no file;
+ * and the deepest calls there are, every entry on eight threads at once. Each thread has a stack of 64 KiB, or the least that the system
+ * gives where that is more, above a page that nobody may touch. It is painted before, and less than 64 KiB of it may be touched, by the
+ * calls and by what a thread needs of its own. */
 #define _DEFAULT_SOURCE
 #include <inttypes.h>
 #include <pthread.h>
@@ -13,8 +14,8 @@
 
 enum { THREADS = 8, MOST = 64 * 1024, GUARD = MOST, PAINT = 0xa5, TEXT = 65536 };
 
-static uint16_t tables[MARKS_TABLES(1)], all_tables[MARKS_MOST_TABLES];
-static uint8_t room[1], out[4], searcher[MARKS_SEARCHER], long_text[MARKS_LONGEST_TEXT + 1];
+static uint16_t tables[MARKS_TABLES(MARKS_LEAST_SAVED)], all_tables[MARKS_MOST_TABLES];
+static uint8_t room[MARKS_LEAST_SAVED], out[5], searcher[MARKS_SEARCHER], long_text[MARKS_LONGEST_TEXT + 1];
 static uint32_t finds[2];
 static uint64_t count, letters, offset;
 static const uint64_t nowhere = UINT64_MAX;
@@ -33,17 +34,17 @@ static void print_said(const char *what, uint32_t said)
 
 static void null_buffers(void)
 {
-    const uint8_t *a = (const uint8_t *)"a", *aa = (const uint8_t *)"aa", *file = (const uint8_t *)"\1\1a";
+    const uint8_t *a = (const uint8_t *)"a", *aa = (const uint8_t *)"aa", *file = (const uint8_t *)"\1\2aa";
     uint64_t n;
     offset = nowhere;
     print_said("build, no word", marks_build(NULL, 0, tables, 12, &n));
     print_said("build, no tables", marks_build(a, 1, NULL, 0, &n));
-    print_said("save, no word", marks_save(NULL, 0, tables, 12, out, 4, &n));
-    print_said("save, no tables", marks_save(a, 1, NULL, 0, out, 4, &n));
-    print_said("save, no output", marks_save(a, 1, tables, 12, NULL, 0, &n));
-    print_said("load, no file", marks_load(NULL, 0, room, 1, tables, 12, &n, &offset));
-    print_said("load, no room", marks_load(file, 4, NULL, 0, tables, 12, &n, &offset));
-    print_said("load, no tables", marks_load(file, 4, room, 1, NULL, 0, &n, &offset));
+    print_said("save, no word", marks_save(NULL, 0, tables, 18, out, 5, &n));
+    print_said("save, no tables", marks_save(aa, 2, NULL, 0, out, 5, &n));
+    print_said("save, no output", marks_save(aa, 2, tables, 18, NULL, 0, &n));
+    print_said("load, no file", marks_load(NULL, 0, room, 2, tables, 18, &n, &offset));
+    print_said("load, no room", marks_load(file, 5, NULL, 0, tables, 18, &n, &offset));
+    print_said("load, no tables", marks_load(file, 5, room, 2, NULL, 0, &n, &offset));
     print_said("search, no word", marks_search(NULL, 0, aa, 2, tables, 12, finds, 2, &count, &letters));
     print_said("search, no tables", marks_search(a, 1, aa, 2, NULL, 0, finds, 2, &count, &letters));
     print_said("search, no text", marks_search(a, 1, NULL, 0, tables, 12, finds, 2, &count, &letters));
@@ -52,13 +53,28 @@ static void null_buffers(void)
     print_said("turbo, no tables", marks_turbo(a, 1, aa, 2, NULL, 0, finds, 2, &count, &letters));
     print_said("turbo, no text", marks_turbo(a, 1, NULL, 0, tables, 12, finds, 2, &count, &letters));
     print_said("turbo, no list", marks_turbo(a, 1, aa, 2, tables, 12, NULL, 0, &count, &letters));
-    print_said("with a file, no file", marks_search_file(NULL, 0, aa, 2, room, 1, tables, 12, finds, 2, &count, &letters, &offset));
-    print_said("with a file, no room", marks_search_file(file, 4, aa, 2, NULL, 0, tables, 12, finds, 2, &count, &letters, &offset));
-    print_said("with a file, no tables", marks_search_file(file, 4, aa, 2, room, 1, NULL, 0, finds, 2, &count, &letters, &offset));
-    print_said("with a file, no text", marks_search_file(file, 4, NULL, 0, room, 1, tables, 12, finds, 2, &count, &letters, &offset));
-    print_said("with a file, no list", marks_search_file(file, 4, aa, 2, room, 1, tables, 12, NULL, 0, &count, &letters, &offset));
+    print_said("with a file, no file", marks_search_file(NULL, 0, aa, 2, room, 2, tables, 18, finds, 2, &count, &letters, &offset));
+    print_said("with a file, no room", marks_search_file(file, 5, aa, 2, NULL, 0, tables, 18, finds, 2, &count, &letters, &offset));
+    print_said("with a file, no tables", marks_search_file(file, 5, aa, 2, room, 2, NULL, 0, finds, 2, &count, &letters, &offset));
+    print_said("with a file, no text", marks_search_file(file, 5, NULL, 0, room, 2, tables, 18, finds, 2, &count, &letters, &offset));
+    print_said("with a file, no list", marks_search_file(file, 5, aa, 2, room, 2, tables, 18, NULL, 0, &count, &letters, &offset));
     print_said("with a file, no file and too long a text",
-               marks_search_file(NULL, 0, long_text, sizeof long_text, room, 1, tables, 12, finds, 2, &count, &letters, &offset));
+               marks_search_file(NULL, 0, long_text, sizeof long_text, room, 2, tables, 18, finds, 2, &count, &letters, &offset));
+}
+
+/* refused before the rooms, so as well where there are none */
+static void one_letter(void)
+{
+    const uint8_t *a = (const uint8_t *)"a", *file = (const uint8_t *)"\1\1a";
+    uint64_t n;
+    print_said("save, one letter, no tables", marks_save(a, 1, NULL, 0, out, 5, &n));
+    print_said("save, one letter, no output", marks_save(a, 1, tables, 12, NULL, 0, &n));
+    print_said("save, one letter, no tables and no output", marks_save(a, 1, NULL, 0, NULL, 0, &n));
+    print_said("load, one letter, no room and no tables", marks_load(file, 4, NULL, 0, NULL, 0, &n, &offset));
+    print_said("with a file, one letter, no room, no tables and no list",
+               marks_search_file(file, 4, a, 1, NULL, 0, NULL, 0, NULL, 0, &count, &letters, &offset));
+    print_said("with a file, one letter, too long a text",
+               marks_search_file(file, 4, long_text, sizeof long_text, room, 1, tables, 12, finds, 2, &count, &letters, &offset));
 }
 
 static void null_buffers_of_streams(void)
@@ -171,6 +187,7 @@ int main(void)
     null_buffers();
     null_buffers_of_streams();
     turbo_edges();
+    one_letter();
     for (int i = 0; i < THREADS; i++) {
         memset(works[i].word, 'a', MARKS_LONGEST_WORD - 1);
         works[i].word[MARKS_LONGEST_WORD - 1] = 'b';
