@@ -2303,7 +2303,7 @@ static size_t damage_some(uint8_t *file, size_t len)
     static uint8_t other[2 * MOST_FILE];
     uint8_t put[8];
     for (size_t turns = below(3); turns > 0; turns--) {
-        size_t at = below(2) ? below(len) : len > 8 ? len - 1 - below(8) : below(len), to = at + below(below(2) ? 2 : 6);
+        size_t at = below(2) || len < 8 ? below(len + 1) : len - below(9), to = at + below(below(2) ? 2 : 6);
         size_t groups = 1 + below(below(4) ? 2 : 6);
         spell_in((uint32_t)(chance() >> below(64)), groups, put);
         len = spliced(file, len, at, to < len ? to : len, put, below(3) ? groups : 0, other);
