@@ -97,7 +97,7 @@ pub fn build(word: &[u8], tables: &mut [u16]) -> Result<u64, Refusal> {
     told(said, m)
 }
 
-/// The file of a word, at the front of `out`; the answer is its length.
+/// The file of a word of at least [`LEAST_SAVED`](crate::LEAST_SAVED) bytes, at the front of `out`; the answer is its length.
 pub fn save(word: &[u8], tables: &mut [u16], out: &mut [u8]) -> Result<u64, Refusal> {
     let mut length = 0;
     // SAFETY: as above.
