@@ -547,11 +547,22 @@ static void seed_hostile(size_t m)
     }
 }
 
+static void seed_hex(const char *hex)
+{
+    uint8_t file[64];
+    size_t len = 0;
+    for (unsigned byte; sscanf(hex, "%2x", &byte) == 1; hex += 2)
+        file[len++] = (uint8_t)byte;
+    seed(LOAD, 0, file, len, file, 0);
+    seed(SEARCH_FILE, 0, file, len, (const uint8_t *)"abaab", 5);
+}
+
 /* A letter, which has no file, and the same letter twice, which has the least one: saved, loaded and searched with, in every choice of
-   rooms, where no room is a null pointer. */
+   rooms, where no room is a null pointer; their files also cut and with a byte too many. */
 static void seed_least(void)
 {
     static const uint8_t aa[] = "aa", one[] = {1, 1, 'a', 0}, two[] = {1, 2, 'a', 'a', 0};
+    static const char *const broken[] = {"010161", "0101610000", "0102", "01026161", "010261610000"};
     for (uint8_t c = 0; c < CHOICES * CHOICES; c++) {
         uint8_t tables = c % CHOICES, room = c / CHOICES, flags = 2 + c % 2;
         seed_in(tables, room, SAVE, flags, aa, 1, aa, 0);
@@ -561,16 +572,8 @@ static void seed_least(void)
         seed_in(tables, room, SEARCH_FILE, flags, one, sizeof one, aa, 2);
         seed_in(tables, room, SEARCH_FILE, flags, two, sizeof two, aa, 2);
     }
-}
-
-static void seed_hex(const char *hex)
-{
-    uint8_t file[64];
-    size_t len = 0;
-    for (unsigned byte; sscanf(hex, "%2x", &byte) == 1; hex += 2)
-        file[len++] = (uint8_t)byte;
-    seed(LOAD, 0, file, len, file, 0);
-    seed(SEARCH_FILE, 0, file, len, (const uint8_t *)"abaab", 5);
+    for (size_t i = 0; i < sizeof broken / sizeof *broken; i++)
+        seed_hex(broken[i]);
 }
 
 /* the file of a word with each of its numbers replaced by each of some spellings; the rest of the file behind it, or not */
@@ -608,11 +611,6 @@ static void write_seeds(void)
                                         "01",
                                         "0100",
                                         "0101",
-                                        "010161",
-                                        "0101610000",
-                                        "0102",
-                                        "01026161",
-                                        "010261610000",
                                         "01FFFFFFFF0F",
                                         "0180808080",
                                         "8100",
