@@ -51,7 +51,7 @@ enum {
 /* Room, in elements of the buffer that it is for. A text may be empty, and a list of finds may have any length, 0 too. */
 #define MARKS_LONGEST_WORD 4096                             /* also word room for every file */
 #define MARKS_LONGEST_TEXT 16777216
-#define MARKS_LEAST_SAVED 2                                 /* bytes of a word that is saved */
+#define MARKS_LEAST_SAVED 2                                 /* the fewest bytes of a word that is saved */
 #define MARKS_TABLES(m) (6 * ((m) + 1))                     /* table entries for a word of m letters */
 #define MARKS_MOST_TABLES MARKS_TABLES(MARKS_LONGEST_WORD)  /* table entries for every word */
 #define MARKS_MOST_FILE (5 * MARKS_LONGEST_WORD + 1)        /* output for the file of every word */
