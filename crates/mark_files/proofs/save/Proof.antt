@@ -110,7 +110,7 @@ returns-6 c =
 pub save-spec : {M : Type 1} → statement M
 save-spec =
     tie.close
-    (tie.spec returns returns-2 returns-3 (λ c. search needs) (λ c. search needs) returns-4 (λ c. search needs) slice-aggregate-fill fill-requires
-    (λ c. search needs) slice-aggregate-file-size file-size-requires (λ c. search needs) slice-aggregate-clear (λ c κs. search needs)
-    (λ c. search needs) returns-5 (λ c. search needs) slice-aggregate-write-file write-file-requires (λ c. search needs)
-    (λ c. search needs) returns-6)
+    (tie.spec returns returns-2 returns-3 (λ c. search needs) (λ c. search needs) returns-4 (λ c. search needs) slice-aggregate-fill
+    fill-requires (λ c. search needs) slice-aggregate-file-size file-size-requires (λ c. search needs) slice-aggregate-clear
+    (λ c κs. search needs) (λ c. search needs) returns-5 (λ c. search needs) slice-aggregate-write-file write-file-requires
+    (λ c. search needs) (λ c. search needs) returns-6)
