@@ -1,13 +1,14 @@
 -- DEMAND 3, clause by clause: each is quoted word for word, in brackets a number that 02 sets, and under it stands what says just that of
 -- the entries' outcomes, by citing the file where it is proved. Wrong programs that 01 wants shut out by this demand are named in plain
 -- words, each with what shuts it out.
-use mathlib.Core.Path.{_≡_, sym, ap, _∙_}
+use mathlib.Core.Path.{_≡_, refl, sym, ap, _∙_}
 use mathlib.Core.Logic.{_↔_}
 use mathlib.Core.Option.{some}
 use mathlib.Core.List.{List, _∷_, _++_, List·Memᴰ}
 use Prim.Native.Nat.{ℕ, _+_, _*_, _-_, _≤_, _<_}
 use native.Mathlib.Omega.{arith}
 use lib.ListN.{length, take, drop}
+use lib.Seq.{take-at}
 use Rattle.words.specs.Words.{Letter, Word, Place, Factor}
 use Rattle.words.specs.Limits.{longestWord, longestText, leastSaved, greatestFile}
 use Rattle.words.proofs.Limits.{saved-some}
@@ -22,9 +23,12 @@ use Rattle.saved.specs.File.{spell, Saved}
 use Rattle.saved.proofs.Theorems.{size-least, size-most}
 use Rattle.loaded.proofs.Theorems.{spell-injective}
 use Rattle.answers.specs.Answers.{done, refusedAt}
+use Rattle.answers.proofs.Answers.{done-not-refused}
+use Rattle.mark_files.specs.Save
 use Rattle.mark_files.specs.Save.{saveSays}
 use Rattle.mark_files.specs.Load.{outcome, loadSays}
 use Rattle.mark_files.specs.SearchFile.{searchFileSays}
+use Rattle.mark_files.specs.Cases.{SaveCase}
 use Rattle.mark_files.proofs.SaveSays
 use Rattle.mark_files.proofs.SearchFileSays
 use Rattle.mark_files.proofs.LoadTheorems.{Handed}
@@ -76,6 +80,22 @@ module _ (word : Word) (R T : List ℕ) (least : leastSaved ≤ length word) (mo
 pub saving-writes : (word : Word) (T O : List ℕ) → leastSaved ≤ length word → length word ≤ longestWord → room (length word) ≤ length T
     → length (spell word) ≤ length O → take (length (spell word)) (saveSays word T O .output) ≡ spell word
 saving-writes word T O least most enough out = SaveSays.done-leaves word T O least most enough out .file
+
+-- Shut out: a saver that writes what no loader takes. Whatever saving writes is in the set of files
+pub saves-files-only : (word : Word) (T O : List ℕ) → Bytes word → {n : ℕ} → saveSays word T O .answer ≡ done n
+    → Saved (take n (saveSays word T O .output))
+saves-files-only word T O bytes {n} = by (SaveSays.save-is word T O _ .0 refl)
+  where
+    by : {o : Save.Outcome} → SaveCase word T O o → o .answer ≡ done n → Saved (take n (o .output))
+    by (SaveCase.empty-word h) e = done-not-refused (sym e)
+    by (SaveCase.long-word h l) e = done-not-refused (sym e)
+    by (SaveCase.short-word h l b) e = done-not-refused (sym e)
+    by (SaveCase.short-room h l s) e = done-not-refused (sym e)
+    by (SaveCase.short-output h l s o) e = done-not-refused (sym e)
+    by (SaveCase.accepted h l s o) e =
+        let size : length (spell word) ≡ n = cc in
+        let file = take-at (spell word) (drop (length (spell word)) O) n size in
+        record { word = word; savable = record { bytes = bytes; least = h; most = l }; file = file }
 
 -- ── 'and no two words share one.' ──────────────────────────────────────────
 
