@@ -1,10 +1,12 @@
-// The backward search over a table: a window is read from its end, and moved to behind the first letter that has no arrow. Serves the
-// entries.
+// The backward search over a table: a window is read from its end, and moved to behind the first letter that has no arrow. In a long text
+// the arrows are prepared first, so that most letters cost one load. Serves the entries.
 ghost use mathlib.Core.Path.{_≡_};
+ghost use mathlib.Core.Logic.{_≢_};
 ghost use Prim.Native.Nat.{_+_, _<_, _≤_};
 ghost use lib.ListN.{length, replicate};
 ghost use Rattle.table.specs.Formed.{Formed};
 ghost use Rattle.table.specs.Table.{readArrow};
+ghost use Rattle.prepared.specs.Prepared.{Rows, Prepared};
 ghost use Rattle.backward.specs.Steps.{readDown, afterFind, steps};
 ghost use Rattle.search.specs.Answers.{readingOf, tallyOf};
 ghost use Rattle.finds.specs.Finds.{filled};
@@ -15,15 +17,23 @@ pub enum WindowRead {
     Whole,
 }
 
-// Reads k letters from s on, from the last to the first, with the arrows of a word of m letters; the loop breaks with how that went.
-pub fn read_window(table: &[u16], m: usize, text: &[u8], s: words::Place, k: usize) -> WindowRead
+// Reads k letters from s on, from the last to the first and from a state, with the arrows of a word of m letters; the loop breaks with how
+// that went.
+fn read_window(
+    table: &[u16],
+    m: usize,
+    text: &[u8],
+    s: words::Place,
+    k: usize,
+    from: words::State,
+) -> WindowRead
     requires { ⌜ (s .0 + k ≤ length (now text)) × (length (now text) < 4294967295) ⌝ }
     requires { ⌜ Formed (now table) m ⌝ }
-    ensures { λ r. ⌜ r ≡ readingOf (readDown (readArrow m (now (table .entry))) (now (text .entry)) (s .0) k 0) ⌝ }
+    ensures { λ r. ⌜ r ≡ readingOf (readDown (readArrow m (now (table .entry))) (now (text .entry)) (s .0) k (from .0)) ⌝ }
 {
     let start = s.0 as usize;
     let mut left = k;
-    let mut x = words::State(0);
+    let mut x = from;
     loop {
         if left == 0 {
             break WindowRead::Whole;
@@ -39,6 +49,46 @@ pub fn read_window(table: &[u16], m: usize, text: &[u8], s: words::Place, k: usi
     }
 }
 
+// The same with what is prepared for so many states; from a state beyond these on, with lookups.
+pub fn read_on(
+    table: &[u16],
+    m: usize,
+    column: &[u16],
+    dense: &[u16],
+    rows: usize,
+    text: &[u8],
+    s: words::Place,
+    k: usize,
+    from: words::State,
+) -> WindowRead
+    requires { ⌜ (s .0 + k ≤ length (now text)) × (length (now text) < 4294967295) × (from .0 ≢ 65535) ⌝ }
+    requires { ⌜ Formed (now table) m × (0 < rows → Rows (now table) m (now column) (now dense) rows) ⌝ }
+    ensures { λ r. ⌜ r ≡ readingOf (readDown (readArrow m (now (table .entry))) (now (text .entry)) (s .0) k (from .0)) ⌝ }
+{
+    let start = s.0 as usize;
+    let mut left = k;
+    let mut entry = from.0 as usize;
+    loop {
+        if rows <= entry {
+            let x = entry as u16;
+            if x == prepared::NOTHING {
+                let f = (start + left) as u32;
+                break WindowRead::Failed(words::Place(f));
+            }
+            let rest = read_window(table, m, text, s, left, words::State(x));
+            break rest;
+        }
+        if left < 1 {
+            break WindowRead::Whole;
+        }
+        left -= 1;
+        let c = text[start + left] as usize;
+        let top = column[c] as usize;
+        let y = dense[top + entry];
+        entry = y as usize;
+    }
+}
+
 // How far the window moves after a find. The row, as long as the word, is scratch and zero afterwards.
 pub fn step_after_find(word: &[u8], row: &mut [u16]) -> usize
     requires { ⌜ (1 ≤ length (now word)) × (length (now word) < 65536) × (length (now row) ≡ length (now word)) ⌝ }
@@ -50,8 +100,8 @@ pub fn step_after_find(word: &[u8], row: &mut [u16]) -> usize
     word.len() - longest
 }
 
-// Moves the window over the text, with the arrows of the table.
-pub fn scan(word: &[u8], step: usize, table: &[u16], text: &[u8], finds: &mut [u32]) -> finds::Tally
+// Moves the window over the text, and looks each arrow up in the table.
+fn windows(word: &[u8], step: usize, table: &[u16], text: &[u8], finds: &mut [u32]) -> finds::Tally
     requires { ⌜ (1 ≤ length (now word)) × (length (now text) < 4294967295) × (step ≡ afterFind (now word)) ⌝ }
     requires { ⌜ Formed (now table) (length (now word)) ⌝ }
     ensures { λ r. ⌜ (r ≡ tallyOf
@@ -66,7 +116,7 @@ pub fn scan(word: &[u8], step: usize, table: &[u16], text: &[u8], finds: &mut [u
     let mut count: usize = 0;
     let mut letters: u64 = 0;
     'window: while (s.0 as usize) + m <= n {
-        let WindowRead::Failed(f) = read_window(table, m, text, s, m) else {
+        let WindowRead::Failed(f) = read_window(table, m, text, s, m, words::State(0)) else {
             letters += m as u64;
             count = finds::note(finds, count, s);
             let on = ((s.0 as usize) + step) as u32;
@@ -81,4 +131,136 @@ pub fn scan(word: &[u8], step: usize, table: &[u16], text: &[u8], finds: &mut [u
         count: count,
         letters: letters,
     }
+}
+
+// The same with what is prepared of the table. Most windows end with their last letter or the one before it: these are moved at once.
+fn windows_prepared(
+    word: &[u8],
+    step: usize,
+    table: &[u16],
+    first: &[u16],
+    flags: &[u8],
+    column: &[u16],
+    dense: &[u16],
+    rows: usize,
+    text: &[u8],
+    finds: &mut [u32],
+) -> finds::Tally
+    requires { ⌜ (2 ≤ length (now word)) × (length (now text) < 4294967295) × (step ≡ afterFind (now word)) ⌝ }
+    requires { ⌜ Formed (now table) (length (now word))
+        × Prepared (now table) (length (now word)) (now first) (now flags) (now column) (now dense) rows ⌝ }
+    ensures { λ r. ⌜ (r ≡ tallyOf
+        (steps (readArrow (length (now (word .entry))) (now (table .entry))) (now (word .entry)) (now (text .entry))))
+        × (now (finds .exit) ≡ filled
+        (steps (readArrow (length (now (word .entry))) (now (table .entry))) (now (word .entry)) (now (text .entry)) .starts)
+        (now (finds .entry))) ⌝ }
+{
+    let m = word.len();
+    let n = text.len();
+    let mut s = words::Place(0);
+    let mut count: usize = 0;
+    let mut letters: u64 = 0;
+    // For how many states the entries are asked: for all that have some, or for none.
+    let mut asked = rows;
+    'window: while (s.0 as usize) + m <= n {
+        let end = (s.0 as usize) + m;
+        let c = text[end - 1] as usize;
+        let x = first[c];
+        if x == prepared::NOTHING {
+            letters += 1;
+            s = words::Place(end as u32);
+            continue 'window;
+        }
+        let d = text[end - 2] as usize;
+        if flags[31 * c + d] == 0 {
+            letters += 2;
+            s = words::Place((end - 1) as u32);
+            continue 'window;
+        }
+        let y = words::State(x);
+        let WindowRead::Failed(f) = read_on(table, m, column, dense, asked, text, s, m - 1, y)
+        else {
+            letters += word.len() as u64;
+            // Where a word stands it often stands again.
+            asked = 0;
+            count = finds::note(finds, count, s);
+            s = words::Place(((s.0 as usize) + step) as u32);
+            continue 'window;
+        };
+        let read = end - (f.0 as usize);
+        letters += read as u64;
+        asked = prepared::rows_next(32, read, rows);
+        s = words::Place(f.0 + 1);
+    }
+    finds::Tally {
+        count: count,
+        letters: letters,
+    }
+}
+
+// The same in a long text, once its arrows are prepared. It is called from two places, so that the compiler keeps the arrays in a frame of
+// their own, for which a search in a short text does not pay.
+fn scan_long(
+    word: &[u8],
+    step: usize,
+    table: &[u16],
+    text: &[u8],
+    finds: &mut [u32],
+) -> finds::Tally
+    requires { ⌜ (2 ≤ length (now word)) × (length (now text) < 4294967295) × (step ≡ afterFind (now word)) ⌝ }
+    requires { ⌜ Formed (now table) (length (now word)) ⌝ }
+    ensures { λ r. ⌜ (r ≡ tallyOf
+        (steps (readArrow (length (now (word .entry))) (now (table .entry))) (now (word .entry)) (now (text .entry))))
+        × (now (finds .exit) ≡ filled
+        (steps (readArrow (length (now (word .entry))) (now (table .entry))) (now (word .entry)) (now (text .entry)) .starts)
+        (now (finds .entry))) ⌝ }
+{
+    let mut column = [0u16; 256];
+    let mut dense = [prepared::NOTHING; prepared::ENTRIES];
+    let rows = prepared::prepare_rows(table, word.len(), &mut column, &mut dense);
+    if rows == 0 {
+        return windows(word, step, table, text, finds);
+    }
+    let mut first = [0u16; 256];
+    let mut flags = [0u8; prepared::FLAGS];
+    prepared::prepare_starts(
+        table,
+        word.len(),
+        &column,
+        &dense,
+        rows,
+        &mut first,
+        &mut flags,
+    );
+    windows_prepared(
+        word,
+        step,
+        table,
+        &first,
+        &flags,
+        &column,
+        &dense,
+        rows,
+        text,
+        finds,
+    )
+}
+
+// Moves the window over the text, with the arrows of the table.
+pub fn scan(word: &[u8], step: usize, table: &[u16], text: &[u8], finds: &mut [u32]) -> finds::Tally
+    requires { ⌜ (1 ≤ length (now word)) × (length (now text) < 4294967295) × (step ≡ afterFind (now word)) ⌝ }
+    requires { ⌜ Formed (now table) (length (now word)) ⌝ }
+    ensures { λ r. ⌜ (r ≡ tallyOf
+        (steps (readArrow (length (now (word .entry))) (now (table .entry))) (now (word .entry)) (now (text .entry))))
+        × (now (finds .exit) ≡ filled
+        (steps (readArrow (length (now (word .entry))) (now (table .entry))) (now (word .entry)) (now (text .entry)) .starts)
+        (now (finds .entry))) ⌝ }
+{
+    if prepared::repays_short(2, word.len(), text.len()) {
+        return scan_long(word, step, table, text, finds);
+    }
+    if prepared::repays_long(word.len(), text.len()) {
+        return scan_long(word, step, table, text, finds);
+    }
+    windows(word, step, table, text, finds)
 }

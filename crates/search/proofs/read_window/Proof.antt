@@ -2,13 +2,14 @@
 -- measure is how many letters are left.
 use native.Mathlib.Omega.{arith}
 use borrow.Author.Needs.{needs}
+use Rattle.words.proofs.Answers.{arrow-told, arrow-untold}
 use Rattle.table.specs.Table.{readArrow}
 use Rattle.search.proofs.Readings.{StillToRead, all-to-read, none-to-read, letter-fails, letter-goes}
 use Rattle.search.proofs.read_window.Statement.{statement}
 use Rattle.search.proofs.read_window.Tie as tie
 
 abbrev Inv-loop : tie.InvT-loop
-Inv-loop table m text k start left₀ x₀ left x = StillToRead (readArrow m table) text start k left (x .0)
+Inv-loop table m text k start left₀ x₀ left x = StillToRead (readArrow m table) text start k (x₀ .0) left (x .0)
 
 abbrev μ-loop : tie.MeasureT-loop
 μ-loop table m text k start left₀ x₀ left x = left
@@ -18,15 +19,15 @@ loop-again c =
     let at-next = c .before in
     let at-lookup = at-next .before .before in
     let at-if1 = at-lookup .before .before in
-    letter-goes (at-if1 .before .loop .inv) (λ z. omega (arith, at-if1 .if1 .left)) _ (at-lookup .lookup .ensures) _
-    (at-next .next .given .1)
+    letter-goes (at-if1 .before .loop .inv) (λ z. omega (arith, at-if1 .if1 .left))
+    (arrow-told _ _ _ (at-lookup .lookup .ensures) (at-next .next .given .1))
 
 returns-2 : tie.Need-returns-2 Inv-loop μ-loop
 returns-2 c =
     let at-lookup = c .before .before in
     let at-if1 = at-lookup .before .before in
-    letter-fails (at-if1 .before .loop .inv) (λ z. omega (arith, at-if1 .if1 .left)) _ (at-lookup .lookup .ensures)
-    (c .enum-told .given .1)
+    letter-fails (at-if1 .before .loop .inv) (λ z. omega (arith, at-if1 .if1 .left))
+    (arrow-untold _ _ (at-lookup .lookup .ensures) (c .enum-told .given .1))
 
 pub read-window-spec : {M : Type 1} → statement M
 read-window-spec = tie.close (tie.spec

@@ -1,134 +1,26 @@
--- `search::scan` meets its contract: before each window `SoFar` holds, that is, what is counted and listed is what the steps up to there
--- count and list. The measure is how much of the text lies behind the window's start.
-use Prim.Native.Nat.{_-_}
-use native.Mathlib.Omega.{arith}
-use lib.ListN.{length}
+-- `search::scan` meets its contract: either way the windows are those of the table's arrows.
 use borrow.Author.Needs.{needs}
-use Rattle.table.specs.Table.{readArrow}
-use Rattle.backward.proofs.AfterFind.{after-moves, after-most}
-use Rattle.search.proofs.SoFar.{SoFar, so-far-start, so-far-length, so-far-end, so-far-find, so-far-miss}
-use Rattle.search.proofs.SoFar.{letters-fit, find-fits, fails-inside}
 use Rattle.search.proofs.scan.Statement.{statement}
 use Rattle.search.proofs.scan.Tie as tie
 
-abbrev Inv-window : tie.InvT-window
-Inv-window word step table text finds₀ m n s₀ count₀ letters₀ finds s count letters =
-    SoFar (readArrow m table) word text finds₀ finds (s .0) count letters
+scan-long-requires : tie.Need-scan-long-requires
+scan-long-requires c κs =
+    let at-if1 = c .before in
+    let at-repays-short = at-if1 .before in
+    let at-start = at-repays-short .before .before .before .before .before in
+    ((at-repays-short .repays-short .ensures (at-if1 .if1 .taken), at-start .pre .0 .1, at-start .pre .0 .2), at-start .pre .1)
 
-abbrev μ-window : tie.MeasureT-window
-μ-window word step table text finds₀ m n s₀ count₀ letters₀ finds s count letters = length text - s .0
-
--- ── A find ─────────────────────────────────────────────────────────────────
-
-add-letters : tie.Need-add-letters Inv-window μ-window
-add-letters c =
-    let at-read-window = c .before .before in
-    let at-if1 = at-read-window .before in
-    let at-window = at-if1 .before .before in
-    let at-start = at-window .before .before .before .before .before in
-    let told = c .enum-told .given .1 in
-    let fits = find-fits (at-window .window .inv) (at-if1 .if1 .taken) _ (at-read-window .read-window .ensures) told in
-    omega (arith, fits (at-start .pre .1 .small) (at-start .pre .0 .1))
-
-add-on : tie.Need-add-on Inv-window μ-window
-add-on c =
-    let at-window = c .before .before .before .before .before .before .before .before .before .before in
-    let at-start = at-window .before .before .before .before .before in
-    omega (arith, after-most (at-start .args .word .now) (at-start .pre .0 .0))
-
-cast-on-2 : tie.Need-cast-on-2 Inv-window μ-window
-cast-on-2 c =
-    let at-window = c .before .before .before .before .before .before .before .before .before .before in
-    let at-start = at-window .before .before .before .before .before in
-    omega (arith, after-most (at-start .args .word .now) (at-start .pre .0 .0), at-start .pre .0 .2)
-
-window-less : tie.Need-window-less Inv-window μ-window
-window-less c =
-    let at-window = c .before .before .before .before .before .before .before .before .before .before in
-    let at-start = at-window .before .before .before .before .before in
-    omega (arith, after-moves (at-start .args .word .now), at-start .pre .0 .2, at-start .pre .0 .0)
-
-window-again : tie.Need-window-again Inv-window μ-window
-window-again c =
-    let at-note = c .before .before .before in
-    let at-enum-told = at-note .before .before in
-    let at-read-window = at-enum-told .before .before in
-    let at-if1 = at-read-window .before in
-    let at-window = at-if1 .before .before in
-    let at-start = at-window .before .before .before .before .before in
-    so-far-find (at-window .window .inv) (at-if1 .if1 .taken) _ (at-read-window .read-window .ensures) (at-enum-told .enum-told .given .1)
-    (at-start .pre .0 .0) (at-start .pre .0 .2) (at-note .note .ensures .0) (at-note .note .ensures .1)
-
--- ── A letter without an arrow ──────────────────────────────────────────────
-
-add-t23 : tie.Need-add-t23 Inv-window μ-window
-add-t23 c =
-    let at-f = c .before .before in
-    let at-read-window = at-f .before .before in
-    let at-if1 = at-read-window .before in
-    let at-window = at-if1 .before .before in
-    let at-start = at-window .before .before .before .before .before in
-    let read = at-read-window .read-window .ensures in
-    let inside = fails-inside (at-window .window .inv) (at-if1 .if1 .taken) _ read _ (at-f .f .given .1) in
-    omega (arith, at-start .pre .0 .1)
-
-sub-letters : tie.Need-sub-letters Inv-window μ-window
-sub-letters c =
-    let at-f = c .before .before .before .before in
-    let at-read-window = at-f .before .before in
-    let at-if1 = at-read-window .before in
-    let at-window = at-if1 .before .before in
-    let read = at-read-window .read-window .ensures in
-    let inside = fails-inside (at-window .window .inv) (at-if1 .if1 .taken) _ read _ (at-f .f .given .1) in
-    omega arith
-
-add-letters-3 : tie.Need-add-letters-3 Inv-window μ-window
-add-letters-3 c =
-    let at-f = c .before .before .before .before in
-    let at-read-window = at-f .before .before in
-    let at-if1 = at-read-window .before in
-    let at-window = at-if1 .before .before in
-    let at-start = at-window .before .before .before .before .before in
-    let read = at-read-window .read-window .ensures in
-    let missed = so-far-miss (at-window .window .inv) (at-if1 .if1 .taken) _ read _ (at-f .f .given .1) in
-    omega (arith, letters-fit missed (at-start .pre .1 .small) (at-start .pre .0 .1))
-
-window-less-2 : tie.Need-window-less-2 Inv-window μ-window
-window-less-2 c =
-    let at-f = c .before .before .before .before in
-    let at-read-window = at-f .before .before in
-    let at-if1 = at-read-window .before in
-    let at-window = at-if1 .before .before in
-    let at-start = at-window .before .before .before .before .before in
-    let read = at-read-window .read-window .ensures in
-    let inside = fails-inside (at-window .window .inv) (at-if1 .if1 .taken) _ read _ (at-f .f .given .1) in
-    omega (arith, at-start .pre .0 .0)
-
-window-again-2 : tie.Need-window-again-2 Inv-window μ-window
-window-again-2 c =
-    let at-f = c .before .before .before .before in
-    let at-read-window = at-f .before .before in
-    let at-if1 = at-read-window .before in
-    let at-window = at-if1 .before .before in
-    so-far-miss (at-window .window .inv) (at-if1 .if1 .taken) _ (at-read-window .read-window .ensures) _ (at-f .f .given .1)
+scan-long-requires-2 : tie.Need-scan-long-requires-2
+scan-long-requires-2 c κs =
+    let at-if2 = c .before in
+    let at-repays-long = at-if2 .before in
+    let at-start = at-repays-long .before .before .before .before .before .before .before in
+    ((at-repays-long .repays-long .ensures (at-if2 .if2 .taken), at-start .pre .0 .1, at-start .pre .0 .2), at-start .pre .1)
 
 pub scan-spec : {M : Type 1} → statement M
 scan-spec = tie.close (tie.spec
-    Inv-window
-    μ-window
-    (λ c. so-far-start)
-    (λ c. search needs) (λ c. search needs) (λ c κs. search needs) (λ c. search needs) (λ c. search needs)
-    add-letters
-    (λ c κs. search needs) (λ c. search needs)
-    add-on
-    cast-on-2
-    window-less
-    window-again
-    add-t23
-    (λ c. search needs) (λ c. search needs) (λ c. search needs)
-    sub-letters
-    add-letters-3
-    window-less-2
-    window-again-2
-    (λ c. so-far-length (c .before .before .window .inv))
-    (λ c. so-far-end (c .before .before .window .inv) (c .if1 .left)))
+    (λ c κs. search needs)
+    scan-long-requires
+    (λ c. search needs) (λ c. search needs) (λ c κs. search needs)
+    scan-long-requires-2
+    (λ c. search needs) (λ c. search needs) (λ c κs. search needs) (λ c. search needs) (λ c. search needs))

@@ -1,6 +1,7 @@
 -- `turbo::windows` meets its contract: before each window `SoFar` holds, that is, what is counted and listed is what the steps up to there
 -- count and list. The measure is how much of the text lies behind c.
-use Prim.Native.Nat.{_-_}
+use mathlib.Core.Path.{_≡_, refl}
+use Prim.Native.Nat.{_-_, _<_}
 use native.Mathlib.Omega.{arith}
 use lib.ListN.{length}
 use borrow.Author.Needs.{needs}
@@ -12,42 +13,51 @@ use Rattle.turbo.proofs.windows.Statement.{statement}
 use Rattle.turbo.proofs.windows.Tie as tie
 
 abbrev Inv-window : tie.InvT-window
-Inv-window word row table text finds₀ m n c₀ keep₀ count₀ letters₀ finds c keep count letters =
-    SoFar (readArrow m table) word text finds₀ finds (c .0) keep count letters
+Inv-window word row table column dense rows text finds₀ m n c₀ keep₀ count₀ letters₀ asked₀ finds c keep count letters asked =
+    SoFar (readArrow m table) word text finds₀ finds (c .0) keep count letters × (0 < asked → asked ≡ rows)
 
 abbrev μ-window : tie.MeasureT-window
-μ-window word row table text finds₀ m n c₀ keep₀ count₀ letters₀ finds c keep count letters = length text - c .0
+μ-window word row table column dense rows text finds₀ m n c₀ keep₀ count₀ letters₀ asked₀ finds c keep count letters asked =
+    length text - c .0
 
 window-holds : tie.Need-window-holds Inv-window μ-window
-window-holds c = so-far-start (c .before .before .before .before .before .pre .0 .0)
+window-holds c =
+    let at-start = c .before .before .before .before .before .before .before in
+    (so-far-start (at-start .pre .0 .0), λ h. refl)
 
 sub-if1 : tie.Need-sub-if1 Inv-window μ-window
 sub-if1 c =
     let at-window = c .before in
-    so-far-fits (at-window .window .inv) (at-window .before .before .before .before .before .before .pre .0 .0)
+    let at-start = at-window .before .before .before .before .before .before .before .before in
+    so-far-fits (at-window .window .inv .0) (at-start .pre .0 .0)
 
 sub-end : tie.Need-sub-end Inv-window μ-window
 sub-end c =
     let at-window = c .before .before .before in
-    so-far-fits (at-window .window .inv) (at-window .before .before .before .before .before .before .pre .0 .0)
+    let at-start = at-window .before .before .before .before .before .before .before .before in
+    so-far-fits (at-window .window .inv .0) (at-start .pre .0 .0)
 
 read-back-requires : tie.Need-read-back-requires Inv-window μ-window
 read-back-requires c κs =
     let at-if1 = c .before in
     let at-window = at-if1 .before .before in
-    let at-start = at-window .before .before .before .before .before .before in
+    let at-start = at-window .before .before .before .before .before .before .before .before in
     let within = at-if1 .if1 .taken in
-    let longer = so-far-longer (at-window .window .inv) (at-start .pre .0 .0) within in
-    ((omega (arith, longer), within, at-start .pre .0 .1), at-start .pre .1)
+    let asked = at-window .window .inv .1 in
+    let longer = so-far-longer (at-window .window .inv .0) (at-start .pre .0 .0) within in
+    let prepared = at-start .pre .1 .1 in (
+      (omega (arith, longer), within, at-start .pre .0 .1),
+      (at-start .pre .1 .0, λ h. rw (asked h) (prepared (omega (arith, asked h)))),
+    )
 
 forward-requires : tie.Need-forward-requires Inv-window μ-window
 forward-requires c κs =
     let at-read-back = c .before in
     let at-if1 = at-read-back .before .before in
     let at-window = at-if1 .before .before in
-    let at-start = at-window .before .before .before .before .before .before in
+    let at-start = at-window .before .before .before .before .before .before .before .before in
     let within = at-if1 .if1 .taken in
-    let so-far = at-window .window .inv in
+    let so-far = at-window .window .inv .0 in
     let fits = begin-fits so-far (at-start .pre .0 .0) within (at-read-back .read-back .ensures) in (
       (fits .0, fits .1, at-start .pre .0 .2),
       (omega (arith, so-far .few, fits .2), omega (arith, fits .3, within), within, at-start .pre .0 .1),
@@ -59,8 +69,8 @@ sub-letters c =
     let at-read-back = at-forward .before .before in
     let at-if1 = at-read-back .before .before in
     let at-window = at-if1 .before .before in
-    let at-start = at-window .before .before .before .before .before .before in
-    stop-fits (at-window .window .inv) (at-start .pre .0 .0) (at-if1 .if1 .taken) (at-read-back .read-back .ensures)
+    let at-start = at-window .before .before .before .before .before .before .before .before in
+    stop-fits (at-window .window .inv .0) (at-start .pre .0 .0) (at-if1 .if1 .taken) (at-read-back .read-back .ensures)
     (at-forward .forward .ensures) .0
 
 -- the letters, with those of the window, are at most 2n
@@ -70,9 +80,9 @@ add-letters c =
     let at-read-back = at-forward .before .before in
     let at-if1 = at-read-back .before .before in
     let at-window = at-if1 .before .before in
-    let at-start = at-window .before .before .before .before .before .before in
+    let at-start = at-window .before .before .before .before .before .before .before .before in
     let some-letter = at-start .pre .0 .0 in
-    let then = so-far-window (at-window .window .inv) some-letter (at-if1 .if1 .taken) (at-read-back .read-back .ensures)
+    let then = so-far-window (at-window .window .inv .0) some-letter (at-if1 .if1 .taken) (at-read-back .read-back .ensures)
     (at-forward .forward .ensures) in
     omega (arith, so-far-letters then some-letter, at-start .pre .0 .1, texts-fit)
 
@@ -82,20 +92,20 @@ add-letters-2 c =
     let at-read-back = at-forward .before .before in
     let at-if1 = at-read-back .before .before in
     let at-window = at-if1 .before .before in
-    let at-start = at-window .before .before .before .before .before .before in
+    let at-start = at-window .before .before .before .before .before .before .before .before in
     let some-letter = at-start .pre .0 .0 in
-    let then = so-far-window (at-window .window .inv) some-letter (at-if1 .if1 .taken) (at-read-back .read-back .ensures)
+    let then = so-far-window (at-window .window .inv .0) some-letter (at-if1 .if1 .taken) (at-read-back .read-back .ensures)
     (at-forward .forward .ensures) in
     omega (arith, so-far-letters then some-letter, at-start .pre .0 .1, texts-fit)
 
 window-less : tie.Need-window-less Inv-window μ-window
 window-less c =
-    let at-forward = c .before .before .before .before .before in
+    let at-forward = c .before .before .before .before .before .before in
     let at-read-back = at-forward .before .before in
     let at-if1 = at-read-back .before .before in
     let at-window = at-if1 .before .before in
-    let at-start = at-window .before .before .before .before .before .before in
-    let so-far = at-window .window .inv in
+    let at-start = at-window .before .before .before .before .before .before .before .before in
+    let so-far = at-window .window .inv .0 in
     let some-letter = at-start .pre .0 .0 in
     let within = at-if1 .if1 .taken in
     let fits = stop-fits so-far some-letter within (at-read-back .read-back .ensures) (at-forward .forward .ensures) in
@@ -103,13 +113,15 @@ window-less c =
 
 window-again : tie.Need-window-again Inv-window μ-window
 window-again c =
-    let at-forward = c .before .before .before .before .before in
+    let at-forward = c .before .before .before .before .before .before in
     let at-read-back = at-forward .before .before in
     let at-if1 = at-read-back .before .before in
     let at-window = at-if1 .before .before in
-    let at-start = at-window .before .before .before .before .before .before in
-    so-far-window (at-window .window .inv) (at-start .pre .0 .0) (at-if1 .if1 .taken) (at-read-back .read-back .ensures)
-    (at-forward .forward .ensures)
+    let at-start = at-window .before .before .before .before .before .before .before .before in (
+      so-far-window (at-window .window .inv .0) (at-start .pre .0 .0) (at-if1 .if1 .taken) (at-read-back .read-back .ensures)
+          (at-forward .forward .ensures),
+      c .rows-next .ensures,
+    )
 
 pub windows-spec : {M : Type 1} → statement M
 windows-spec = tie.close (tie.spec
@@ -127,7 +139,8 @@ windows-spec = tie.close (tie.spec
     (λ c. search needs)
     add-letters
     add-letters-2
+    (λ c κs. search needs)
     window-less
     window-again
-    (λ c. so-far-length (c .before .before .window .inv))
-    (λ c. so-far-end (c .before .before .window .inv) (c .if1 .left)))
+    (λ c. so-far-length (c .before .before .window .inv .0))
+    (λ c. so-far-end (c .before .before .window .inv .0) (c .if1 .left)))
