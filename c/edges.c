@@ -125,13 +125,14 @@ static void turbo_edges(void)
 }
 
 /* the longest word of a's and one b: its last letter climbs over every state, and does so too where the mirror is looked for, which stands in the text at a
- * place of the thread's own; the first letters of the mirror, as many as a stream's word can have, are looked for in two pieces, cut inside of the find */
+ * place of the thread's own; the first letters of the mirror, as many as a stream's word can have, are looked for in two pieces, cut inside of the find. In the
+ * longest text, zeros, a search prepares arrows on the stack, as many as it ever does */
 struct work {
     uint8_t word[MARKS_LONGEST_WORD], mirror[MARKS_LONGEST_WORD], text[TEXT], room[MARKS_LONGEST_WORD], file[MARKS_MOST_FILE];
     uint16_t tables[MARKS_MOST_TABLES];
     uint8_t searcher[MARKS_SEARCHER];
     uint32_t finds[2], turbo_finds[2], file_finds[2], stream_finds[2], said;
-    uint64_t m, length, count, turbo_count, file_count, before_cut, stream_count, letters, offset;
+    uint64_t m, length, count, turbo_count, file_count, before_cut, stream_count, letters, offset, in_zeros[3];
     size_t cut;
     uint8_t *stack;
 };
@@ -163,6 +164,10 @@ static void *deepest(void *mine)
     w->said += marks_turbo(w->mirror, MARKS_LONGEST_WORD, w->text, TEXT, w->tables, MARKS_MOST_TABLES, w->turbo_finds, 2, &w->turbo_count, &w->letters);
     w->said += marks_search_file(w->file, w->length, w->text, TEXT, w->room, MARKS_LONGEST_WORD, w->tables, MARKS_MOST_TABLES, w->file_finds, 2,
                                  &w->file_count, &w->letters, &w->offset);
+    w->said += marks_search(w->mirror, MARKS_LONGEST_WORD, long_text, MARKS_LONGEST_TEXT, w->tables, MARKS_MOST_TABLES, NULL, 0, &w->in_zeros[0], &w->letters);
+    w->said += marks_turbo(w->mirror, MARKS_LONGEST_WORD, long_text, MARKS_LONGEST_TEXT, w->tables, MARKS_MOST_TABLES, NULL, 0, &w->in_zeros[1], &w->letters);
+    w->said += marks_search_file(w->file, w->length, long_text, MARKS_LONGEST_TEXT, w->room, MARKS_LONGEST_WORD, w->tables, MARKS_MOST_TABLES, NULL, 0,
+                                 &w->in_zeros[2], &w->letters, &w->offset);
     w->said += marks_open(w->mirror, MARKS_LONGEST_STREAMED, w->searcher, MARKS_SEARCHER);
     w->said += marks_take(w->searcher, MARKS_SEARCHER, w->text, w->cut, w->stream_finds, 2, &w->before_cut);
     w->said += marks_take(w->searcher, MARKS_SEARCHER, w->text + w->cut, TEXT - w->cut, w->stream_finds, 2, &w->stream_count);
@@ -205,7 +210,8 @@ int main(void)
         printf("thread %d: %" PRIu32 ", file of %" PRIu64 " bytes, %" PRIu64 " place at %" PRIu32 ", with the file %" PRIu64 " at %" PRIu32, i, works[i].said,
                works[i].length, works[i].count, works[i].finds[0], works[i].file_count, works[i].file_finds[0]);
         printf(", by turbo %" PRIu64 " at %" PRIu32, works[i].turbo_count, works[i].turbo_finds[0]);
-        printf(", in pieces %" PRIu64 " and %" PRIu64 " at %" PRIu32 "\n", works[i].before_cut, works[i].stream_count, works[i].stream_finds[0]);
+        printf(", in pieces %" PRIu64 " and %" PRIu64 " at %" PRIu32, works[i].before_cut, works[i].stream_count, works[i].stream_finds[0]);
+        printf(", in zeros %" PRIu64 ", %" PRIu64 " and %" PRIu64 "\n", works[i].in_zeros[0], works[i].in_zeros[1], works[i].in_zeros[2]);
         most = touched(works[i].stack) > most ? touched(works[i].stack) : most;
     }
     fprintf(stderr, "edges: a thread touched at most %zu of its %zu bytes of stack\n", most, stack_size());

@@ -6,7 +6,7 @@
  * marks_take, for marks of 1 to 64 bytes, and c/pieces.c.
  *
  * Which search: marks_turbo where strangers choose the text or the mark, as it reads no more than two letters for each letter of the text. marks_search
- * where you know both, as it is a little quicker on most texts, but may read m letters for each of a hostile one.
+ * where you know both, as it is quicker on most texts, where letters are many up to five times, but may read m letters for each of a hostile one.
  *
  * Any bytes and any lengths may be handed to every entry. It returns MARKS_OK and writes its answers through the last pointers; or it refuses: it returns
  * the number of the first refusal in the order given below, and leaves those pointers alone, but for an offset, which only a refusal writes. What is not
@@ -14,7 +14,8 @@
  * of this.
  *
  * There is no state and no heap. Calls on buffers of their own may run at the same time from many threads; what is only read may be shared. A call takes
- * less than 64 KiB of stack. The archive needs memset and memcpy of the C library and nothing else.
+ * less than 64 KiB of stack, and the most that was seen is 53 KiB, of a search in a long text. The archive needs memset and memcpy of the C library and nothing
+ * else.
  *
  * Wrong use, which no entry can see and of which nothing is promised:
  *   - a pointer and a length that do not describe memory of the caller's, so many elements long, which nobody else changes during the call

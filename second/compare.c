@@ -469,11 +469,27 @@ static void mirror(const uint8_t *word, size_t m, uint8_t *out)
 /* the letters in use: a few bytes by chance, or all */
 static uint8_t palette[256];
 
+static void set_palette(unsigned letters, uint8_t first, uint8_t step)
+{
+    for (unsigned i = 0; i < 256; i++)
+        palette[i] = letters == 256 ? (uint8_t)i : (uint8_t)(first + (i % letters) * step);
+}
+
 static void choose_palette(unsigned letters)
 {
     uint8_t first = (uint8_t)chance(), step = (uint8_t)(2 * chance() + 1);
-    for (unsigned i = 0; i < 256; i++)
-        palette[i] = letters == 256 ? (uint8_t)i : (uint8_t)(first + (i % letters) * step);
+    set_palette(letters, first, step);
+}
+
+/* as above, or with the letters 0 and 255, or of up to 20 letters that differ in their high bits alone */
+static void choose_wide_palette(unsigned letters)
+{
+    switch (below(4)) {
+    case 0: set_palette(letters, 0, 255); break;
+    case 1: set_palette(letters, 255, 1); break;
+    case 2: set_palette(letters, (uint8_t)chance(), letters <= 2 ? 128 : letters <= 4 ? 64 : 8); break;
+    default: choose_palette(letters);
+    }
 }
 
 enum kind { RANDOM, PERIODIC, FIBONACCI, ONE_LETTER, BROKEN, DOUBLED, KINDS };
@@ -2148,6 +2164,170 @@ static void random_files(void)
         random_file();
 }
 
+/* ---- long texts, and those that are just not long ---- */
+
+static uint8_t long_text[MOST_TEXT];
+
+static const unsigned wide_alphabets[] = {1, 2, 3, 4, 20, 256};
+
+/* the kinds of words: those of make_word(), those of make_hostile() over the palette that are no such kind, and letters of which none is
+   there twice, as far as there are so many */
+enum { DISTINCT = KINDS + OF_FIBONACCI - FIRST_B, WORD_KINDS };
+
+static void make_any_word(uint8_t *word, size_t m, unsigned kind)
+{
+    uint8_t first = (uint8_t)chance(), step = (uint8_t)(2 * chance() + 1);
+    if (kind < KINDS) {
+        make_word(word, m, (enum kind)kind);
+        return;
+    }
+    if (kind < DISTINCT)
+        make_hostile(word, m, (enum hostile)(kind - KINDS + FIRST_B));
+    for (size_t i = 0; i < m; i++)
+        word[i] = kind == DISTINCT ? (uint8_t)(first + i * step) : palette[word[i] - 'a'];
+}
+
+/* letters that the word does not have, one of them or all; where it has them all, its first */
+static void put_strangers(uint8_t *out, size_t len, const uint8_t *word, size_t m)
+{
+    uint8_t strangers[256] = {word[0]};
+    size_t many = 0;
+    for (int letter = 0; letter < 256; letter++)
+        if (memchr(word, letter, m) == NULL)
+            strangers[many++] = (uint8_t)letter;
+    size_t one = below(many), all = below(2);
+    for (size_t i = 0; i < len; i++)
+        out[i] = strangers[all ? below(many) : one];
+}
+
+/* the word over and over, overlapping or not, with a letter changed here and there, mostly in one bit */
+static void put_changed(uint8_t *out, size_t len, const uint8_t *word, size_t m)
+{
+    make_own_text(out, len, word, m, below(2) ? WHOLE : OVERLAPPING);
+    for (size_t at = below(2 * m); at < len; at += 1 + below(4 * m))
+        out[at] = below(3) ? out[at] ^ (uint8_t)(1 << below(8)) : palette[below(256)];
+}
+
+/* a letter of the word over and over, and another one after about as many as the word has, so that a window's reading ends late */
+static void put_runs(uint8_t *out, size_t len, const uint8_t *word, size_t m)
+{
+    uint8_t often = word[below(m)], seldom = below(2) ? word[below(m)] : palette[below(256)];
+    size_t gap = m + below(3), same = below(2);
+    memset(out, often, len);
+    for (size_t at = below(gap); at < len; at += same ? gap : 1 + below(2 * m))
+        out[at] = seldom;
+}
+
+/* the kinds of stretches: those of make_word(), those of make_own_text(), and these */
+enum { STRANGERS_ALONE = KINDS + OWNS, CHANGED, PIECES, RUNS, STRETCHES };
+
+static void put_stretch(uint8_t *out, size_t len, const uint8_t *word, size_t m, unsigned kind)
+{
+    if (kind < KINDS)
+        make_word(out, len, (enum kind)kind);
+    else if (kind < STRANGERS_ALONE)
+        make_own_text(out, len, word, m, (enum own)(kind - KINDS));
+    else
+        (kind == STRANGERS_ALONE ? put_strangers : kind == CHANGED ? put_changed : kind == PIECES ? put_pieces : put_runs)(out, len, word, m);
+}
+
+/* stretches of all kinds, from shorter than the word to much longer, so that short and deep readings of windows follow each other */
+static void put_stretches(uint8_t *out, size_t n, const uint8_t *word, size_t m)
+{
+    for (size_t at = 0, len; at < n; at += len) {
+        len = 1 + (below(2) ? below(3 * m) : some_length(n / 4));
+        len = len < n - at ? len : n - at;
+        put_stretch(out + at, len, word, m, (unsigned)below(STRETCHES));
+    }
+}
+
+/* For a word of many letters: over letters that are read shortly, some copies of the word, whole or with a bit changed, and some
+   stretches. Each letter of a stretch may be read m times, so they are bounded. */
+static void put_strewn(uint8_t *out, size_t n, const uint8_t *word, size_t m)
+{
+    put_stretch(out, n, word, m, below(2) && palette[0] != palette[1] ? RANDOM : STRANGERS_ALONE);
+    for (size_t copies = below(n / m / 4); copies > 0; copies--) {
+        size_t at = below(n - m + 1);
+        memcpy(out + at, word, m);
+        if (below(3) == 0)
+            out[at + below(m)] ^= (uint8_t)(1 << below(8));
+    }
+    for (size_t left = m + (1 << 22) / m, len; left > 0; left -= len) {
+        len = 1 + below(left < 3 * m ? left : 3 * m);
+        put_stretch(out + below(n - len + 1), len, word, m, (unsigned)below(STRETCHES));
+    }
+}
+
+/* all of one kind, or of stretches; often with the word at either end, or cut by the text's end */
+static void make_long_text(uint8_t *text, size_t n, const uint8_t *word, size_t m, unsigned kind)
+{
+    if (m > 64)
+        put_strewn(text, n, word, m);
+    else if (kind < STRETCHES)
+        put_stretch(text, n, word, m, kind);
+    else
+        put_stretches(text, n, word, m);
+    if (below(3) == 0)
+        memcpy(text, word, m);
+    size_t at_end = below(3) == 0 ? 0 : below(2) ? m : below(m);
+    memcpy(text + n - at_end, word, at_end);
+}
+
+static void search_long_text(size_t m, size_t n, unsigned letters, unsigned kind)
+{
+    static uint8_t word[MOST_LETTERS];
+    choose_wide_palette(letters);
+    make_any_word(word, m, (unsigned)below(WORD_KINDS));
+    make_long_text(long_text, n, word, m, kind);
+    (below(8) ? each_search : every_list)(word, m, long_text, n);
+}
+
+/* one fewer than a long text has, just so many, one more; a few more, up to twice as many; and where it would be long if short words
+   were treated as the others */
+enum { NEARS = 6 };
+
+static size_t near_long(size_t m, unsigned near)
+{
+    size_t from = long_from(m);
+    return near < 3 ? from - 1 + near : near == 3 ? from + below(2 * m) : near == 4 ? from + below(from) : 512 * m - 1 + below(3);
+}
+
+static void long_texts(void)
+{
+    static const size_t longer[] = {17, 18, 20, 33, 64}, many[] = {65, 100, 127, 128, 129, 255, 256, 257, 1024, MOST_LETTERS};
+    for (unsigned c = 0; c < 6 * (STRETCHES + 1) * NEARS; c++) {
+        unsigned letters = wide_alphabets[c % 6], kind = c / 6 % (STRETCHES + 1), near = c / 6 / (STRETCHES + 1);
+        for (size_t m = 1; m <= 16; m++)
+            search_long_text(m, near_long(m, near), letters, kind);
+    }
+    for (size_t l = 0; l < sizeof longer / sizeof *longer; l++)
+        for (unsigned c = 0; c < 3 * (STRETCHES + 1) * NEARS; c++)
+            search_long_text(longer[l], near_long(longer[l], c % NEARS), wide_alphabets[below(6)], c / NEARS % (STRETCHES + 1));
+    for (size_t l = 0; l < sizeof many / sizeof *many; l++)
+        for (unsigned c = 0; c < (many[l] < 1000 ? 24 : 3); c++)
+            search_long_text(many[l], near_long(many[l], c % 3), wide_alphabets[below(6)], STRETCHES);
+    for (size_t l = 0; l < 45; l++)
+        search_long_text(2 + l % 15, 65535 + below(3) + below(2) * below(200000), wide_alphabets[below(6)], STRETCHES);
+}
+
+/* the longest texts, and words of more letters in texts all of one kind, where every letter may be read m times */
+static void longest_texts(void)
+{
+    static const size_t longer[] = {17, 64, 256, 1024, MOST_LETTERS};
+    static uint8_t word[MOST_LETTERS];
+    for (size_t m = 2; m <= 16; m++)
+        search_long_text(m, MOST_TEXT - below(2), wide_alphabets[below(6)], STRETCHES);
+    for (size_t l = 0; l < sizeof longer / sizeof *longer; l++)
+        search_long_text(longer[l], MOST_TEXT - below(2), wide_alphabets[below(6)], STRETCHES);
+    for (unsigned kind = 0; kind < STRETCHES; kind++) {
+        size_t m = 65 + below(192), n = near_long(m, kind % 3);
+        choose_wide_palette(wide_alphabets[below(6)]);
+        make_any_word(word, m, (unsigned)below(WORD_KINDS));
+        put_stretch(long_text, n, word, m, kind);
+        each_search(word, m, long_text, n);
+    }
+}
+
 /* ---- texts at the limit and one past it ---- */
 
 static void texts_at_the_limit(void)
@@ -2362,21 +2542,12 @@ static void mixed_stream(void)
     }
 }
 
-static void mixed_case(void)
+/* a word, or its file, damaged or not, and a text; rooms, list and what stands in them by chance */
+static void ask_mixed(enum entry entry, const uint8_t *word, size_t m, const uint8_t *text, size_t n)
 {
-    static uint8_t word[MOST_LETTERS + 8], mirrored[MOST_LETTERS], file[MOST_FILE], text[4 * MOST_LETTERS];
-    static const unsigned alphabets[] = {2, 2, 3, 4, 256};
-    enum entry entry = (enum entry)below(OPEN); /* the entries over whole texts */
-    bool for_file = entry == SAVE || reads_file(entry);
-    size_t m = some_word_length(for_file), n = some_length(below(8) ? 600 : sizeof text);
-    if (m > 600 && below(2))
-        n = m + some_length(sizeof text - m);
-    choose_palette(alphabets[below(5)]);
-    make_word(word, m, (enum kind)below(KINDS));
-    mirror(word, m, mirrored);
-    make_text(text, n, entry == SEARCH_FILE ? mirrored : word, m, (unsigned)below(1000));
+    static uint8_t file[MOST_FILE];
     struct asked a = ask(entry, word, m, m);
-    size_t size = for_file ? file_of(word, m, file) : 0;
+    size_t size = entry == SAVE || reads_file(entry) ? file_of(word, m, file) : 0;
     a.text = text;
     a.len[TEXT] = n;
     a.len[TABLES] = some_room(entries(m));
@@ -2392,6 +2563,34 @@ static void mixed_case(void)
         a.len[INPUT] = damage_some(file, size);
     }
     compare(&a);
+}
+
+static void mixed_case(void)
+{
+    static uint8_t word[MOST_LETTERS + 8], mirrored[MOST_LETTERS], text[4 * MOST_LETTERS];
+    static const unsigned alphabets[] = {2, 2, 3, 4, 256};
+    enum entry entry = (enum entry)below(OPEN); /* the entries over whole texts */
+    size_t m = some_word_length(entry == SAVE || reads_file(entry)), n = some_length(below(8) ? 600 : sizeof text);
+    if (m > 600 && below(2))
+        n = m + some_length(sizeof text - m);
+    choose_palette(alphabets[below(5)]);
+    make_word(word, m, (enum kind)below(KINDS));
+    mirror(word, m, mirrored);
+    make_text(text, n, entry == SEARCH_FILE ? mirrored : word, m, (unsigned)below(1000));
+    ask_mixed(entry, word, m, text, n);
+}
+
+/* a search in a text that is long, or not quite */
+static void mixed_long_case(void)
+{
+    uint8_t word[MOST_LETTERS], mirrored[MOST_LETTERS];
+    enum entry entry = (enum entry)(SEARCH + below(3));
+    size_t m = 1 + (below(8) ? below(16) : below(20) ? below(64) : below(300)), n = near_long(m, (unsigned)below(NEARS));
+    choose_wide_palette(wide_alphabets[below(6)]);
+    make_any_word(word, m, (unsigned)below(WORD_KINDS));
+    mirror(word, m, mirrored);
+    make_long_text(long_text, n, entry == SEARCH_FILE ? mirrored : word, m, (unsigned)below(STRETCHES + 1));
+    ask_mixed(entry, word, m, long_text, n);
 }
 
 /* ---- the run ---- */
@@ -2423,6 +2622,12 @@ static void mixed_cases(void)
     }
 }
 
+static void mixed_long_cases(void)
+{
+    for (int i = 0; i < 20000; i++)
+        mixed_long_case();
+}
+
 static double until;
 
 static void more_mixed_cases(void)
@@ -2431,6 +2636,8 @@ static void more_mixed_cases(void)
         for (int i = 0; i < 100; i++) {
             mixed_case();
             mixed_stream();
+            if (i % 10 == 0)
+                mixed_long_case();
         }
 }
 
@@ -2506,11 +2713,14 @@ static void all_parts(bool costly)
     part("texts of the most bytes and of one more", texts_at_the_limit);
     part("slices of more than 4,294,967,296 elements", vast_slices);
     part("all of it mixed", mixed_cases);
+    part("long texts, and those that are just not long: the searches", long_texts);
+    part("searches in long texts mixed", mixed_long_cases);
     if (costly) {
         part("damaged files of the most letters, of half as many, and of 1,025", long_damaged_files);
         part("every text of 12 letters over 2 cut in every way, words of 1 to 3", every_text_of_12_cut);
         part("words of 1 to 8 letters over 2 in every text of up to 14, of 1 to 5 over 3 in every one of up to 9: turbo", longer_texts_turbo);
         part("words of the most letters and texts of the most bytes, by strangers: turbo", longest_hostiles);
+        part("words of 2 to 16 letters, and longer ones, in long texts up to the most bytes", longest_texts);
         part("300 a's in the longest text, of a's alone", hostile_text);
         part("4,096 a's in a text of 2,097,152 a's", hostile_word);
     }

@@ -187,7 +187,8 @@ static void call_both(const struct asked *a)
 
 /* ---- from the fuzzer's bytes to a call ---- */
 
-/* the head: which call; flags; choices of tables, word room, output or searcher, and list; length of word, file or searcher, two bytes */
+/* the head: which call; flags; choices of tables, word room, output or searcher or a long text's length, and list; length of word, file or
+   searcher, two bytes */
 enum { WHICH, FLAGS, TABLES_CHOICE, ROOM_CHOICE, OUT_CHOICE, LIST, INPUT_LOW, INPUT_HIGH, HEAD };
 
 /* the calls: eight entries on what is there; two on the file of a word, and one on the searcher of a word, changed at a few places */
@@ -309,6 +310,23 @@ static size_t understand_input(const uint8_t *data, size_t size, unsigned call, 
     return m;
 }
 
+/* flags that ask for a long text */
+enum { STRETCHED = 0x0C };
+
+/* The fuzzer's text over and over, until it is long for the word, or all but a letter, or longer by up to 254. It stays as it is where it
+   is empty or so long already, or where the room is too small. */
+static void stretch_text(struct asked *a, size_t m, uint8_t choice)
+{
+    static uint8_t text[ROOM_BYTES];
+    size_t own = a->len[TEXT], n = long_from(m) - 1 + (choice + 1u) % 256;
+    if (own == 0 || own >= n || n > ROOM_BYTES)
+        return;
+    for (size_t i = 0; i < n; i++)
+        text[i] = a->content[TEXT][i % own];
+    a->content[TEXT] = text;
+    a->len[TEXT] = n;
+}
+
 static void understand(const uint8_t *data, size_t size, struct asked *a)
 {
     static uint8_t file[MOST_FILE];
@@ -327,6 +345,8 @@ static void understand(const uint8_t *data, size_t size, struct asked *a)
     a->fill = data[FLAGS];
     a->front = data[FLAGS] & 1;
     a->nulls = data[FLAGS] & 2;
+    if ((data[FLAGS] & STRETCHED) == STRETCHED && (a->entry == SEARCH || a->entry == TURBO || a->entry == SEARCH_FILE))
+        stretch_text(a, m, data[OUT_CHOICE]);
     a->whole = (data[FLAGS] & 0xF0) == 0xF0 && (lent_slices[a->entry] & 1 << TEXT);
     if (a->whole)
         a->len[TEXT] = MOST_TEXT + 1;
@@ -547,6 +567,27 @@ static void seed_hostile(size_t m)
     }
 }
 
+/* a word in long texts: in itself, and in a text that changes from a's to other letters, the word, its beginning and a Fibonacci text */
+static void seed_stretched(size_t m)
+{
+    uint8_t word[MOST_LETTERS], mirrored[MOST_LETTERS], file[MOST_FILE], text[8 * MOST_LETTERS];
+    for (unsigned kind = 0; kind < 5; kind++) {
+        make_hostile(word, m, kind);
+        for (size_t i = 0; i < m; i++)
+            mirrored[i] = word[m - 1 - i];
+        memset(text, 'a', 2 * m);
+        memset(text + 2 * m, 'c', m + 1);
+        memcpy(text + 3 * m + 1, word, m);
+        memcpy(text + 4 * m + 1, word, m - 1);
+        make_hostile(text + 5 * m, 3 * m, 4);
+        seed(SEARCH, STRETCHED, word, m, text, 8 * m);
+        seed(TURBO, STRETCHED + 1, word, m, text, 8 * m);
+        seed(SEARCH_FILE, STRETCHED, file, file_of(mirrored, m, file), text, 8 * m);
+        seed(SEARCH, STRETCHED + 1, word, m, word, m);
+        seed(TURBO, STRETCHED, word, m, word, m);
+    }
+}
+
 static void seed_hex(const char *hex)
 {
     uint8_t file[64];
@@ -635,7 +676,7 @@ static void write_seeds(void)
     static const size_t lengths[] = {16, 64, 65, 127, 128, 129, 300, 1024, 1025, MOST_LETTERS - 1, MOST_LETTERS, MOST_LETTERS + 1};
     static const size_t periodic[][2] = {{1, 1}, {3, 1}, {3, 2}, {4, 4}, {7, 3}, {8, 5}, {64, 8}, {256, 64}, {MOST_LETTERS, 2},
                                          {MOST_LETTERS, MOST_LETTERS / 2}};
-    static const size_t hostile[] = {1, 2, 3, 4, 5, 8, 13, 64, 256, MOST_LETTERS};
+    static const size_t hostile[] = {1, 2, 3, 4, 5, 8, 13, 64, 256, MOST_LETTERS}, stretched[] = {2, 3, 4, 5, 7, 8, 13, 16, 17, 20, 33, 64};
     uint8_t word[MOST_LETTERS + 1];
     uint32_t state = 1;
     for (size_t i = 0; i < sizeof words / sizeof *words; i++)
@@ -648,6 +689,8 @@ static void write_seeds(void)
         seed_periodic(periodic[i][0], periodic[i][1]);
     for (size_t i = 0; i < sizeof hostile / sizeof *hostile; i++)
         seed_hostile(hostile[i]);
+    for (size_t i = 0; i < sizeof stretched / sizeof *stretched; i++)
+        seed_stretched(stretched[i]);
     for (size_t l = 0; l < sizeof lengths / sizeof *lengths; l++)
         for (unsigned kind = 0; kind < (lengths[l] <= 300 || lengths[l] == MOST_LETTERS ? 4 : 1); kind++) {
             for (size_t i = 0; i < lengths[l]; i++) {

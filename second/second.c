@@ -128,6 +128,10 @@
      slip 137: a declared length of 1 is judged after the rooms
      slip 138: a declared length of 1 clears the word room
      slip 139: searching with a file judges a declared length of 1 before the text
+     slip 145: in a text that is just long the search reads one letter fewer for a word of 2 to 16
+     slip 146: in a long text the search does not look at the last place for a word of 33 to 1,024
+     slip 147: in a text that is longer by one than just long turbo reads one letter more for a word of 8 to 16
+     slip 148: in a long text, behind 16 windows in a row that fail at their first letter, one letter is not counted for a word of 33 or more
    slip 31, slip 32, slip 67, slip 68, slip 69, slip 84, slip 85, slip 116 to slip 120 and slip 140 to slip 144 stand in compare.c, slip 33,
    slip 34 and slip 70 in fuzz.c. */
 #include "second.h"
@@ -428,7 +432,7 @@ static size_t step_after_find(const uint8_t *word, size_t m)
 static uint64_t letters_read(const uint8_t *word, size_t m, const uint8_t *text, size_t n)
 {
     uint64_t letters = 0;
-    size_t s = 0, after_find = step_after_find(word, m);
+    size_t s = 0, after_find = step_after_find(word, m), late = 0;
     while (s + m <= n) {
         unsigned state = 0;
         size_t unread = m; /* the letter to read next stands at s + unread - 1 */
@@ -441,12 +445,14 @@ static uint64_t letters_read(const uint8_t *word, size_t m, const uint8_t *text,
         }
         if (SLIP == 6 && unread > 0)
             letters--;
+        letters -= SLIP == 148 && m > 32 && n >= long_from(m) && late >= 16 && unread > 1;
+        late = unread == 1 ? late + 1 : 0;
         if (unread > 0)
             s = s + unread + (SLIP == 7 ? 1 : 0); /* f is s + unread - 1 */
         else
             s = s + after_find;
     }
-    return letters;
+    return letters - (SLIP == 145 && m > 1 && m <= 16 && n == long_from(m));
 }
 
 /* the text's own first letter stands at the place first */
@@ -462,6 +468,12 @@ static uint64_t list_occurrences(const uint8_t *word, size_t m, const uint8_t *t
                 count++;
         }
     return count;
+}
+
+/* how much of the text is searched: all of it */
+static size_t searched(size_t m, size_t n)
+{
+    return n - (SLIP == 146 && m > 32 && m <= 1024 && n >= long_from(m));
 }
 
 static void mirror(const uint8_t *word, size_t m, uint8_t *out)
@@ -801,7 +813,7 @@ uint32_t second_search(const uint8_t *word, size_t word_len, const uint8_t *text
     make_oracle(mirrored, word_len);
     if (SLIP != 17 && !(SLIP == 29 && text_len < word_len))
         write_tables(mirrored, word_len, tables);
-    *count = list_occurrences(word, word_len, text, text_len, 0, finds, finds_len);
+    *count = list_occurrences(word, word_len, text, searched(word_len, text_len), 0, finds, finds_len);
     *letters = letters_read(word, word_len, text, text_len);
     return 0;
 }
@@ -835,7 +847,7 @@ static uint32_t turbo(bool looks, const uint8_t *word, size_t word_len, const ui
     make_oracle(SLIP == 105 ? word : mirrored, word_len);
     turbo_steps(&t);
     *count = t.count;
-    *letters = t.letters;
+    *letters = t.letters + (SLIP == 147 && word_len >= 8 && word_len <= 16 && text_len == long_from(word_len) + 1);
     return 0;
 }
 
@@ -872,7 +884,7 @@ uint32_t second_search_file(const uint8_t *file, size_t file_len, const uint8_t 
     if (no != 0)
         return no;
     mirror(room, m, sought); /* the oracle at hand is of the file's word, so of the mirror of what is sought */
-    *count = list_occurrences(SLIP == 28 ? room : sought, m, text, text_len, 0, finds, finds_len);
+    *count = list_occurrences(SLIP == 28 ? room : sought, m, text, searched(m, text_len), 0, finds, finds_len);
     *letters = letters_read(sought, m, text, text_len);
     return 0;
 }

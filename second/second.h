@@ -26,6 +26,13 @@ enum {
    borders, as second_turbo_carried always does. The two must agree. */
 enum { MOST_LOOKED_FOR = 1 << 22 };
 
+/* From how many letters on a text is long for a word of m letters: the library takes another way there, with the same answers. Only cases
+   and mistakes on purpose look at this. */
+static inline size_t long_from(size_t m)
+{
+    return m > 16 ? 512 * m : 8192;
+}
+
 /* Where a searcher has the word's letters, the longest border of each of the word's beginnings, how many letters the word has, how many
    of them are kept, and how many bytes were taken, low byte first. Kept is the longest beginning of the word, short of all of it, that
    ends with the last byte taken. */

@@ -92,6 +92,12 @@ static void random_texts(unsigned letters)
         word = text + 100;
         race(head, lengths[i], 1024);
     }
+    static const size_t short_texts[] = {256, 4096, 65536};
+    for (size_t i = 0; i < sizeof short_texts / sizeof short_texts[0]; i++) {
+        word = text;
+        race(head, 16, short_texts[i]);
+        race(head, 256, short_texts[i]);
+    }
     for (size_t i = 0; i < sizeof lengths / sizeof lengths[0]; i++)
         race(head, lengths[i], 0);
 }
@@ -111,6 +117,7 @@ int main(void)
 {
     random_texts(2);
     random_texts(4);
+    random_texts(20);
     random_texts(256);
     periodic_texts(2);
     periodic_texts(8);

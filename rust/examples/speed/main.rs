@@ -3,6 +3,8 @@
 
 mod clock;
 mod linear;
+#[cfg(with_older)]
+mod lookup;
 mod pieces;
 mod plain;
 mod plain_forward;
@@ -164,7 +166,7 @@ fn race_line(start: String, word: &[u8], text: &[u8]) {
 
 fn search_times() {
     println!("| Alphabet | Word | {RACE} letters read |\n|---|---|---|---|---|---|---|---|");
-    for letters in [2, 4, 256] {
+    for letters in [2, 4, 20, 256] {
         let text = Random(362436069 + letters).bytes(16 << 20, letters);
         for m in [4, 16, 64, 256, 1024, LONGEST_WORD] {
             race_line(format!("| {letters} | {m} |"), &text[5_000_000..5_000_000 + m], &text);
@@ -218,10 +220,12 @@ fn periodic_times() {
 }
 
 /// The tables, each by its name.
-const TABLES: [(&str, fn()); 10] = [
+const TABLES: &[(&str, fn())] = &[
     ("build", build_times),
     ("load", load_times),
     ("search", search_times),
+    #[cfg(with_older)]
+    ("lookup", lookup::lookup_times),
     ("letters", letters_read),
     ("hostile", || linear::hostile_times(1 << 20)),
     ("hostile_long", || linear::hostile_times(16 << 20)),
@@ -236,7 +240,7 @@ fn main() -> Result<(), String> {
     if let Some(unknown) = wanted.iter().find(|name| TABLES.iter().all(|table| table.0 != *name)) {
         return Err(format!("there is no table {unknown}"));
     }
-    for (name, measure) in TABLES {
+    for &(name, measure) in TABLES {
         if wanted.is_empty() || wanted.iter().any(|one| one == name) {
             println!("<!-- begin {name} -->");
             measure();
