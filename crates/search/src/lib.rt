@@ -1,5 +1,5 @@
 // The backward search over a table: a window is read from its end, and moved to behind the first letter that has no arrow. In a long text
-// the arrows are prepared first, so that most letters cost one load. Serves the entries.
+// the arrows are prepared first, so that most are not looked for. Serves the entries.
 ghost use mathlib.Core.Path.{_≡_};
 ghost use mathlib.Core.Logic.{_≢_};
 ghost use Prim.Native.Nat.{_+_, _<_, _≤_};
