@@ -6,7 +6,7 @@
 --   Told C D x f        the entries for state x tell the arrows f
 --   Put ..              D′ is D with the arrow from x to y in it, where r says so
 --   PutState ..         D′ is D with all arrows of x in it, where r says so and D has none of x
---   Copied C D F n      of so many letters, F has the first entry of the column
+--   Copied C D F n      of so many letters, F has the first entry of the column, which is no more than the one that tells no arrow
 --   Marked P c d P′     P′ is P with the flag for d behind c, if d is a byte
 --   MarkedState ..      P′ is P with the flags behind c for all letters on which an arrow leaves x
 use mathlib.Core.Path.{_≡_}
@@ -56,6 +56,7 @@ pub record PutState (L : List ℕ) (m : ℕ) (C : List ℕ) (k : ℕ) (D : List 
 pub record Copied (C D F : List ℕ) (n : ℕ) : Type 0 where
   pub size : length F ≡ 256
   pub same : (c : Letter) → c < n → at F c ≡ at D (at C c)
+  pub small : (c : Letter) → c < n → at F c < 65536
 
 -- a flag that is set stays set
 abbrev pub FlagsKept : List ℕ → List ℕ → Type 0

@@ -3,7 +3,7 @@
 --
 --   told v                     the arrow that an entry tells: none where it is 65535, else its target
 --   spot c d                   which flag is for the letter d behind the letter c; other letters may share it
---   Firsts L m F               entry c of F tells the arrow from state 0 on c
+--   Firsts L m F               entry c of F tells the arrow from state 0 on c, and is no more than the entry that tells none
 --   Followers L m P            a flag of P that is 0 says that no arrow on d leaves the state to which c leads from state 0
 --   Rows L m C D rows          the column of letter c starts at entry c of C, and its entry x in D tells the arrow from x on c, for so many
 --                              states x; these are few enough that none is taken for the entry that tells none
@@ -28,6 +28,7 @@ spot c d = 31 * c + d
 
 pub record Firsts (L : List ℕ) (m : ℕ) (F : List ℕ) : Type 0 where
   pub size : length F ≡ 256
+  pub small : (c : Letter) → c < 256 → at F c < 65536
   pub arrows : (c : Letter) → c < 256 → told (at F c) ≡ readArrow m L 0 c
 
 pub record Followers (L : List ℕ) (m : ℕ) (P : List ℕ) : Type 0 where

@@ -167,7 +167,7 @@ fn fill(table: &[u16], m: usize, column: &[u16], rows: usize, dense: &mut [u16])
 }
 
 // The first entry of each letter's column.
-fn firsts(column: &[u16], dense: &[u16], first: &mut [u16])
+fn firsts(column: &[u16], dense: &[u16], first: &mut [u32])
     requires { ⌜ (length (now column) ≡ 256) × (length (now first) ≡ 256) ⌝ }
     requires { ⌜ ((c : ℕ) → c < 256 → at (now column) c < length (now dense)) ⌝ }
     ensures { λ _. ⌜ Copied (now (column .entry)) (now (dense .entry)) (now (first .exit)) 256 ⌝ }
@@ -175,7 +175,7 @@ fn firsts(column: &[u16], dense: &[u16], first: &mut [u16])
     let mut c = 0;
     while c < 256 {
         let start = column[c] as usize;
-        first[c] = dense[start];
+        first[c] = dense[start] as u32;
         c += 1;
     }
 }
@@ -213,7 +213,7 @@ fn mark_state(table: &[u16], m: usize, x: words::State, flags: &mut [u8], c: wor
 }
 
 // The flags behind each letter, for the state to which it leads from state 0.
-fn followers(table: &[u16], m: usize, first: &[u16], flags: &mut [u8])
+fn followers(table: &[u16], m: usize, first: &[u32], flags: &mut [u8])
     requires { ⌜ Formed (now table) m × Firsts (now table) m (now first) ⌝ }
     requires { ⌜ length (now flags) ≡ 8192 ⌝ }
     ensures { λ _. ⌜ Followers (now (table .entry)) m (now (flags .exit)) ⌝ }
@@ -226,7 +226,7 @@ fn followers(table: &[u16], m: usize, first: &[u16], flags: &mut [u8])
         if m <= (x as usize) {
             continue;
         }
-        mark_state(table, m, words::State(x), flags, c);
+        mark_state(table, m, words::State(x as u16), flags, c);
     }
 }
 
@@ -248,7 +248,7 @@ pub fn prepare_starts(
     column: &[u16],
     dense: &[u16],
     rows: usize,
-    first: &mut [u16],
+    first: &mut [u32],
     flags: &mut [u8],
 )
     requires { ⌜ Formed (now table) m × Rows (now table) m (now column) (now dense) rows × (0 < rows) ⌝ }

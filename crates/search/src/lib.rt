@@ -1,7 +1,6 @@
 // The backward search over a table: a window is read from its end, and moved to behind the first letter that has no arrow. In a long text
 // the arrows are prepared first, so that most are not looked for. Serves the entries.
 ghost use mathlib.Core.Path.{_≡_};
-ghost use mathlib.Core.Logic.{_≢_};
 ghost use Prim.Native.Nat.{_+_, _<_, _≤_};
 ghost use lib.ListN.{length, replicate};
 ghost use Rattle.table.specs.Formed.{Formed};
@@ -49,7 +48,8 @@ fn read_window(
     }
 }
 
-// The same with what is prepared for so many states; from a state beyond these on, with lookups.
+// The same with what is prepared for so many states, from the one that an entry tells; from a state beyond these on, with lookups. The
+// entry is wide so that the compiler keeps one register for it from letter to letter.
 pub fn read_on(
     table: &[u16],
     m: usize,
@@ -59,15 +59,15 @@ pub fn read_on(
     text: &[u8],
     s: words::Place,
     k: usize,
-    from: words::State,
+    from: u32,
 ) -> WindowRead
-    requires { ⌜ (s .0 + k ≤ length (now text)) × (length (now text) < 4294967295) × (from .0 ≢ 65535) ⌝ }
+    requires { ⌜ (s .0 + k ≤ length (now text)) × (length (now text) < 4294967295) × (from < 65535) ⌝ }
     requires { ⌜ Formed (now table) m × (0 < rows → Rows (now table) m (now column) (now dense) rows) ⌝ }
-    ensures { λ r. ⌜ r ≡ readingOf (readDown (readArrow m (now (table .entry))) (now (text .entry)) (s .0) k (from .0)) ⌝ }
+    ensures { λ r. ⌜ r ≡ readingOf (readDown (readArrow m (now (table .entry))) (now (text .entry)) (s .0) k from) ⌝ }
 {
     let start = s.0 as usize;
     let mut left = k;
-    let mut entry = from.0 as usize;
+    let mut entry = from as usize;
     loop {
         if rows <= entry {
             let x = entry as u16;
@@ -138,7 +138,7 @@ fn windows_prepared(
     word: &[u8],
     step: usize,
     table: &[u16],
-    first: &[u16],
+    first: &[u32],
     flags: &[u8],
     column: &[u16],
     dense: &[u16],
@@ -157,40 +157,45 @@ fn windows_prepared(
 {
     let m = word.len();
     let n = text.len();
-    let mut s = words::Place(0);
+    let mut start: usize = 0;
     let mut count: usize = 0;
     let mut letters: u64 = 0;
     // For how many states the entries are asked: for all that have some, or for none.
     let mut asked = rows;
-    'window: while (s.0 as usize) + m <= n {
-        let end = (s.0 as usize) + m;
+    'window: while start + m <= n {
+        let end = start + m;
         let c = text[end - 1] as usize;
         let x = first[c];
-        if x == prepared::NOTHING {
+        if x == prepared::NOTHING as u32 {
             letters += 1;
-            s = words::Place(end as u32);
+            start = end;
             continue 'window;
         }
         let d = text[end - 2] as usize;
         if flags[31 * c + d] == 0 {
             letters += 2;
-            s = words::Place((end - 1) as u32);
+            start = end - 1;
             continue 'window;
         }
-        let y = words::State(x);
-        let WindowRead::Failed(f) = read_on(table, m, column, dense, asked, text, s, m - 1, y)
-        else {
+        let s = words::Place(start as u32);
+        // Two calls, so that each way of reading has a loop to itself.
+        let read = if asked == 0 {
+            read_window(table, m, text, s, m - 1, words::State(x as u16))
+        } else {
+            read_on(table, m, column, dense, rows, text, s, m - 1, x)
+        };
+        let WindowRead::Failed(f) = read else {
             letters += word.len() as u64;
             // Where a word stands it often stands again.
             asked = 0;
             count = finds::note(finds, count, s);
-            s = words::Place(((s.0 as usize) + step) as u32);
+            start += step;
             continue 'window;
         };
-        let read = end - (f.0 as usize);
-        letters += read as u64;
-        asked = prepared::rows_next(32, read, rows);
-        s = words::Place(f.0 + 1);
+        let deep = end - (f.0 as usize);
+        letters += deep as u64;
+        asked = prepared::rows_next(32, deep, rows);
+        start = (f.0 as usize) + 1;
     }
     finds::Tally {
         count: count,
@@ -221,7 +226,7 @@ fn scan_long(
     if rows == 0 {
         return windows(word, step, table, text, finds);
     }
-    let mut first = [0u16; 256];
+    let mut first = [0u32; 256];
     let mut flags = [0u8; prepared::FLAGS];
     prepared::prepare_starts(
         table,

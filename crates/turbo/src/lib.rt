@@ -54,7 +54,7 @@ fn read_back(
         text,
         c,
         end - start,
-        words::State(0),
+        0,
     ) else {
         return Begin {
             place: c,

@@ -2,6 +2,7 @@
 use mathlib.Core.Path.{sym, _∙_}
 use Prim.Native.Nat.{_-_}
 use native.Mathlib.Omega.{arith}
+use mir.Facts.{fits-widen}
 use borrow.Author.Needs.{needs}
 use Rattle.prepared.proofs.Copying.{copied-start, copied-step, copied-end}
 use Rattle.prepared.specs.Filling.{Copied}
@@ -42,7 +43,7 @@ loop-again : tie.Need-loop-again Inv-loop μ-loop
 loop-again c =
     let at-loop-test = c .before .before in
     let at-loop = at-loop-test .before in
-    copied-step (at-loop .loop .inv) (at-loop-test .loop-test .taken)
+    copied-step (at-loop .loop .inv) (at-loop-test .loop-test .taken) (c .shared-slice-known2 .given _ .fits)
 
 same-length : tie.Need-same-length Inv-loop μ-loop
 same-length c =
@@ -63,7 +64,7 @@ firsts-spec = tie.close (tie.spec
     cast-start
     mul-first
     shared-slice-read-first
-    (λ c. search needs)
+    (λ c. fits-widen tt (c .shared-slice-known2 .given _)) (λ c. search needs)
     slice-write-first
     (λ c. search needs) (λ c. search needs)
     loop-again

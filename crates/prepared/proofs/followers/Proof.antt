@@ -35,6 +35,12 @@ loop-again c =
     let at-start = at-loop .before .before .before .before in
     following-none (at-start .pre .0 .1) (at-loop-test .loop-test .taken) (at-loop .loop .inv) (c .if1 .taken)
 
+cast-t14 : tie.Need-cast-t14 Inv-loop μ-loop
+cast-t14 c =
+    let at-loop = c .before .before .before in
+    let at-start = at-loop .before .before .before .before in
+    omega (arith, c .if1 .left, at-start .pre .0 .0 .small)
+
 mark-state-requires : tie.Need-mark-state-requires Inv-loop μ-loop
 mark-state-requires c κs =
     let at-if1 = c .before in
@@ -72,6 +78,7 @@ followers-spec = tie.close (tie.spec
     cast-if1
     (λ c. search needs)
     loop-again
+    cast-t14
     mark-state-requires
     (λ c. search needs)
     loop-again-2

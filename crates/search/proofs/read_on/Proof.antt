@@ -11,20 +11,16 @@ use Rattle.search.proofs.read_on.Statement.{statement}
 use Rattle.search.proofs.read_on.Tie as tie
 
 abbrev Inv-loop : tie.InvT-loop
-Inv-loop table m column dense rows text s k start left₀ entry₀ left entry = EntryRead (readArrow m table) text start k entry₀ left entry
+Inv-loop table m column dense rows text s k from start left₀ entry₀ left entry =
+    EntryRead (readArrow m table) text start k entry₀ left entry
 
 abbrev μ-loop : tie.MeasureT-loop
-μ-loop table m column dense rows text s k start left₀ entry₀ left entry = left
-
-cast-entry : tie.Need-cast-entry Inv-loop μ-loop
-cast-entry c =
-    let at-start = c .before .before .before .before .before .before in
-    omega (arith, at-start .pre .0 .1)
+μ-loop table m column dense rows text s k from start left₀ entry₀ left entry = left
 
 loop-holds : tie.Need-loop-holds Inv-loop μ-loop
 loop-holds c =
-    let at-start = c .before .before .before .before .before .before in
-    entry-start (omega (arith, at-start .pre .0 .1)) (at-start .pre .0 .2)
+    let at-start = c .before .before .before .before .before in
+    entry-start (omega (arith, at-start .pre .0 .2)) (λ q. omega (arith, at-start .pre .0 .2))
 
 cast-x : tie.Need-cast-x Inv-loop μ-loop
 cast-x c =
@@ -34,38 +30,38 @@ cast-x c =
 add-f : tie.Need-add-f Inv-loop μ-loop
 add-f c =
     let at-loop = c .before .before in
-    let at-start = at-loop .before .before .before .before .before .before .before in
+    let at-start = at-loop .before .before .before .before .before .before in
     omega (arith, at-loop .loop .inv .within, at-start .pre .0 .0, at-start .pre .0 .1)
 
 cast-f : tie.Need-cast-f Inv-loop μ-loop
 cast-f c =
     let at-loop = c .before .before in
-    let at-start = at-loop .before .before .before .before .before .before .before in
+    let at-start = at-loop .before .before .before .before .before .before in
     omega (arith, at-loop .loop .inv .within, at-start .pre .0 .0, at-start .pre .0 .1)
 
 read-window-requires : tie.Need-read-window-requires Inv-loop μ-loop
 read-window-requires c κs =
     let at-loop = c .before .before in
-    let at-start = at-loop .before .before .before .before .before .before .before in
+    let at-start = at-loop .before .before .before .before .before .before in
     ((omega (arith, at-loop .loop .inv .within, at-start .pre .0 .0), at-start .pre .0 .1), at-start .pre .1 .0)
 
 add-c : tie.Need-add-c Inv-loop μ-loop
 add-c c =
     let at-loop = c .before .before in
-    let at-start = at-loop .before .before .before .before .before .before .before in
+    let at-start = at-loop .before .before .before .before .before .before in
     omega (arith, at-loop .loop .inv .within, at-start .pre .0 .0, at-start .pre .0 .1)
 
 shared-slice-read-c : tie.Need-shared-slice-read-c Inv-loop μ-loop
 shared-slice-read-c c =
     let at-loop = c .before .before .before in
-    let at-start = at-loop .before .before .before .before .before .before .before in
+    let at-start = at-loop .before .before .before .before .before .before in
     omega (arith, at-loop .loop .inv .within, at-start .pre .0 .0)
 
 shared-slice-read-top : tie.Need-shared-slice-read-top Inv-loop μ-loop
 shared-slice-read-top c =
     let at-shared-slice-known5 = c .before in
     let at-if1 = at-shared-slice-known5 .before .before in
-    let at-start = at-if1 .before .before .before .before .before .before .before .before in
+    let at-start = at-if1 .before .before .before .before .before .before .before in
     let rows = at-start .pre .1 .1 (omega (arith, at-if1 .if1 .left)) in
     rw (rows .size) (at-shared-slice-known5 .shared-slice-known5 .given _ .fits)
 
@@ -74,7 +70,7 @@ add-y c =
     let at-shared-slice-known5 = c .before in
     let at-if1 = at-shared-slice-known5 .before .before in
     let at-loop = at-if1 .before in
-    let at-start = at-loop .before .before .before .before .before .before .before in
+    let at-start = at-loop .before .before .before .before .before .before in
     let rows = at-start .pre .1 .1 (omega (arith, at-if1 .if1 .left)) in
     let byte = at-shared-slice-known5 .shared-slice-known5 .given (at-start .args .s .0 + (at-loop .loop .left - 1)) .fits in
     omega (arith, rows .inside (at-loop .loop .entry) (at-if1 .if1 .left) _ byte)
@@ -84,7 +80,7 @@ mul-y c =
     let at-shared-slice-known5 = c .before in
     let at-if1 = at-shared-slice-known5 .before .before in
     let at-loop = at-if1 .before in
-    let at-start = at-loop .before .before .before .before .before .before .before in
+    let at-start = at-loop .before .before .before .before .before .before in
     let rows = at-start .pre .1 .1 (omega (arith, at-if1 .if1 .left)) in
     let byte = at-shared-slice-known5 .shared-slice-known5 .given (at-start .args .s .0 + (at-loop .loop .left - 1)) .fits in
     search (needs, rows .inside (at-loop .loop .entry) (at-if1 .if1 .left) _ byte)
@@ -93,7 +89,7 @@ shared-slice-read-y : tie.Need-shared-slice-read-y Inv-loop μ-loop
 shared-slice-read-y c =
     let at-shared-slice-known5 = c .before .before in
     let at-if1 = at-shared-slice-known5 .before .before in
-    let at-start = at-if1 .before .before .before .before .before .before .before .before in
+    let at-start = at-if1 .before .before .before .before .before .before .before in
     let rows = at-start .pre .1 .1 (omega (arith, at-if1 .if1 .left)) in
     rows .inside _ (at-if1 .if1 .left) _ (at-shared-slice-known5 .shared-slice-known5 .given _ .fits)
 
@@ -103,7 +99,7 @@ loop-again c =
     let at-if3 = at-shared-slice-known5 .before in
     let at-if1 = at-if3 .before in
     let at-loop = at-if1 .before in
-    let at-start = at-loop .before .before .before .before .before .before .before in
+    let at-start = at-loop .before .before .before .before .before .before in
     let rows = at-start .pre .1 .1 (omega (arith, at-if1 .if1 .left)) in
     let tells = rows .arrows _ (at-if1 .if1 .left) _ (at-shared-slice-known5 .shared-slice-known5 .given _ .fits) in
     entry-next (at-loop .loop .inv .goes (λ z. omega (arith, rows .few, at-if1 .if1 .left))) (λ z. omega (arith, at-if3 .if3 .left))
@@ -124,7 +120,7 @@ returns-3 : tie.Need-returns-3 Inv-loop μ-loop
 returns-3 c =
     let at-if1 = c .before in
     let at-loop = at-if1 .before in
-    let at-start = at-loop .before .before .before .before .before .before .before in
+    let at-start = at-loop .before .before .before .before .before .before in
     let rows = at-start .pre .1 .1 (omega (arith, at-if1 .if1 .left)) in
     none-to-read (at-loop .loop .inv .goes (λ z. omega (arith, rows .few, at-if1 .if1 .left))) (omega (arith, c .if3 .taken))
 
@@ -133,7 +129,6 @@ read-on-spec = tie.close (tie.spec
     Inv-loop
     μ-loop
     (λ c. search needs)
-    cast-entry
     loop-holds
     cast-x
     add-f

@@ -10,7 +10,7 @@ read-on-requires : tie.Need-read-on-requires
 read-on-requires c κs =
     let at-start = c .before .before .before .before .before in
     let fits = at-start .pre .0 in
-    ((omega (arith, fits .0, fits .1), omega (arith, fits .2, texts-fit), λ z. omega arith), at-start .pre .1)
+    ((omega (arith, fits .0, fits .1), omega (arith, fits .2, texts-fit), omega arith), at-start .pre .1)
 
 returns : tie.Need-returns
 returns c =
@@ -18,16 +18,16 @@ returns c =
     let at-start = at-read .before .before .before .before .before .before in
     begins-whole _ _ (at-start .pre .0 .0) _ (at-read .read-on .ensures) (c .enum-told .given .1)
 
-add-t16 : tie.Need-add-t16
-add-t16 c =
+add-t15 : tie.Need-add-t15
+add-t15 c =
     let at-f = c .before .before in
     let at-read = at-f .before .before in
     let at-start = at-read .before .before .before .before .before .before in
     let past = failed-before _ _ (at-start .pre .0 .0) 0 (at-read .read-on .ensures) (at-f .f .given .1) in
     omega (arith, past, at-start .pre .0 .1, at-start .pre .0 .2, texts-fit)
 
-sub-t18 : tie.Need-sub-t18
-sub-t18 c =
+sub-t17 : tie.Need-sub-t17
+sub-t17 c =
     let at-f = c .before .before .before in
     let at-read = at-f .before .before in
     let at-start = at-read .before .before .before .before .before .before in
@@ -46,7 +46,7 @@ read-back-spec = tie.close (tie.spec
     read-on-requires
     (λ c. search needs) (λ c. search needs) (λ c. search needs)
     returns
-    add-t16
+    add-t15
     (λ c. search needs)
-    sub-t18
+    sub-t17
     returns-2)
