@@ -1,5 +1,6 @@
 /* instructions LETTERS M N: one search for a word of M letters in N random letters, of LETTERS kinds, in which it stands. tools/instructions counts what it executes. */
 #include "marks.h"
+#include "random.h"
 
 #include <stdio.h>
 #include <stdlib.h>
@@ -8,16 +9,6 @@ enum { LONGEST_TEXT = 16 << 20, LONGEST = 4096 };
 
 static uint8_t text[LONGEST_TEXT];
 static uint16_t tables[MARKS_TABLES(LONGEST)];
-
-static uint64_t random_state = 88172645463325252u;
-
-static uint64_t next_random(void)
-{
-    random_state ^= random_state << 13;
-    random_state ^= random_state >> 7;
-    random_state ^= random_state << 17;
-    return random_state >> 20;
-}
 
 int main(int argc, char **argv)
 {

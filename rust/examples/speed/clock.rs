@@ -22,10 +22,10 @@ pub fn best<T>(mut run: impl FnMut() -> T) -> f64 {
     fastest
 }
 
-/// Seconds of the fastest run of each, of those of half a second, five at least. They take turns, so that a slow moment of the machine falls on all of them.
-pub fn by_turns<T, const N: usize>(mut runs: [&mut dyn FnMut() -> T; N]) -> [f64; N] {
+/// Seconds of the fastest run of each, of those of so many seconds, five at least. They take turns, so that a slow moment of the machine falls on all of them.
+pub fn by_turns<T, const N: usize>(long: f64, mut runs: [&mut dyn FnMut() -> T; N]) -> [f64; N] {
     let (mut fastest, mut rounds, started) = ([f64::INFINITY; N], 0, Instant::now());
-    while rounds < 5 || started.elapsed().as_secs_f64() < 0.5 {
+    while rounds < 5 || started.elapsed().as_secs_f64() < long {
         for (run, best) in runs.iter_mut().zip(&mut fastest) {
             *best = seconds(run).min(*best);
         }

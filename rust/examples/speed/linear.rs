@@ -51,7 +51,7 @@ fn agreed(linear: &mut Ours) -> Tally {
 fn beside_plain(linear: &mut Ours) -> [f64; 2] {
     let (word, text) = (linear.word, linear.text);
     let mut list = [0; LIST];
-    by_turns([&mut || linear.run().count, &mut || plain_forward::count(word, text, black_box(&mut list))])
+    by_turns(0.5, [&mut || linear.run().count, &mut || plain_forward::count(word, text, black_box(&mut list))])
 }
 
 /// Seconds of the search and the letters it reads; each of its runs must count so many.
@@ -140,7 +140,7 @@ pub fn random_times() {
             let (mut linear, mut base) = (Ours::new(turbo, word, &text), Ours::new(search, word, &text));
             let (said, base_said) = (agreed(&mut linear), base.run());
             assert_eq!((said.count, &linear.list), (base_said.count, &base.list));
-            let [ours, search] = by_turns([&mut || linear.run(), &mut || base.run()]);
+            let [ours, search] = by_turns(0.5, [&mut || linear.run(), &mut || base.run()]);
             let plain = best(|| plain_forward::count(word, &text, black_box(&mut [0; LIST])));
             print!("| {letters} | {m} | {} |", [ours, search, plain].map(|took| ms(Some(took))).join(" | "));
             println!(" {:.2} | {:.4} | {:.4} |", ours / search, per_letter(said.letters, &text), per_letter(base_said.letters, &text));

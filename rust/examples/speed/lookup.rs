@@ -60,13 +60,16 @@ pub fn lookup_times() {
             assert_eq!(Plain::new(word).count(&text), said);
             assert_eq!(memmem_count(word, &text), said.0);
             let with_memchr = memchr_count(word, &text).map(|count| assert_eq!(count, said.0)).is_some();
-            let [before, now, plain, memmem, memchr] = by_turns([
-                &mut || older_count(word, &text, &mut older_tables).0,
-                &mut || now().0,
-                &mut || Plain::new(word).count(&text).0,
-                &mut || memmem_count(word, &text),
-                &mut || memchr_count(word, &text).unwrap_or(0),
-            ]);
+            let [before, now, plain, memmem, memchr] = by_turns(
+                3.0,
+                [
+                    &mut || older_count(word, &text, &mut older_tables).0,
+                    &mut || now().0,
+                    &mut || Plain::new(word).count(&text).0,
+                    &mut || memmem_count(word, &text),
+                    &mut || memchr_count(word, &text).unwrap_or(0),
+                ],
+            );
             let times = [Some(before), Some(now), Some(plain), Some(memmem), with_memchr.then_some(memchr)].map(ms).join(" | ");
             let ratios = [before / plain, now / plain, now / before, now / memmem].map(|ratio| format!("{ratio:.2}")).join(" | ");
             let last = if with_memchr { format!("{:.2}", now / memchr) } else { "-".into() };

@@ -40,7 +40,7 @@ fn by_plain_stream(word: &[u8], text: &[u8], piece: usize) -> u64 {
 fn duel(ways: [Way; 2], word: &[u8], text: &[u8], piece: usize) -> [f64; 2] {
     assert_eq!(ways[0](word, text, piece), ways[1](word, text, piece));
     let [mut ours, mut plain] = ways.map(|way| move || way(black_box(word), black_box(text), piece));
-    by_turns([&mut ours, &mut plain]).map(|seconds| seconds * 1e9 / text.len() as f64)
+    by_turns(0.5, [&mut ours, &mut plain]).map(|seconds| seconds * 1e9 / text.len() as f64)
 }
 
 /// The texts with the words that are looked for in them, each with what it is called.
