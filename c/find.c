@@ -21,7 +21,7 @@ struct rooms {
 static int refused(const char *what, uint32_t said)
 {
     if (said != MARKS_OK)
-        printf("%s: refused with %" PRIu32 "\n", what, said);
+        printf("%s: refused with %" PRIu32 ", %s\n", what, said, marks_meaning(said));
     return said != MARKS_OK;
 }
 

@@ -11,22 +11,12 @@
 
 enum { MOST_PIECE = 4096 };
 
-static const char *meaning(uint32_t said)
-{
-    switch (said) {
-    case MARKS_EMPTY_WORD: return "the mark is empty";
-    case MARKS_LONG_WORD: return "the mark has more than 64 bytes";
-    case MARKS_LONG_TEXT: return "the stream is full: open another one, and hand it the last bytes again, one fewer than the mark has";
-    case MARKS_UNMADE: return "these bytes are no searcher: wherever they were kept, they were damaged there";
-    default: return "too few bytes were lent";
-    }
-}
-
-/* A refusal leaves searcher and list as they were, so the caller may go on: with another piece, or with a searcher that was kept. */
+/* A refusal leaves searcher and list as they were, so the caller may go on: with another piece, with a searcher that was kept, or, where the stream is full,
+ * with another one that is handed the last bytes again, one fewer than the mark has. */
 static int refused(const char *what, uint32_t said)
 {
     if (said != MARKS_OK)
-        printf("%s: refused with %" PRIu32 ", %s\n", what, said, meaning(said));
+        printf("%s: refused with %" PRIu32 ", %s\n", what, said, marks_meaning(said));
     return said != MARKS_OK;
 }
 

@@ -2,16 +2,16 @@
  *
  * A mark is a word of 1 to 4,096 bytes. marks_search lists every place where it stands in a text; so does marks_turbo, in linear time whatever the text.
  * marks_save writes its index to a file of 5 to 20,481 bytes, but not that of a single letter, with which everybody would drown in finds; marks_load reads
- * such a file, and marks_search_file searches with one. c/find.c is a program to start from. For a text that comes in pieces there are marks_open and
- * marks_take, for marks of 1 to 64 bytes, and c/pieces.c.
+ * such a file, and marks_search_file searches with one. For a text that comes in pieces there are marks_open and marks_take, for marks of 1 to 64 bytes.
+ * Programs to start from: c/find.c; c/parts.c, for more than 16 MiB and more finds than there is room for; c/pieces.c.
  *
  * Which search: marks_turbo where strangers choose the text or the mark, as it reads no more than two letters for each letter of the text. marks_search
- * where you know both, as it is quicker on most texts, where letters are many up to five times, but may read m letters for each of a hostile one.
+ * where you know both, as it is quicker on most texts, where letters are many up to five and a half times, but may read m letters for each of a hostile one.
  *
  * Any bytes and any lengths may be handed to every entry. It returns MARKS_OK and writes its answers through the last pointers; or it refuses: it returns
  * the number of the first refusal in the order given below, and leaves those pointers alone, but for an offset, which only a refusal writes. What is not
- * named below keeps its value: the rest of every buffer, on success too, and the word, the text and the file always. docs/PROMISES.md says what is proved
- * of this.
+ * named below keeps its value: the rest of every buffer, on success too, and the word, the text and the file always. docs/RULES.md has all of this as rules,
+ * docs/PROMISES.md says what is proved of them.
  *
  * There is no state and no heap. Calls on buffers of their own may run at the same time from many threads; what is only read may be shared. A call takes
  * less than 64 KiB of stack, and the most that was seen is 53 KiB, of a search in a long text. The archive needs memset and memcpy of the C library and nothing
@@ -30,24 +30,55 @@
 #include <stddef.h>
 #include <stdint.h>
 
-/* What an entry returns. m is the number of letters of the word, for a file the one that it declares. */
+/* The version of the library: as numbers, and as text. */
+#define MARKS_VERSION_MAJOR 0
+#define MARKS_VERSION_MINOR 2
+#define MARKS_VERSION_PATCH 0
+#define MARKS_VERSION "0.2.0"
+
+/* What an entry returns: a number, and when exactly it is given. m is the number of letters of the word, for a file the one that it declares. */
+/* begin refusals: as tools/refusals writes them */
 enum {
-    MARKS_OK = 0,
+    MARKS_OK = 0,            /* done */
     MARKS_EMPTY_WORD = 1,    /* the word is empty */
-    MARKS_LONG_WORD = 2,     /* the word is longer than 4,096; that of a stream, than 64 */
-    MARKS_SHORT_ROOM = 3,    /* fewer than 6(m+1) table entries; with a file also word room below m; for a stream fewer than MARKS_SEARCHER bytes */
-    MARKS_LONG_TEXT = 4,     /* the text is longer than 16,777,216; or the piece would make the stream so */
-    MARKS_CUT_FILE = 5,      /* the file ends before or inside a number, or before the last of the m letters */
-    MARKS_BAD_NUMBER = 6,    /* a number's last of several groups is zero, or its fifth byte is above 15 */
-    MARKS_OTHER_EDITION = 7, /* edition other than 1 */
-    MARKS_BAD_LENGTH = 8,    /* declared m is below 2 or above 4,096 */
-    MARKS_BAD_COUNT = 9,     /* declared arrows exceed m-1 */
-    MARKS_WRONG_ARROW = 10,  /* an arrow differs from the word's extra arrow at that place or none is left there, or arrows are missing */
-    MARKS_LEFTOVERS = 11,    /* bytes remain after the last arrow */
-    MARKS_SHORT_OUTPUT = 12, /* output room is below the size of the file to be saved */
-    MARKS_UNMADE = 16,       /* the searcher is one that opening and taking bytes could never have made */
-    MARKS_SHORT_WORD = 17    /* the word to be saved has one letter */
+    MARKS_LONG_WORD = 2,     /* the word is longer than 4,096 bytes, or for a stream than 64 */
+    MARKS_SHORT_ROOM = 3,    /* too little room is lent: a word of m letters needs 6(m+1) table entries, from a file m bytes too, a stream 134 bytes */
+    MARKS_LONG_TEXT = 4,     /* the text is longer than 16,777,216 bytes, or the stream would be with this piece */
+    MARKS_CUT_FILE = 5,      /* the file ends before or inside a number, or before the last of its letters */
+    MARKS_BAD_NUMBER = 6,    /* a number in the file is misspelled: the last of its several groups is zero, or its fifth byte is above 15 */
+    MARKS_OTHER_EDITION = 7, /* the file's edition is not 1 */
+    MARKS_BAD_LENGTH = 8,    /* the file declares fewer than 2 letters, or more than 4,096 */
+    MARKS_BAD_COUNT = 9,     /* the file declares more arrows than its letters less 1 */
+    MARKS_WRONG_ARROW = 10,  /* an arrow in the file is not its word's own at that place, or arrows are missing */
+    MARKS_LEFTOVERS = 11,    /* bytes follow the file's last arrow */
+    MARKS_SHORT_OUTPUT = 12, /* the room lent for the file is below its size */
+    MARKS_UNMADE = 16,       /* opening and taking bytes could never have made the searcher */
+    MARKS_SHORT_WORD = 17,   /* the word to be saved has one letter */
 };
+
+/* The same as text. */
+static inline const char *marks_meaning(uint32_t said)
+{
+    switch (said) {
+    case MARKS_OK: return "done";
+    case MARKS_EMPTY_WORD: return "the word is empty";
+    case MARKS_LONG_WORD: return "the word is longer than 4,096 bytes, or for a stream than 64";
+    case MARKS_SHORT_ROOM: return "too little room is lent: a word of m letters needs 6(m+1) table entries, from a file m bytes too, a stream 134 bytes";
+    case MARKS_LONG_TEXT: return "the text is longer than 16,777,216 bytes, or the stream would be with this piece";
+    case MARKS_CUT_FILE: return "the file ends before or inside a number, or before the last of its letters";
+    case MARKS_BAD_NUMBER: return "a number in the file is misspelled: the last of its several groups is zero, or its fifth byte is above 15";
+    case MARKS_OTHER_EDITION: return "the file's edition is not 1";
+    case MARKS_BAD_LENGTH: return "the file declares fewer than 2 letters, or more than 4,096";
+    case MARKS_BAD_COUNT: return "the file declares more arrows than its letters less 1";
+    case MARKS_WRONG_ARROW: return "an arrow in the file is not its word's own at that place, or arrows are missing";
+    case MARKS_LEFTOVERS: return "bytes follow the file's last arrow";
+    case MARKS_SHORT_OUTPUT: return "the room lent for the file is below its size";
+    case MARKS_UNMADE: return "opening and taking bytes could never have made the searcher";
+    case MARKS_SHORT_WORD: return "the word to be saved has one letter";
+    default: return "no number of the table";
+    }
+}
+/* end refusals */
 
 /* Room, in elements of the buffer that it is for. A text may be empty, and a list of finds may have any length, 0 too. */
 #define MARKS_LONGEST_WORD 4096                             /* also word room for every file */
@@ -59,17 +90,27 @@ enum {
 #define MARKS_LONGEST_STREAMED 64                           /* bytes of a word that a stream is opened for */
 #define MARKS_SEARCHER 134                                  /* bytes of a searcher */
 
+/* A result that is dropped is a refusal that nobody sees: compilers warn of it. */
+#if (defined(__cplusplus) && __cplusplus >= 201703L) || (defined(__STDC_VERSION__) && __STDC_VERSION__ >= 202311L)
+#define MARKS_CHECKED [[nodiscard]]
+#elif defined(__GNUC__)
+#define MARKS_CHECKED __attribute__((warn_unused_result))
+#else
+#define MARKS_CHECKED
+#endif
+
 #ifdef __cplusplus
 extern "C" {
 #endif
 
 /* The table of the word's index, in the first MARKS_TABLES(m) entries of tables; docs/TABLE.md has the use of each. The answer is m.
  * Refusals: 1, 2, 3. They change nothing. */
-uint32_t marks_build(const uint8_t *word, size_t word_len, uint16_t *tables, size_t tables_len, uint64_t *m);
+MARKS_CHECKED uint32_t marks_build(const uint8_t *word, size_t word_len, uint16_t *tables, size_t tables_len, uint64_t *m);
 
 /* The file of the word, at the start of out; tables are left as by marks_build. The answer is the file's length. docs/FILE.md has its layout.
  * Refusals: 1, 2, 17, 3, 12. 12 leaves the first MARKS_TABLES(m) entries of tables zero, and out as it was; the others change nothing. */
-uint32_t marks_save(const uint8_t *word, size_t word_len, uint16_t *tables, size_t tables_len, uint8_t *out, size_t out_len, uint64_t *length);
+MARKS_CHECKED uint32_t marks_save(const uint8_t *word, size_t word_len, uint16_t *tables, size_t tables_len, uint8_t *out, size_t out_len,
+                                  uint64_t *length);
 
 /* The file's word in the first m bytes of room, and its table, as marks_build makes it, in the first MARKS_TABLES(m) entries of tables. The answer is m.
  * Refusals, field by field: the edition (5 or 6, then 7), m (5 or 6, then 8), the letters (5), the rooms (3), the number of arrows (5 or 6, then 9), each
@@ -78,37 +119,38 @@ uint32_t marks_save(const uint8_t *word, size_t word_len, uint16_t *tables, size
  * 5 to 11 also write to offset where in the file they show, counted from 0: the first byte of the faulty field, where an arrow's two numbers are one field;
  * for 5 the file's length; for 6 the byte that is refused; for missing arrows and for 11 the first byte behind the arrows. Nothing else writes it: 3 shows
  * nowhere in a file. docs/FILE.md has an example of each. */
-uint32_t marks_load(const uint8_t *file, size_t file_len, uint8_t *room, size_t room_len, uint16_t *tables, size_t tables_len, uint64_t *m,
-                    uint64_t *offset);
+MARKS_CHECKED uint32_t marks_load(const uint8_t *file, size_t file_len, uint8_t *room, size_t room_len, uint16_t *tables, size_t tables_len,
+                                  uint64_t *m, uint64_t *offset);
 
 /* Every place where the word stands in the text, overlaps included. finds gets the first of them, rising, as many as fit; the first MARKS_TABLES(m)
  * entries of tables get the table of the word's mirror. The answers are how many places there are, fitting or not, and how many letters were read.
  * Refusals: 1, 2, 4, 3. They change nothing. */
-uint32_t marks_search(const uint8_t *word, size_t word_len, const uint8_t *text, size_t text_len, uint16_t *tables, size_t tables_len,
-                      uint32_t *finds, size_t finds_len, uint64_t *count, uint64_t *letters);
+MARKS_CHECKED uint32_t marks_search(const uint8_t *word, size_t word_len, const uint8_t *text, size_t text_len, uint16_t *tables, size_t tables_len,
+                                    uint32_t *finds, size_t finds_len, uint64_t *count, uint64_t *letters);
 
 /* The same, but that at most two letters are read for each letter of the text, whatever the word and the text. Only the answer letters differs.
  * Refusals: 1, 2, 4, 3. They change nothing. */
-uint32_t marks_turbo(const uint8_t *word, size_t word_len, const uint8_t *text, size_t text_len, uint16_t *tables, size_t tables_len,
-                     uint32_t *finds, size_t finds_len, uint64_t *count, uint64_t *letters);
+MARKS_CHECKED uint32_t marks_turbo(const uint8_t *word, size_t word_len, const uint8_t *text, size_t text_len, uint16_t *tables, size_t tables_len,
+                                   uint32_t *finds, size_t finds_len, uint64_t *count, uint64_t *letters);
 
 /* As marks_search, for the mirror of the file's word: to look for a mark with a file, save the mark's letters from last to first. room and tables are left
  * as by marks_load.
  * Refusals: 4, which changes nothing, then as marks_load, with what they leave there and what they write to offset; finds are as they were. */
-uint32_t marks_search_file(const uint8_t *file, size_t file_len, const uint8_t *text, size_t text_len, uint8_t *room, size_t room_len,
-                           uint16_t *tables, size_t tables_len, uint32_t *finds, size_t finds_len, uint64_t *count, uint64_t *letters,
-                           uint64_t *offset);
+MARKS_CHECKED uint32_t marks_search_file(const uint8_t *file, size_t file_len, const uint8_t *text, size_t text_len, uint8_t *room, size_t room_len,
+                                         uint16_t *tables, size_t tables_len, uint32_t *finds, size_t finds_len, uint64_t *count, uint64_t *letters,
+                                         uint64_t *offset);
 
 /* Opens a stream: a searcher for a word of 1 to 64 bytes that has taken nothing, in the first MARKS_SEARCHER bytes of searcher.
  * Refusals: 1, 2 (longer than 64), 3 (fewer bytes lent). They change nothing. */
-uint32_t marks_open(const uint8_t *word, size_t word_len, uint8_t *searcher, size_t searcher_len);
+MARKS_CHECKED uint32_t marks_open(const uint8_t *word, size_t word_len, uint8_t *searcher, size_t searcher_len);
 
 /* Takes the next piece of the stream, empty ones too: the first MARKS_SEARCHER bytes of searcher become the searcher after the piece. finds gets the starts
  * of the finds that end in this piece, counted from the stream's first byte, rising, the first of them, as many as fit. The answer is how many end in it,
  * fitting or not; a piece of k bytes has k at most. However a text is cut, the finds of its pieces together are those of the whole.
  * The bytes of a searcher hold everything, and may be copied, kept and sent anywhere; docs/FILE.md has their layout.
  * Refusals: 16 (also where fewer bytes are lent), then 4 where more than 16,777,216 bytes would be taken in all. They change nothing. */
-uint32_t marks_take(uint8_t *searcher, size_t searcher_len, const uint8_t *piece, size_t piece_len, uint32_t *finds, size_t finds_len, uint64_t *count);
+MARKS_CHECKED uint32_t marks_take(uint8_t *searcher, size_t searcher_len, const uint8_t *piece, size_t piece_len, uint32_t *finds, size_t finds_len,
+                                  uint64_t *count);
 
 #ifdef __cplusplus
 }

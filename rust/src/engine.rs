@@ -6,8 +6,14 @@ use crate::LONGEST_TEXT;
 /// enough would spend their time on the word's table, which is made again for each part.
 const LONGEST_TRIED: usize = 64;
 
-/// The most places of a part that [`Engine::Auto`] searches backward.
-const MOST_TRIED: usize = 65_536;
+/// The most letters that [`Engine::Auto`] may read of a part that it searches backward: as many as the word has for each place.
+const MOST_TRIED: usize = 4_194_304;
+
+/// How many places the first part of a text has for [`Engine::Auto`]: it tells whether the text is hostile, and how many finds the rest may have. For the
+/// other engines, and so for words that are not tried backward, so many for each letter of the word: then the table of a long word, which is made for each
+/// part, does not show.
+const FIRST_TRIED: usize = 4_096;
+const FIRST_FOR_A_LETTER: usize = 16_384;
 
 /// So many letters may be read for each letter of a part.
 const FAIR: u64 = 2;
@@ -30,18 +36,18 @@ const FAIR: u64 = 2;
 #[derive(Clone, Copy, Debug, Default, PartialEq, Eq, Hash)]
 #[non_exhaustive]
 pub enum Engine {
-    /// Backward as long as that is fair, then turbo. A word of up to 64 bytes is searched for backward, in parts that grow to 65,536 places. Once more than two
-    /// letters were read for each letter of a part, turbo takes the rest of the text. For a longer word it takes all of it.
+    /// Backward as long as that is fair, then turbo. A word of up to 64 bytes is searched for backward, in parts of which no more than 4,194,304 letters can be
+    /// read. Once more than two letters were read for each letter of a part, turbo takes the rest of the text. For a longer word it takes all of it.
     ///
-    /// So at most two letters are read for each letter searched, where the few that two parts have in common are searched with both; and at most 64 times 65,536
+    /// So at most two letters are read for each letter searched, where the few that two parts have in common are searched with both; and at most 4,194,304
     /// letters more, once in a text, however long it is.
     #[default]
     Auto,
-    /// It reads backward in windows as long as the word, and most letters of most texts not at all; of a hostile one it may read each letter as often as the word
-    /// has letters.
+    /// It reads backward in windows as long as the word, and most letters of most texts not at all; of a hostile one it may read each letter as often as the
+    /// word has letters.
     Backward,
     /// The same windows, but that what was read is remembered: at most two letters are read for each letter searched, whatever the word and the text. On
-    /// other texts it takes up to twice the time of the backward search.
+    /// most texts the backward search is quicker, where letters are many up to five and a half times.
     Turbo,
 }
 
@@ -51,6 +57,14 @@ impl Engine {
         match self {
             Engine::Auto if letters > LONGEST_TRIED => Engine::Turbo,
             _ => self,
+        }
+    }
+
+    /// How many places the first part of a text has, for a word of so many letters.
+    pub(crate) fn first_places(self, letters: usize) -> usize {
+        match self {
+            Engine::Auto => FIRST_TRIED,
+            _ => FIRST_FOR_A_LETTER * letters,
         }
     }
 
@@ -65,7 +79,7 @@ impl Engine {
     /// The most places that one part may have, for a word of so many letters.
     pub(crate) fn most_places(self, letters: usize) -> usize {
         match self {
-            Engine::Auto => MOST_TRIED,
+            Engine::Auto => MOST_TRIED / letters,
             _ => LONGEST_TEXT - (letters - 1),
         }
     }

@@ -2,6 +2,8 @@
 //! offset where a file is at fault, and leaves what its promise says. Nothing is allocated. [`Mark`](crate::Mark) and [`Stream`](crate::Stream) are easier to
 //! use.
 
+#![allow(unsafe_code)]
+
 use crate::{LoadError, Refusal};
 
 extern "C" {
@@ -76,6 +78,11 @@ extern "C" {
     ) -> u32;
 }
 
+/// An answer that is no larger than a slice which was lent.
+fn size(answer: u64) -> usize {
+    usize::try_from(answer).expect("it is no larger than a slice")
+}
+
 /// What an entry said: 0 and its answer, or the number of a refusal.
 fn told<T>(said: u32, answer: T) -> Result<T, Refusal> {
     match said {
@@ -90,36 +97,52 @@ fn told_of_file<T>(said: u32, answer: T, offset: u64) -> Result<T, LoadError> {
 }
 
 /// The table of a word's oracle, in the first 6(m+1) entries of `tables`; the answer is m.
-pub fn build(word: &[u8], tables: &mut [u16]) -> Result<u64, Refusal> {
+///
+/// # Errors
+///
+/// The refusals 1, 2 and 3, which change nothing.
+pub fn build(word: &[u8], tables: &mut [u16]) -> Result<usize, Refusal> {
     let mut m = 0;
-    // SAFETY: each pointer and length is of one slice, and `m` outlives the call.
-    let said = unsafe { marks_build(word.as_ptr(), word.len(), tables.as_mut_ptr(), tables.len(), &mut m) };
-    told(said, m)
+    // SAFETY: `word` and `tables` are slices, handed over with their lengths, and `m` is a local: all outlive the call, and what is written is borrowed here
+    // alone.
+    let said = unsafe { marks_build(word.as_ptr(), word.len(), tables.as_mut_ptr(), tables.len(), &raw mut m) };
+    told(said, m).map(size)
 }
 
 /// The file of a word of at least [`LEAST_SAVED`](crate::LEAST_SAVED) bytes, at the front of `out`; the answer is its length.
-pub fn save(word: &[u8], tables: &mut [u16], out: &mut [u8]) -> Result<u64, Refusal> {
+///
+/// # Errors
+///
+/// The refusals 1, 2, 17, 3 and 12. The last leaves the first 6(m+1) entries of `tables` zero, the others change nothing.
+pub fn save(word: &[u8], tables: &mut [u16], out: &mut [u8]) -> Result<usize, Refusal> {
     let mut length = 0;
-    // SAFETY: as above.
+    // SAFETY: `word`, `tables` and `out` are slices, handed over with their lengths, and `length` is a local: what is written is borrowed here alone.
     let said =
-        unsafe { marks_save(word.as_ptr(), word.len(), tables.as_mut_ptr(), tables.len(), out.as_mut_ptr(), out.len(), &mut length) };
-    told(said, length)
+        unsafe { marks_save(word.as_ptr(), word.len(), tables.as_mut_ptr(), tables.len(), out.as_mut_ptr(), out.len(), &raw mut length) };
+    told(said, length).map(size)
 }
 
 /// The file's word in the first m bytes of `room`, its table in the first 6(m+1) entries of `tables`; the answer is m.
-pub fn load(file: &[u8], room: &mut [u8], tables: &mut [u16]) -> Result<u64, LoadError> {
+///
+/// # Errors
+///
+/// The refusals 5 to 11, with the offset at which the file is broken, and 3. Those before the rooms were judged change nothing, the others leave the word's
+/// part of `room` and `tables` zero.
+pub fn load(file: &[u8], room: &mut [u8], tables: &mut [u16]) -> Result<usize, LoadError> {
     let (mut m, mut offset) = (0, 0);
-    // SAFETY: as above.
+    // SAFETY: `file`, `room` and `tables` are slices, handed over with their lengths, `m` and `offset` are locals: what is written is borrowed here alone.
     let said = unsafe {
-        marks_load(file.as_ptr(), file.len(), room.as_mut_ptr(), room.len(), tables.as_mut_ptr(), tables.len(), &mut m, &mut offset)
+        marks_load(file.as_ptr(), file.len(), room.as_mut_ptr(), room.len(), tables.as_mut_ptr(), tables.len(), &raw mut m, &raw mut offset)
     };
-    told_of_file(said, m, offset)
+    told_of_file(said, m, offset).map(size)
 }
 
 /// How often a word stands in a text, and how many letters were read to find out.
-#[derive(Clone, Copy, Debug, PartialEq, Eq)]
+#[derive(Clone, Copy, Debug, Default, PartialEq, Eq, Hash)]
 pub struct Tally {
+    /// How often the word stands there, overlaps included.
     pub count: u64,
+    /// How many letters were read, a letter that was read again counting again.
     pub letters: u64,
 }
 
@@ -127,8 +150,9 @@ pub struct Tally {
 type SearchEntry = unsafe extern "C" fn(*const u8, usize, *const u8, usize, *mut u16, usize, *mut u32, usize, *mut u64, *mut u64) -> u32;
 
 fn searched(entry: SearchEntry, word: &[u8], text: &[u8], tables: &mut [u16], finds: &mut [u32]) -> Result<Tally, Refusal> {
-    let mut tally = Tally { count: 0, letters: 0 };
-    // SAFETY: as above.
+    let mut tally = Tally::default();
+    // SAFETY: `entry` is one of the library's two of this shape; `word`, `text`, `tables` and `finds` are slices, handed over with their lengths, and the tally
+    // is a local: what is written is borrowed here alone.
     let said = unsafe {
         entry(
             word.as_ptr(),
@@ -139,27 +163,40 @@ fn searched(entry: SearchEntry, word: &[u8], text: &[u8], tables: &mut [u16], fi
             tables.len(),
             finds.as_mut_ptr(),
             finds.len(),
-            &mut tally.count,
-            &mut tally.letters,
+            &raw mut tally.count,
+            &raw mut tally.letters,
         )
     };
     told(said, tally)
 }
 
 /// Every place where the word stands in the text: the first of them in `finds`, as many as fit, the count exact.
+///
+/// # Errors
+///
+/// The refusals 1, 2, 4 and 3, which change nothing.
 pub fn search(word: &[u8], text: &[u8], tables: &mut [u16], finds: &mut [u32]) -> Result<Tally, Refusal> {
     searched(marks_search, word, text, tables, finds)
 }
 
 /// The same as [`search`], but that at most two letters are read for each letter of the text, whatever the word and the text.
+///
+/// # Errors
+///
+/// The refusals 1, 2, 4 and 3, which change nothing.
 pub fn turbo(word: &[u8], text: &[u8], tables: &mut [u16], finds: &mut [u32]) -> Result<Tally, Refusal> {
     searched(marks_turbo, word, text, tables, finds)
 }
 
 /// Every place where the mirror of the file's word stands in the text; `room` and `tables` are left as `load` leaves them.
+///
+/// # Errors
+///
+/// The refusal 4, which changes nothing, then those of [`load`] with what they leave. None changes `finds`.
 pub fn search_file(file: &[u8], text: &[u8], room: &mut [u8], tables: &mut [u16], finds: &mut [u32]) -> Result<Tally, LoadError> {
-    let (mut tally, mut offset) = (Tally { count: 0, letters: 0 }, 0);
-    // SAFETY: as above.
+    let (mut tally, mut offset) = (Tally::default(), 0);
+    // SAFETY: `file`, `text`, `room`, `tables` and `finds` are slices, handed over with their lengths, the tally and `offset` are locals: what is written is
+    // borrowed here alone.
     let said = unsafe {
         marks_search_file(
             file.as_ptr(),
@@ -172,28 +209,37 @@ pub fn search_file(file: &[u8], text: &[u8], room: &mut [u8], tables: &mut [u16]
             tables.len(),
             finds.as_mut_ptr(),
             finds.len(),
-            &mut tally.count,
-            &mut tally.letters,
-            &mut offset,
+            &raw mut tally.count,
+            &raw mut tally.letters,
+            &raw mut offset,
         )
     };
     told_of_file(said, tally, offset)
 }
 
 /// A searcher for a word of 1 to 64 bytes that has taken nothing, in the first [`SEARCHER`](crate::SEARCHER) bytes of `searcher`.
+///
+/// # Errors
+///
+/// The refusals 1, 2 and 3, which change nothing.
 pub fn open(word: &[u8], searcher: &mut [u8]) -> Result<(), Refusal> {
-    // SAFETY: as above.
+    // SAFETY: `word` and `searcher` are slices, handed over with their lengths; what is written is borrowed here alone.
     let said = unsafe { marks_open(word.as_ptr(), word.len(), searcher.as_mut_ptr(), searcher.len()) };
     told(said, ())
 }
 
 /// Takes the next piece of a stream: the first [`SEARCHER`](crate::SEARCHER) bytes of `searcher` become the searcher after it. `finds` gets the starts of the
-/// finds that end in the piece, counted from the stream's first byte, the first of them, as many as fit; the answer is how many there are.
-pub fn take(searcher: &mut [u8], piece: &[u8], finds: &mut [u32]) -> Result<u64, Refusal> {
+/// finds that end in the piece, counted from the stream's first byte, the first of them, as many as fit; the answer is how many there are, one for each byte
+/// of the piece at most.
+///
+/// # Errors
+///
+/// The refusals 16 and 4, which change nothing.
+pub fn take(searcher: &mut [u8], piece: &[u8], finds: &mut [u32]) -> Result<usize, Refusal> {
     let mut count = 0;
-    // SAFETY: as above.
+    // SAFETY: `searcher`, `piece` and `finds` are slices, handed over with their lengths, and `count` is a local: what is written is borrowed here alone.
     let said = unsafe {
-        marks_take(searcher.as_mut_ptr(), searcher.len(), piece.as_ptr(), piece.len(), finds.as_mut_ptr(), finds.len(), &mut count)
+        marks_take(searcher.as_mut_ptr(), searcher.len(), piece.as_ptr(), piece.len(), finds.as_mut_ptr(), finds.len(), &raw mut count)
     };
-    told(said, count)
+    told(said, count).map(size)
 }

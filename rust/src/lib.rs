@@ -1,26 +1,27 @@
 //! Finding marks in broken ride files: a safe face of the proved library.
 //!
-//! A [`Mark`] is a word of 1 to 4,096 bytes. It is made from the word itself or from a saved file, owns the rooms that the library works in, and can be used for
-//! any number of texts of any length.
+//! A [`Mark`] is a word of 1 to 4,096 bytes. It is made from the word itself or from a saved file, and can be looked for in any number of texts of any length,
+//! by any number of threads at a time.
 //!
 //! ```
 //! use marks::Mark;
 //!
-//! let mut mark = Mark::new(b"aba")?;
+//! let mark = Mark::new("aba")?;
 //! assert_eq!(mark.find_iter(b"ababa").collect::<Vec<_>>(), [0, 2]);
 //!
 //! let file = mark.to_file()?;
-//! let mut again = Mark::from_file(&file)?;
+//! let again = Mark::from_file(&file)?;
 //! assert_eq!(again.word(), b"aba");
 //! assert_eq!(again.count(b"xxabaxx"), 1);
 //! # Ok::<(), marks::Refusal>(())
 //! ```
 //!
-//! The time is linear whatever the text, also where a stranger chose it: a mark leaves most bytes of most texts unread, and where one turns out to be hostile it
-//! goes over to a search that reads at most two letters for each. That is [`Engine::Auto`]; another [`Engine`] can be asked for by name.
+//! The time is linear whatever the text, also where a stranger chose it: a mark leaves most bytes of most texts unread, and where one turns out to be hostile
+//! it goes over to a search that reads at most two letters for each. That is [`Engine::Auto`]; another [`Engine`] can be asked for by name.
 //!
-//! A [`Stream`] is for a text that comes in pieces, as an upload does, and for words of up to 64 bytes. It takes one piece after the other and keeps none. It
-//! looks at every byte, going forward, so its time is linear too. A [`Mark`] has to have the whole text.
+//! A text that can be read need not be in memory: [`Mark::find_in`] takes files, sockets, and all that can be read. A [`Stream`] is for a text that is handed
+//! over in pieces, and for words of up to 64 bytes. It takes one piece after the other and keeps none, so that it can wait anywhere, on another machine too.
+//! It looks at every byte, going forward, so its time is linear as well.
 //!
 //! ```
 //! use marks::Stream;
@@ -37,18 +38,26 @@
 //! What is refused is refused with a number of one table, [`Refusal`]; nothing panics, and no declared number is acted on before it is checked. A refused file
 //! comes with the offset at which it is broken, in a [`LoadError`]. [`entries`] has the eight entries themselves, over slices that the caller lends.
 
+#![deny(unsafe_code)]
+#![warn(missing_docs)]
+
 mod engine;
 pub mod entries;
 mod finds;
+mod finds_in;
 mod load_error;
 mod mark;
+mod parts;
 mod refusal;
+mod search;
+mod shown;
 mod stream;
 mod taken;
 
 pub use engine::Engine;
 pub use entries::Tally;
 pub use finds::Finds;
+pub use finds_in::FindsIn;
 pub use load_error::LoadError;
 pub use mark::Mark;
 pub use refusal::Refusal;
@@ -74,11 +83,12 @@ pub const SEARCHER: usize = 134;
 pub const LONGEST_FILE: usize = 5 * LONGEST_WORD + 1;
 
 /// How many entries the table of a word of m letters takes.
+#[must_use]
 pub const fn table_room(m: usize) -> usize {
     6 * (m + 1)
 }
 
-/// The README's program in Rust, compiled and run with the examples here.
+/// The README's programs in Rust, compiled and run with the examples here.
 #[cfg(doctest)]
 #[doc = include_str!("../../README.md")]
 struct Readme;

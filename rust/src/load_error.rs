@@ -14,7 +14,7 @@ use std::{error::Error, fmt};
 /// assert_eq!(error.refusal, Refusal::WrongArrow);
 /// assert_eq!(error.refusal.number(), 10);
 /// assert_eq!(error.offset, Some(12));
-/// assert_eq!(error.to_string(), "the file's arrows are not those of its word (10), at offset 12");
+/// assert_eq!(error.to_string(), "an arrow in the file is not its word's own at that place, or arrows are missing (10), at offset 12");
 /// ```
 ///
 /// In a function whose error is a [`Refusal`], `?` keeps only that.
@@ -31,8 +31,8 @@ pub struct LoadError {
 impl LoadError {
     /// The error of an entry that refused. It wrote `offset` where the refusal has one, and only there.
     pub(crate) fn of(refusal: Refusal, offset: u64) -> LoadError {
-        // an offset is at most the file's length
-        LoadError { refusal, offset: refusal.has_offset().then_some(offset as usize) }
+        let offset = refusal.has_offset().then(|| usize::try_from(offset).expect("an offset is at most the file's length"));
+        LoadError { refusal, offset }
     }
 }
 

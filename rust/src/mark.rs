@@ -1,21 +1,29 @@
-//! A word to be found, with the rooms that finding it takes.
+//! A word to be found.
 
-use crate::{entries, table_room, Engine, Finds, LoadError, Refusal, Tally, LONGEST_FILE, LONGEST_WORD};
+use crate::{entries, shown::Shown, table_room, Engine, Finds, FindsIn, LoadError, Refusal, Tally, LONGEST_FILE, LONGEST_WORD};
+use std::{fmt, io::Read};
 
-/// How many finds are listed at a time; where that is more, so many for each letter of the word, as the table of a long word takes its time and is made for each
-/// list.
-const LEAST_LIST: usize = 4_096;
-const LIST_FOR_A_LETTER: usize = 16;
-
-/// A word of 1 to 4,096 bytes, ready to be found in any number of texts.
+/// A word of 1 to 4,096 bytes, to be found in any number of texts of any length.
 ///
-/// It owns its rooms, so a search allocates nothing: some 16 KiB for a short word, 300 KiB for the longest. To search on several threads at once, clone it.
-#[derive(Clone, Debug)]
+/// It is only read while it is looked for, and each search has rooms of its own: one mark serves any number of threads at a time, and may be a `static`.
+///
+/// ```
+/// use marks::Mark;
+/// use std::{sync::LazyLock, thread};
+///
+/// static FIT: LazyLock<Mark> = LazyLock::new(|| Mark::new(".FIT").unwrap());
+///
+/// let uploads = ["..FIT", ".FIT.FIT", "no"];
+/// let counts = thread::scope(|scope| {
+///     let searches = uploads.map(|upload| scope.spawn(move || FIT.count(upload.as_bytes())));
+///     searches.map(|search| search.join().unwrap())
+/// });
+/// assert_eq!(counts, [1, 2, 0]);
+/// ```
+#[derive(Clone, PartialEq, Eq, Hash)]
 pub struct Mark {
-    pub(crate) word: Vec<u8>,
-    pub(crate) tables: Vec<u16>,
-    pub(crate) list: Vec<u32>,
-    pub(crate) engine: Engine,
+    word: Box<[u8]>,
+    engine: Engine,
 }
 
 impl Mark {
@@ -24,42 +32,47 @@ impl Mark {
     /// ```
     /// use marks::{Mark, Refusal, LONGEST_WORD};
     ///
-    /// assert_eq!(Mark::new(b"").unwrap_err(), Refusal::EmptyWord);
-    /// assert_eq!(Mark::new(&[0; LONGEST_WORD + 1]).unwrap_err(), Refusal::LongWord);
-    /// assert!(Mark::new(&[0; LONGEST_WORD]).is_ok());
+    /// assert_eq!(Mark::new("").unwrap_err(), Refusal::EmptyWord);
+    /// assert_eq!(Mark::new([0; LONGEST_WORD + 1]).unwrap_err(), Refusal::LongWord);
+    /// assert!(Mark::new([0; LONGEST_WORD]).is_ok());
     /// ```
-    pub fn new(word: &[u8]) -> Result<Mark, Refusal> {
+    ///
+    /// # Errors
+    ///
+    /// [`Refusal::EmptyWord`] and [`Refusal::LongWord`], where there are fewer than 1 or more than 4,096 bytes.
+    pub fn new(word: impl AsRef<[u8]>) -> Result<Mark, Refusal> {
+        let word = word.as_ref();
         let mut tables = vec![0; table_room(word.len().min(LONGEST_WORD))];
         entries::build(word, &mut tables)?;
-        Ok(Mark::of(word.to_vec(), tables))
+        Ok(Mark::of(word.into()))
     }
 
     /// The mark of a saved file. Searching with a file looks for the mirror of the file's word, so that the file holds the oracle that the search walks. Any
-    /// bytes may be handed over: the error says why they are no mark's file, and where that shows.
+    /// bytes may be handed over.
     ///
     /// ```
     /// use marks::{LoadError, Mark, Refusal};
     ///
     /// // the file of `ab` finds `ba`
-    /// let mark = Mark::from_file(&[0x01, 0x02, 0x61, 0x62, 0x01, 0x00, 0x00])?;
+    /// let mark = Mark::from_file([0x01, 0x02, 0x61, 0x62, 0x01, 0x00, 0x00])?;
     /// assert_eq!(mark.word(), b"ba");
     ///
-    /// let cut = Mark::from_file(&[0x01, 0x02, 0x61, 0x62]).unwrap_err();
-    /// assert_eq!(cut, LoadError { refusal: Refusal::CutFile, offset: Some(4) });
+    /// let cut = Mark::from_file([0x01, 0x02, 0x61, 0x62]).unwrap_err();
+    /// assert_eq!((cut.refusal, cut.offset), (Refusal::CutFile, Some(4)));
     /// # Ok::<(), LoadError>(())
     /// ```
-    pub fn from_file(file: &[u8]) -> Result<Mark, LoadError> {
+    ///
+    /// # Errors
+    ///
+    /// Where the bytes are no mark's file: the refusal, 5 to 11, says why, and the offset where that shows.
+    pub fn from_file(file: impl AsRef<[u8]>) -> Result<Mark, LoadError> {
         let (mut word, mut tables) = (vec![0; LONGEST_WORD], vec![0; table_room(LONGEST_WORD)]);
-        let m = entries::load(file, &mut word, &mut tables)? as usize;
-        word.truncate(m);
-        word.reverse();
-        tables.truncate(table_room(m));
-        Ok(Mark::of(word, tables))
+        let m = entries::load(file.as_ref(), &mut word, &mut tables)?;
+        Ok(Mark::of(word.into_iter().take(m).rev().collect()))
     }
 
-    fn of(word: Vec<u8>, tables: Vec<u16>) -> Mark {
-        let list = vec![0; LEAST_LIST.max(LIST_FOR_A_LETTER * word.len())];
-        Mark { word, tables, list, engine: Engine::Auto }
+    fn of(word: Box<[u8]>) -> Mark {
+        Mark { word, engine: Engine::Auto }
     }
 
     /// The same mark, looked for by this engine. [`Engine`] says when to choose one; the finds are the same with each.
@@ -67,7 +80,7 @@ impl Mark {
     /// ```
     /// use marks::{Engine, Mark};
     ///
-    /// let mut mark = Mark::new(b"aba")?.engine(Engine::Turbo);
+    /// let mark = Mark::new("aba")?.engine(Engine::Turbo);
     /// assert_eq!(mark.find_iter(b"ababa").collect::<Vec<_>>(), [0, 2]);
     /// # Ok::<(), marks::Refusal>(())
     /// ```
@@ -77,28 +90,38 @@ impl Mark {
     }
 
     /// The word that is looked for.
+    #[must_use]
     pub fn word(&self) -> &[u8] {
         &self.word
     }
 
-    /// The file from which [`from_file`](Mark::from_file) makes this mark again. It is the only file that does. A mark of one letter has none, as whoever
-    /// searched with it would drown in finds: [`Refusal::ShortWord`], the one refusal there is here.
+    /// The engine that looks for it.
+    pub(crate) fn engine_asked_for(&self) -> Engine {
+        self.engine
+    }
+
+    /// The file from which [`from_file`](Mark::from_file) makes the mark of this word again. It is the only file that does; the engine is not in it. A mark
+    /// of one letter has none, as whoever searched with it would drown in finds.
     ///
     /// ```
     /// use marks::{Mark, Refusal};
     ///
-    /// assert_eq!(Mark::new(b"aa")?.to_file()?, [0x01, 0x02, 0x61, 0x61, 0x00]);
+    /// assert_eq!(Mark::new("aa")?.to_file()?, [0x01, 0x02, 0x61, 0x61, 0x00]);
     ///
-    /// let mut letter = Mark::new(b"a")?;
+    /// let letter = Mark::new("a")?;
     /// assert_eq!(letter.to_file(), Err(Refusal::ShortWord));
     /// assert_eq!(letter.count(b"aba"), 2); // it is looked for directly
     /// # Ok::<(), Refusal>(())
     /// ```
+    ///
+    /// # Errors
+    ///
+    /// [`Refusal::ShortWord`], where the mark has one letter. There is no other here.
     pub fn to_file(&self) -> Result<Vec<u8>, Refusal> {
         let mirror: Vec<u8> = self.word.iter().rev().copied().collect();
-        let (mut tables, mut out) = (vec![0; self.tables.len()], vec![0; LONGEST_FILE]);
+        let (mut tables, mut out) = (vec![0; table_room(mirror.len())], vec![0; LONGEST_FILE]);
         let length = entries::save(&mirror, &mut tables, &mut out)?;
-        out.truncate(length as usize);
+        out.truncate(length);
         Ok(out)
     }
 
@@ -106,22 +129,52 @@ impl Mark {
     ///
     /// ```
     /// # use marks::Mark;
-    /// let mut mark = Mark::new(b"aa")?;
+    /// let mark = Mark::new("aa")?;
     /// assert_eq!(mark.find_iter(b"aaaa").collect::<Vec<_>>(), [0, 1, 2]);
     /// assert_eq!(mark.find_iter(b"").next(), None);
     /// # Ok::<(), marks::Refusal>(())
     /// ```
-    pub fn find_iter<'a>(&'a mut self, text: &'a [u8]) -> Finds<'a> {
+    pub fn find_iter<'a>(&'a self, text: &'a [u8]) -> Finds<'a> {
         Finds::new(self, text)
     }
 
     /// The first place where the word stands in the text.
-    pub fn find(&mut self, text: &[u8]) -> Option<usize> {
-        self.find_iter(text).next()
+    #[must_use]
+    pub fn find(&self, text: &[u8]) -> Option<usize> {
+        Finds::of_the_first(self, text).next()
+    }
+
+    /// The first place where the word stands in the text that is not before `start`, counted from the text's first byte.
+    ///
+    /// ```
+    /// # use marks::Mark;
+    /// let mark = Mark::new("aba")?;
+    /// assert_eq!(mark.find_at(b"ababa", 1), Some(2));
+    /// assert_eq!(mark.find_at(b"ababa", 3), None);
+    /// assert_eq!(mark.find_at(b"ababa", 99), None);
+    /// # Ok::<(), marks::Refusal>(())
+    /// ```
+    #[must_use]
+    pub fn find_at(&self, text: &[u8], start: usize) -> Option<usize> {
+        self.find(text.get(start..)?).map(|at| start + at)
+    }
+
+    /// Every place where the word stands in what a source gives, of any length, in flat memory. See [`FindsIn`].
+    ///
+    /// ```
+    /// # use marks::Mark;
+    /// let upload: &[u8] = b"..RIDE..RIDE"; // or a file, a socket, standard input
+    /// let places: Result<Vec<u64>, _> = Mark::new("RIDE")?.find_in(upload).collect();
+    /// assert_eq!(places?, [2, 8]);
+    /// # Ok::<(), Box<dyn std::error::Error>>(())
+    /// ```
+    pub fn find_in<R: Read>(&self, source: R) -> FindsIn<'_, R> {
+        FindsIn::new(self, source)
     }
 
     /// How often the word stands in the text.
-    pub fn count(&mut self, text: &[u8]) -> u64 {
+    #[must_use]
+    pub fn count(&self, text: &[u8]) -> u64 {
         self.tally(text).count
     }
 
@@ -130,22 +183,19 @@ impl Mark {
     /// ```
     /// use marks::{Engine, Mark, Tally};
     ///
-    /// let mut mark = Mark::new(b"aba")?;
+    /// let mark = Mark::new("aba")?;
     /// assert_eq!(mark.tally(b"ababa"), Tally { count: 2, letters: 6 });
-    /// let mut mark = mark.engine(Engine::Turbo);
-    /// assert_eq!(mark.tally(b"ababa"), Tally { count: 2, letters: 10 });
+    /// assert_eq!(mark.engine(Engine::Turbo).tally(b"ababa"), Tally { count: 2, letters: 10 });
     /// # Ok::<(), marks::Refusal>(())
     /// ```
-    pub fn tally(&mut self, text: &[u8]) -> Tally {
+    #[must_use]
+    pub fn tally(&self, text: &[u8]) -> Tally {
         self.find_iter(text).tally()
     }
+}
 
-    /// One search of at most [`LONGEST_TEXT`](crate::LONGEST_TEXT) bytes, the first finds in the list, up to `most` of them.
-    pub(crate) fn search(&mut self, engine: Engine, part: &[u8], most: usize) -> Tally {
-        let entry = match engine {
-            Engine::Auto | Engine::Backward => entries::search,
-            Engine::Turbo => entries::turbo,
-        };
-        entry(&self.word, part, &mut self.tables, &mut self.list[..most]).expect("a mark's word, rooms and parts are within the limits")
+impl fmt::Debug for Mark {
+    fn fmt(&self, f: &mut fmt::Formatter<'_>) -> fmt::Result {
+        write!(f, "Mark({}, {:?})", Shown(&self.word), self.engine)
     }
 }

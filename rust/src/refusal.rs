@@ -2,70 +2,64 @@
 
 use std::{error::Error, fmt};
 
-/// Why an entry refused. The value of each case is its number in the table. Those of a file, 5 to 11, come with an offset in it, in a
-/// [`LoadError`](crate::LoadError).
-///
-/// ```
-/// use marks::{Mark, Refusal};
-///
-/// // a header that declares four billion letters
-/// let refused = Mark::from_file(&[0x01, 0xFF, 0xFF, 0xFF, 0xFF, 0x0F]).unwrap_err().refusal;
-/// assert_eq!(refused, Refusal::BadLength);
-/// assert_eq!(refused.number(), 8);
-/// assert_eq!(refused.to_string(), "the file declares a word of fewer than 2 letters or of more than 4,096 (8)");
-/// ```
-#[derive(Clone, Copy, Debug, PartialEq, Eq, Hash, PartialOrd, Ord)]
-#[repr(u32)]
-pub enum Refusal {
-    /// The word is empty.
-    EmptyWord = 1,
-    /// The word is longer than 4,096 bytes; that of a stream, than 64.
-    LongWord = 2,
-    /// Fewer than 6(m+1) table entries are lent, or, with a file, fewer than m bytes for its word; for a stream, fewer bytes than a searcher has.
-    ShortRoom = 3,
-    /// The text is longer than 16,777,216 bytes, or the piece would make its stream so.
-    LongText = 4,
-    /// The file ends before or inside a number, or before its last letter.
-    CutFile = 5,
-    /// A number's last of several groups is zero, or its fifth byte is above 15.
-    BadNumber = 6,
-    /// The file's edition is not 1.
-    OtherEdition = 7,
-    /// The declared length of the word is below 2 or above 4,096.
-    BadLength = 8,
-    /// More arrows are declared than the word's length less 1.
-    BadCount = 9,
-    /// An arrow differs from the word's own at that place, or none is left there, or arrows are missing.
-    WrongArrow = 10,
-    /// Bytes remain after the last arrow.
-    Leftovers = 11,
-    /// The output room is below the size of the file to be saved.
-    ShortOutput = 12,
-    /// The searcher is one that opening and taking bytes could never have made.
-    Unmade = 16,
-    /// The word to be saved has one letter.
-    ShortWord = 17,
+/// The table as a type: from each line its case, its number and its one wording.
+macro_rules! refusals {
+    ($($name:ident = $number:literal, $text:literal;)*) => {
+        /// Why an entry refused. The value of each case is its number in the table; a later edition of the library may have more of them. Those of a file, 5 to
+        /// 11, come with an offset in it, in a [`LoadError`](crate::LoadError).
+        ///
+        /// ```
+        /// use marks::{Mark, Refusal};
+        ///
+        /// // a header that declares four billion letters
+        /// let refused = Mark::from_file([0x01, 0xFF, 0xFF, 0xFF, 0xFF, 0x0F]).unwrap_err().refusal;
+        /// assert_eq!(refused, Refusal::BadLength);
+        /// assert_eq!(refused.number(), 8);
+        /// assert_eq!(refused.to_string(), "the file declares fewer than 2 letters, or more than 4,096 (8)");
+        /// ```
+        #[derive(Clone, Copy, Debug, PartialEq, Eq, Hash, PartialOrd, Ord)]
+        #[repr(u32)]
+        #[non_exhaustive]
+        pub enum Refusal {
+            $(#[doc = concat!("Given exactly when ", $text, ".")] $name = $number,)*
+        }
+
+        impl Refusal {
+            const TABLE: &'static [Refusal] = &[$(Refusal::$name,)*];
+
+            /// When it is given: one wording in every face of the library.
+            #[must_use]
+            pub const fn meaning(self) -> &'static str {
+                match self {
+                    $(Refusal::$name => $text,)*
+                }
+            }
+        }
+    };
 }
 
-impl Refusal {
-    const TABLE: [Refusal; 14] = [
-        Refusal::EmptyWord,
-        Refusal::LongWord,
-        Refusal::ShortRoom,
-        Refusal::LongText,
-        Refusal::CutFile,
-        Refusal::BadNumber,
-        Refusal::OtherEdition,
-        Refusal::BadLength,
-        Refusal::BadCount,
-        Refusal::WrongArrow,
-        Refusal::Leftovers,
-        Refusal::ShortOutput,
-        Refusal::Unmade,
-        Refusal::ShortWord,
-    ];
+// begin refusals: as tools/refusals writes them
+refusals! {
+    EmptyWord = 1, "the word is empty";
+    LongWord = 2, "the word is longer than 4,096 bytes, or for a stream than 64";
+    ShortRoom = 3, "too little room is lent: a word of m letters needs 6(m+1) table entries, from a file m bytes too, a stream 134 bytes";
+    LongText = 4, "the text is longer than 16,777,216 bytes, or the stream would be with this piece";
+    CutFile = 5, "the file ends before or inside a number, or before the last of its letters";
+    BadNumber = 6, "a number in the file is misspelled: the last of its several groups is zero, or its fifth byte is above 15";
+    OtherEdition = 7, "the file's edition is not 1";
+    BadLength = 8, "the file declares fewer than 2 letters, or more than 4,096";
+    BadCount = 9, "the file declares more arrows than its letters less 1";
+    WrongArrow = 10, "an arrow in the file is not its word's own at that place, or arrows are missing";
+    Leftovers = 11, "bytes follow the file's last arrow";
+    ShortOutput = 12, "the room lent for the file is below its size";
+    Unmade = 16, "opening and taking bytes could never have made the searcher";
+    ShortWord = 17, "the word to be saved has one letter";
+}
+// end refusals
 
-    /// Its number in the table: 1 to 12, 16 or 17. Others mean nothing.
+impl Refusal {
+    /// Its number in the table.
+    #[must_use]
     pub const fn number(self) -> u32 {
         self as u32
     }
@@ -77,26 +71,8 @@ impl Refusal {
 
     /// The refusal that has a number.
     pub(crate) fn of(number: u32) -> Refusal {
-        Refusal::TABLE.into_iter().find(|refusal| refusal.number() == number).expect("an entry refuses with a number of the table")
-    }
-
-    fn meaning(self) -> &'static str {
-        match self {
-            Refusal::EmptyWord => "the word is empty",
-            Refusal::LongWord => "the word is longer than 4,096 bytes, or that of a stream than 64",
-            Refusal::ShortRoom => "the room lent for the table, the word or the searcher is too short",
-            Refusal::LongText => "the text is longer than 16,777,216 bytes, or would be with this piece",
-            Refusal::CutFile => "the file ends before its last field does",
-            Refusal::BadNumber => "a number in the file is not in its one spelling",
-            Refusal::OtherEdition => "the file is of another edition than 1",
-            Refusal::BadLength => "the file declares a word of fewer than 2 letters or of more than 4,096",
-            Refusal::BadCount => "the file declares more arrows than its word can have",
-            Refusal::WrongArrow => "the file's arrows are not those of its word",
-            Refusal::Leftovers => "bytes follow the file's last arrow",
-            Refusal::ShortOutput => "the room lent for the file is too short",
-            Refusal::Unmade => "no opening and taking can have made this searcher: open one anew and take the text from its start",
-            Refusal::ShortWord => "a word of one letter is not saved",
-        }
+        let known = Refusal::TABLE.iter().copied().find(|refusal| refusal.number() == number);
+        known.expect("an entry refuses with a number of the table")
     }
 }
 
@@ -114,14 +90,14 @@ mod tests {
 
     #[test]
     fn each_number_is_that_of_one_refusal() {
-        let numbers = Refusal::TABLE.map(Refusal::number);
+        let numbers: Vec<u32> = Refusal::TABLE.iter().map(|refusal| refusal.number()).collect();
         assert_eq!(numbers, [1, 2, 3, 4, 5, 6, 7, 8, 9, 10, 11, 12, 16, 17]);
-        assert_eq!(numbers.map(Refusal::of), Refusal::TABLE);
+        assert!(numbers.iter().all(|&number| Refusal::of(number).number() == number));
     }
 
     #[test]
     fn each_is_told_by_a_text_of_its_own_and_its_number() {
-        let told = Refusal::TABLE.map(|refusal| refusal.to_string());
+        let told: Vec<String> = Refusal::TABLE.iter().map(ToString::to_string).collect();
         for (place, (text, refusal)) in told.iter().zip(Refusal::TABLE).enumerate() {
             assert!(text.ends_with(&format!(" ({})", refusal.number())), "{text}");
             assert!(!told[..place].contains(text), "{text}");

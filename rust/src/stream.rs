@@ -1,7 +1,10 @@
 //! A word to be found in a text that comes in pieces.
 
-use crate::{entries, Refusal, Taken, LONGEST_TEXT, SEARCHER};
-use std::io::{self, Write};
+use crate::{entries, shown::Shown, Refusal, Taken, LONGEST_TEXT, SEARCHER};
+use std::{
+    fmt,
+    io::{self, Write},
+};
 
 /// How many finds are listed at a time.
 const LIST: usize = 256;
@@ -28,7 +31,7 @@ const KEPT: usize = 129;
 /// assert_eq!((stream.count(), stream.taken()), (2, 12));
 /// # Ok::<(), marks::Refusal>(())
 /// ```
-#[derive(Clone, Debug)]
+#[derive(Clone)]
 pub struct Stream {
     searcher: [u8; SEARCHER],
     /// Where in the stream the first byte stands that the searcher has taken.
@@ -45,13 +48,17 @@ impl Stream {
     /// ```
     /// use marks::{Refusal, Stream, LONGEST_STREAMED};
     ///
-    /// assert_eq!(Stream::new(b"").unwrap_err(), Refusal::EmptyWord);
-    /// assert_eq!(Stream::new(&[0; LONGEST_STREAMED + 1]).unwrap_err(), Refusal::LongWord);
-    /// assert!(Stream::new(&[0; LONGEST_STREAMED]).is_ok());
+    /// assert_eq!(Stream::new("").unwrap_err(), Refusal::EmptyWord);
+    /// assert_eq!(Stream::new([0; LONGEST_STREAMED + 1]).unwrap_err(), Refusal::LongWord);
+    /// assert!(Stream::new([0; LONGEST_STREAMED]).is_ok());
     /// ```
-    pub fn new(word: &[u8]) -> Result<Stream, Refusal> {
+    ///
+    /// # Errors
+    ///
+    /// [`Refusal::EmptyWord`] and [`Refusal::LongWord`], where there are fewer than 1 or more than 64 bytes.
+    pub fn new(word: impl AsRef<[u8]>) -> Result<Stream, Refusal> {
         let mut searcher = [0; SEARCHER];
-        entries::open(word, &mut searcher)?;
+        entries::open(word.as_ref(), &mut searcher)?;
         Ok(Stream { searcher, base: 0, count: 0, list: [0; LIST], part: LONGEST_PART })
     }
 
@@ -85,16 +92,19 @@ impl Stream {
     }
 
     /// The word that is looked for.
+    #[must_use]
     pub fn word(&self) -> &[u8] {
         &self.searcher[..usize::from(self.searcher[LENGTH])]
     }
 
     /// How many finds there were so far.
+    #[must_use]
     pub fn count(&self) -> u64 {
         self.count
     }
 
     /// How many bytes were taken so far.
+    #[must_use]
     pub fn taken(&self) -> u64 {
         self.base + self.searched() as u64
     }
@@ -103,23 +113,23 @@ impl Stream {
     pub(crate) fn pass(&mut self, bytes: &[u8]) {
         for part in bytes.chunks(LONGEST_PART) {
             self.make_room(part.len());
-            self.count += self.take_part(part, 0);
+            self.count += self.take_part(part, 0) as u64;
         }
     }
 
     /// Takes so much of the front that all finds which end there fit the list. How many bytes, and how many finds.
     ///
-    /// Where there are too many finds, it goes back to before the part and takes one that is no longer than the list, for each byte ends one find at most. Parts
-    /// grow again while they fill a quarter of the list at most. So no more bytes are taken again than were taken, but for the first part.
+    /// Where there are too many finds, it goes back to before the part and takes one that is no longer than the list, for each byte ends one find at most.
+    /// Parts grow again while they fill a quarter of the list at most. So no more bytes are taken again than were taken, but for the first part.
     pub(crate) fn take_listed(&mut self, bytes: &[u8]) -> (usize, usize) {
         let mut part = &bytes[..bytes.len().min(self.part)];
         self.make_room(part.len());
         let before = (part.len() > LIST).then_some(self.searcher);
-        let mut found = self.take_part(part, LIST) as usize;
+        let mut found = self.take_part(part, LIST);
         if let Some(before) = before.filter(|_| found > LIST) {
             (self.searcher, self.part) = (before, LIST);
             part = &part[..LIST];
-            found = self.take_part(part, LIST) as usize;
+            found = self.take_part(part, LIST);
         } else if part.len() == self.part && found <= LIST / 4 {
             self.part = LONGEST_PART.min(2 * self.part);
         }
@@ -134,7 +144,7 @@ impl Stream {
     }
 
     /// Takes a part that the searcher has room for, the first finds in the list, up to `most` of them. How many end in it.
-    fn take_part(&mut self, part: &[u8], most: usize) -> u64 {
+    fn take_part(&mut self, part: &[u8], most: usize) -> usize {
         entries::take(&mut self.searcher, part, &mut self.list[..most])
             .expect("a stream's searcher was made by opening and taking, and has room")
     }
@@ -159,6 +169,12 @@ impl Stream {
     }
 }
 
+impl fmt::Debug for Stream {
+    fn fmt(&self, f: &mut fmt::Formatter<'_>) -> fmt::Result {
+        write!(f, "Stream({}, {} taken, {} found)", Shown(self.word()), self.taken(), self.count)
+    }
+}
+
 /// A stream as bytes, for one whose pieces come to several machines.
 impl Stream {
     /// How many bytes a stream is kept in.
@@ -166,6 +182,7 @@ impl Stream {
 
     /// The searcher's bytes as the entries have them; then, eight bytes each, low byte first, the place in the stream where that searcher began, and how many
     /// finds there were so far.
+    #[must_use]
     pub fn to_bytes(&self) -> [u8; Stream::BYTES] {
         let mut bytes = [0; Stream::BYTES];
         bytes[..SEARCHER].copy_from_slice(&self.searcher);
@@ -188,15 +205,19 @@ impl Stream {
     /// assert_eq!(Stream::from_bytes(&kept).unwrap_err(), Refusal::Unmade);
     /// # Ok::<(), Refusal>(())
     /// ```
+    ///
+    /// # Errors
+    ///
+    /// [`Refusal::Unmade`], where the bytes are no stream's.
     pub fn from_bytes(bytes: &[u8]) -> Result<Stream, Refusal> {
         let (searcher, numbers) = bytes.split_first_chunk().ok_or(Refusal::Unmade)?;
         let (base, count) = numbers.split_first_chunk().ok_or(Refusal::Unmade)?;
         let (base, count) = (u64::from_le_bytes(*base), u64::from_le_bytes(count.try_into().map_err(|_| Refusal::Unmade)?));
         let mut stream = Stream { searcher: *searcher, base, count, list: [0; LIST], part: LONGEST_PART };
         entries::take(&mut stream.searcher, &[], &mut [])?;
-        match base <= 1 << 63 && count <= stream.taken() {
-            true => Ok(stream),
-            false => Err(Refusal::Unmade),
+        match base.checked_add(stream.searched() as u64) {
+            Some(taken) if taken <= 1 << 63 && count <= taken => Ok(stream),
+            _ => Err(Refusal::Unmade),
         }
     }
 }

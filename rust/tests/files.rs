@@ -16,7 +16,7 @@ fn the_longest_word_is_saved_loaded_and_searched_for() {
     assert!(file[length..].iter().all(|&b| b == 9));
 
     let (mut room, mut again) = ([8u8; LONGEST_WORD + 1], [7u16; TABLES + 1]);
-    assert_eq!(load(&file[..length], &mut room, &mut again), Ok(LONGEST_WORD as u64));
+    assert_eq!(load(&file[..length], &mut room, &mut again), Ok(LONGEST_WORD));
     assert_eq!(room[..LONGEST_WORD], word[..]);
     assert_eq!(room[LONGEST_WORD], 8);
     assert_eq!(again, tables);

@@ -23,7 +23,7 @@ fn finds_are_those_of_the_plainest_search() {
             true => text[text.len() / 2..].iter().chain(&text).copied().take(m).collect(),
             false => vec![0; m],
         };
-        let mut mark = Mark::new(&word).unwrap();
+        let mark = Mark::new(&word).unwrap();
         let expected = plain(&word, &text);
         assert_eq!(mark.find_iter(&text).collect::<Vec<_>>(), expected);
         assert_eq!(mark.count(&text), expected.len() as u64);
@@ -37,7 +37,7 @@ fn many_finds_after_a_long_stretch_without_any() {
     text.extend(std::iter::repeat_n(b'a', 100_000));
     text.extend(vec![b'x'; 500_000]);
     text.extend(b"aa");
-    let mut mark = Mark::new(b"aa").unwrap();
+    let mark = Mark::new(b"aa").unwrap();
     assert_eq!(mark.find_iter(&text).collect::<Vec<_>>(), plain(b"aa", &text));
 }
 
@@ -50,11 +50,11 @@ fn a_text_of_several_parts_loses_and_doubles_nothing_at_a_seam() {
     for at in places {
         text[at..at + 100].copy_from_slice(&word);
     }
-    let mut mark = Mark::new(&word).unwrap();
+    let mark = Mark::new(&word).unwrap();
     assert_eq!(mark.find_iter(&text).collect::<Vec<_>>(), places);
     assert_eq!(mark.count(&text), places.len() as u64);
     // a find across each place where two parts of a count meet
-    let mut ones = Mark::new(&[200; 9]).unwrap();
+    let ones = Mark::new([200; 9]).unwrap();
     let runs: Vec<u8> = vec![200; LONGEST_TEXT + 5_000];
     assert_eq!(ones.count(&runs), (runs.len() - 8) as u64);
 }
@@ -67,7 +67,7 @@ fn a_file_gives_the_mark_back() {
             let word: Vec<u8> = (0..m).map(|_| (random(&mut seed) >> 20).wrapping_rem(letters) as u8).collect();
             let file = Mark::new(&word).unwrap().to_file().unwrap();
             assert_eq!(Mark::from_file(&file).unwrap().word(), word);
-            let (cut, longer) = (Mark::from_file(&file[..file.len() - 1]), Mark::from_file(&[&file[..], &[0]].concat()));
+            let (cut, longer) = (Mark::from_file(&file[..file.len() - 1]), Mark::from_file([&file[..], &[0]].concat()));
             assert_eq!(cut.unwrap_err(), LoadError { refusal: Refusal::CutFile, offset: Some(file.len() - 1) });
             assert_eq!(longer.unwrap_err(), LoadError { refusal: Refusal::Leftovers, offset: Some(file.len()) });
         }
@@ -75,12 +75,12 @@ fn a_file_gives_the_mark_back() {
 }
 
 #[test]
-fn clones_search_on_threads_of_their_own() {
+fn one_mark_serves_all_threads() {
     let mark = Mark::new(b"abab").unwrap();
     let text: Vec<u8> = b"ab".repeat(50_000);
     std::thread::scope(|scope| {
         for from in 0..4 {
-            let (mut mark, text) = (mark.clone(), &text[from..]);
+            let (mark, text) = (&mark, &text[from..]);
             scope.spawn(move || assert_eq!(mark.find_iter(text).collect::<Vec<_>>(), plain(b"abab", text)));
         }
     });

@@ -162,7 +162,7 @@ fn what_is_not_the_files_fault_shows_nowhere_in_it() {
 #[test]
 fn the_text_of_an_error_says_why_and_where() {
     let huge = error_of(b"\x01\xff\xff\xff\xff\x0f");
-    assert_eq!(huge.to_string(), "the file declares a word of fewer than 2 letters or of more than 4,096 (8), at offset 1");
+    assert_eq!(huge.to_string(), "the file declares fewer than 2 letters, or more than 4,096 (8), at offset 1");
     let short = load(&GOOD, &mut [], &mut []).unwrap_err();
     assert_eq!(short.to_string(), Refusal::ShortRoom.to_string());
     // the text has all there is to tell

@@ -63,7 +63,7 @@ fn check(before: &Lent, piece: &[u8], room: usize) {
             let (searcher, finds) = after(word, kept, taken, piece);
             next[..SEARCHER].copy_from_slice(&searcher);
             listed.iter_mut().zip(&finds).for_each(|(entry, at)| *entry = *at);
-            Ok(finds.len() as u64)
+            Ok(finds.len())
         }
     };
     assert_eq!((said, lent, list), (expected, next, listed), "{before:?} takes {piece:?}");

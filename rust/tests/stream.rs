@@ -296,7 +296,8 @@ fn bytes_that_no_stream_can_be_kept_in() {
     assert!(refused(&with(129, &[3])));
     assert!(refused(&with(142, &7u64.to_le_bytes())));
     assert!(!refused(&with(142, &6u64.to_le_bytes())));
-    assert!(refused(&with(134, &((1u64 << 63) + 1).to_le_bytes())));
-    let mut far = Stream::from_bytes(&with(134, &(1u64 << 63).to_le_bytes())).unwrap();
-    assert_eq!(far.take(b"a").next(), Some((1 << 63) + 4));
+    // 2^63 bytes in all at most, six of which the searcher has taken
+    assert!(refused(&with(134, &u64::MAX.to_le_bytes())) && refused(&with(134, &((1u64 << 63) - 5).to_le_bytes())));
+    let mut far = Stream::from_bytes(&with(134, &((1u64 << 63) - 6).to_le_bytes())).unwrap();
+    assert_eq!((far.taken(), far.take(b"a").next()), (1 << 63, Some((1 << 63) - 2)));
 }

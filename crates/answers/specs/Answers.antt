@@ -1,7 +1,7 @@
 -- WHAT AN ENTRY MAY SAY: done with an answer, or refused with a number of 01's table, alone or with the place of the file where it shows.
 --
 --   emptyWord ..     01's numbers, by what they mean
---   refusals         the whole table: each number and when it is given
+--   refusals         the whole table: each number and when it is given, in the words that every face of the library says
 --   Answer A         done with an answer of kind A, or refused
 --   Succeeds a       a is done, with some answer
 --   oneOf n l        whether n is one of the numbers l
@@ -63,20 +63,20 @@ line n s = record { number = n; given-when = s }
 
 unfoldable pub refusals : List Line
 refusals =
-    line emptyWord "the word is empty (build, save, search, turbo, open)"
-    ∷ line longWord "the word is longer than 4,096 (build, save, search, turbo), or than 64 (open)"
-    ∷ line shortRoom "fewer than 6(m+1) table entries, or, with a file, word room below m; opening: fewer bytes than a searcher has"
-    ∷ line longText "the text is longer than 16,777,216, or with the piece the stream would be"
-    ∷ line 5 "the file ends before or inside a number, or before the last of the m letters"
-    ∷ line 6 "a number's last of several groups is zero, or its fifth byte is above 15"
-    ∷ line 7 "edition other than 1"
-    ∷ line 8 "declared m is below 2 or above 4,096"
-    ∷ line 9 "declared arrows exceed m-1"
-    ∷ line 10 "an arrow differs from the word's extra arrow at that place or none is left there, or arrows are missing"
-    ∷ line 11 "bytes remain after the last arrow"
-    ∷ line shortOutput "output room is below the size of the file to be saved"
+    line emptyWord "the word is empty"
+    ∷ line longWord "the word is longer than 4,096 bytes, or for a stream than 64"
+    ∷ line shortRoom "too little room is lent: a word of m letters needs 6(m+1) table entries, from a file m bytes too, a stream 134 bytes"
+    ∷ line longText "the text is longer than 16,777,216 bytes, or the stream would be with this piece"
+    ∷ line 5 "the file ends before or inside a number, or before the last of its letters"
+    ∷ line 6 "a number in the file is misspelled: the last of its several groups is zero, or its fifth byte is above 15"
+    ∷ line 7 "the file's edition is not 1"
+    ∷ line 8 "the file declares fewer than 2 letters, or more than 4,096"
+    ∷ line 9 "the file declares more arrows than its letters less 1"
+    ∷ line 10 "an arrow in the file is not its word's own at that place, or arrows are missing"
+    ∷ line 11 "bytes follow the file's last arrow"
+    ∷ line shortOutput "the room lent for the file is below its size"
     ∷ line unmade "opening and taking bytes could never have made the searcher"
-    ∷ line shortWord "the word has one letter (save)"
+    ∷ line shortWord "the word to be saved has one letter"
     ∷ []
 
 -- ── Answers ────────────────────────────────────────────────────────────────

@@ -3,7 +3,7 @@
 --
 --   SuffixPath S x l    l is the suffix path of x, S giving the supply of each state above 0
 --
--- 001, section 3; 01, 'The oracle of a word'.
+-- 001, section 2.2; 01, 'The oracle of a word'.
 use mathlib.Core.Path.{_≡_}
 use mathlib.Core.List.{List, [], _∷_}
 use Prim.Native.Nat.{_<_}

@@ -7,7 +7,7 @@
 --   repeated u     the longest end of u that does
 --   supply p i     the state where that end of the first i letters is walked to
 --
--- 001, section 3 (repet and S); 01, 'The oracle of a word'; demand 2.
+-- 001, section 2.2 (repet and S); 01, 'The oracle of a word'; demand 2.
 use mathlib.Core.Bool.{Bool}
 use mathlib.Core.Option.{Option, none, some}
 use mathlib.Core.List.{List, [], _∷_}

@@ -1,4 +1,5 @@
-//! The linear search, `turbo`: on words and texts that a stranger would choose, and on random ones; beside `search` and a plain search along the word's borders.
+//! The linear search, `turbo`: on words and texts that a stranger would choose, and on random ones; beside `search` and a plain search along the word's
+//! borders.
 
 use crate::clock::{best, by_turns, ms};
 use crate::rivals::{memchr_count, memmem_count};

@@ -1,5 +1,5 @@
-//! The search beside that of an earlier commit, plain Rust and the searches of others, all by turns, on random texts of 16 MiB: how quickly arrows are found. Only
-//! where `tools/speed --beside COMMIT` has linked that commit's archive, its names with `older_` before them.
+//! The search beside that of an earlier commit, plain Rust and the searches of others, all by turns, on random texts of 16 MiB: how quickly arrows are found.
+//! Only where `tools/speed --beside COMMIT` has linked that commit's archive, its names with `older_` before them.
 
 use crate::clock::{by_turns, ms};
 use crate::plain::Plain;

@@ -1,7 +1,8 @@
-//! speed [TABLE..]: measures `build`, `load`, `search`, `turbo` and `take` on this machine, and prints the tables of docs/SPEED.md, or those that are named, each
-//! between two lines that name it. Run it by `tools/speed`.
+//! speed [TABLE..]: measures `build`, `load`, `search`, `turbo` and `take` on this machine, and prints the tables of docs/SPEED.md, or those that are named,
+//! each between two lines that name it. Run it by `tools/speed`.
 
 mod clock;
+mod faces;
 mod linear;
 #[cfg(with_older)]
 mod lookup;
@@ -48,7 +49,8 @@ fn lengths_head(before: &str) -> String {
     format!("{before} m = {lengths} |\n|{}", "---|".repeat(columns))
 }
 
-/// Microseconds for one word of each length, from the fastest of twelve runs. The lengths take turns, so that a slow moment of the machine falls on all of them.
+/// Microseconds for one word of each length, from the fastest of twelve runs. The lengths take turns, so that a slow moment of the machine falls on all of
+/// them.
 fn by_length(mut run: impl FnMut(usize)) -> [f64; LENGTHS.len()] {
     let mut fastest = [f64::INFINITY; LENGTHS.len()];
     for _ in 0..12 {
@@ -98,7 +100,7 @@ fn files(m: usize, letters: u64, how: &str) -> Vec<Vec<u8>> {
     let mut file = |i| {
         let word = Random(88172645463325252 + i).bytes(m, letters);
         let length = save(&word, &mut tables, &mut out).expect("a word within the limit");
-        damaged(&out[..length as usize], how)
+        damaged(&out[..length], how)
     };
     (0..WORDS).map(&mut file).collect()
 }
@@ -174,7 +176,7 @@ fn search_times() {
     }
 }
 
-/// Letters read for each letter of text, beside what 001 conjectures up to a constant.
+/// Letters read for each letter of text, beside what is conjectured of them, up to a constant.
 fn letters_read() {
     println!("| Alphabet | Word | letters read | log m / m | ratio |\n|---|---|---|---|---|");
     for letters in [2u64, 4, 256] {
@@ -199,10 +201,10 @@ fn primitive(random: &mut Random, n: usize) -> Vec<u8> {
     }
 }
 
-const PERIODIC: &str = "| Period | finds | letters read, steps of 01 | letters read \
-    | search, ms | plain Rust, steps of 01 | plain Rust | memmem | memchr | search / plain |";
+const PERIODIC: &str = "| Period | finds | letters read, steps of one place | letters read \
+    | search, ms | plain Rust, steps of one place | plain Rust | memmem | memchr | search / plain |";
 
-/// Words that stand often: word and text have one period. By the steps of 01 the window moves one place after a find.
+/// Words that stand often: word and text have one period. By steps of one place the window moves so far after a find.
 fn periodic_times() {
     println!("{PERIODIC}\n|{}", "---|".repeat(10));
     let mut random = Random(777767777);
@@ -212,10 +214,10 @@ fn periodic_times() {
         let (times, said) = race(word, &text);
         let (count, letters) = Plain::moving(word, 1).count(&text);
         assert_eq!(count, said.count);
-        let steps_of_01 = best(|| Plain::moving(word, 1).count(&text));
+        let steps_of_one = best(|| Plain::moving(word, 1).count(&text));
         print!("| {period} | {count} | {:.4} | {:.4} |", per_letter(letters, &text), per_letter(said.letters, &text));
         let [ours, plain, memmem, memchr] = times.map(ms);
-        println!(" {ours} | {} | {plain} | {memmem} | {memchr} | {:.2} |", ms(Some(steps_of_01)), ratio(&times));
+        println!(" {ours} | {} | {plain} | {memmem} | {memchr} | {:.2} |", ms(Some(steps_of_one)), ratio(&times));
     }
 }
 
@@ -233,6 +235,7 @@ const TABLES: &[(&str, fn())] = &[
     ("linear", linear::random_times),
     ("periodic", periodic_times),
     ("pieces", pieces::piece_times),
+    ("faces", faces::face_times),
 ];
 
 fn main() -> Result<(), String> {

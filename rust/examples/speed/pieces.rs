@@ -17,7 +17,7 @@ type Way = fn(&[u8], &[u8], usize) -> u64;
 fn by_entry(word: &[u8], text: &[u8], piece: usize) -> u64 {
     let (mut searcher, mut list) = ([0; SEARCHER], [0; LIST]);
     open(word, &mut searcher).expect("a word within the limit");
-    text.chunks(piece).map(|piece| take(&mut searcher, piece, black_box(&mut list)).expect("a text within the limit")).sum()
+    text.chunks(piece).map(|piece| take(&mut searcher, piece, black_box(&mut list)).expect("a text within the limit") as u64).sum()
 }
 
 fn by_plain_entry(word: &[u8], text: &[u8], piece: usize) -> u64 {

@@ -1,4 +1,5 @@
-//! A search of a text in pieces in plain safe Rust, along the borders of the word, one byte after the other: what a careful engineer would write. It tests nothing.
+//! A search of a text in pieces in plain safe Rust, along the borders of the word, one byte after the other: what a careful engineer would write. It tests
+//! nothing.
 
 use marks::LONGEST_STREAMED;
 

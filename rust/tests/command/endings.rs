@@ -10,14 +10,17 @@ use std::{
 #[test]
 fn a_closed_pipe_ends_it_quietly() {
     let here = Folder::new("closed").with("many", [b'a'; 1_000_000]);
-    let mut command = here.command(MARKS);
-    let mut running = command.args(["find", "a", "many"]).stdout(Stdio::piped()).stderr(Stdio::piped()).spawn().unwrap();
-    let mut first = String::new();
-    BufReader::with_capacity(16, running.stdout.take().unwrap()).read_line(&mut first).unwrap();
-    let (status, mut err) = (running.wait().unwrap(), String::new());
-    running.stderr.take().unwrap().read_to_string(&mut err).unwrap();
-    // 141 is what a shell says of grep
-    assert_eq!((first.as_str(), err.as_str(), status.code()), ("0\n", "", Some(141)));
+    for jobs in ["-j1", "-j2"] {
+        let mut command = here.command(MARKS);
+        let words = ["find", "-I", jobs, "a", "many", "many"];
+        let mut running = command.args(words).stdout(Stdio::piped()).stderr(Stdio::piped()).spawn().unwrap();
+        let mut first = String::new();
+        BufReader::with_capacity(16, running.stdout.take().unwrap()).read_line(&mut first).unwrap();
+        let (status, mut err) = (running.wait().unwrap(), String::new());
+        running.stderr.take().unwrap().read_to_string(&mut err).unwrap();
+        // 141 is what a shell says of grep
+        assert_eq!((first.as_str(), err.as_str(), status.code()), ("0\n", "", Some(141)));
+    }
 }
 
 #[test]
@@ -29,6 +32,41 @@ fn an_output_that_is_full_is_trouble() {
         let said = "marks: (standard output): the disk is full; make room and run it again, for what was written is not whole\n";
         assert_eq!((err.as_str(), output.status.code()), (said, Some(2)), "{words:?}");
     }
+}
+
+#[test]
+fn an_output_that_is_closed_is_trouble_where_something_is_to_be_written() {
+    let here = Folder::new("no-output").with("ride", "ababa").with("good", b"\x01\x02aa\0");
+    let closed = "it is closed; leave >&- out, or give it a file or a pipe to write to";
+    for line in [
+        "find aba ride",
+        "find -j2 aba ride ride",
+        "check good",
+        "show good",
+        "save aa -",
+        "--help",
+        "--generate man",
+        "save -f aa /dev/stdout",
+    ] {
+        here.shell(&format!("marks {line} >&-")).is_with(2, "", &format!("marks: (standard output): {closed}\n"));
+    }
+    for (line, status) in [("find -q aba ride", 0), ("find zz ride", 1), ("find -q zz ride", 1), ("save aa out", 0)] {
+        here.shell(&format!("marks {line} >&-")).is(status, "");
+    }
+    let closed = "it is closed; leave <&- out, or give it a file or a pipe to read";
+    here.shell("marks find aba - ride <&-").is_with(2, "ride:0\nride:2\n", &format!("marks: (standard input): {closed}\n"));
+}
+
+#[test]
+fn what_is_printed_is_not_searched_in_its_turn() {
+    let here = Folder::new("own-output").with("ride", "0:0");
+    let also = |name| format!("marks: {name}: it is also the output; write that elsewhere\n");
+    here.shell("marks find -r 0 >out").is_with(2, "", &also("out"));
+    here.shell("marks find -j2 0 ride ./out >>out").is_with(2, "", &also("./out"));
+    here.shell("marks find 0 - <out >>out").is_with(2, "", &also("(standard input)"));
+    here.shell("cat out").is(0, "ride:0\nride:2\nride:0\nride:2\n");
+    // a count is printed when all is read
+    here.shell("marks find -c 0 ride out >>out; tail -n 2 out").is(0, "ride:2\nout:2\n");
 }
 
 #[test]
@@ -51,15 +89,27 @@ fn on_a_terminal(here: &Folder, line: &str) -> Option<String> {
     Some(said.out)
 }
 
+fn line(bytes: u32) -> String {
+    format!("\rmarks: (standard input): {bytes} bytes read\x1b[K")
+}
+
+const ERASED: &str = "\r\x1b[K";
+
+#[test]
+fn a_progress_line_of_the_file_that_is_waited_for() {
+    let here = Folder::new("progress-jobs").with("zeros", vec![0; 3_000_000]);
+    let Some(said) = on_a_terminal(&here, "{ printf ab; sleep 2; } | marks find -Ij2 ab - zeros") else { return };
+    let (first, rest) = said.split_once('\n').unwrap();
+    assert!(first == "0\r" && rest.starts_with(&line(2)) && rest.ends_with(ERASED), "{said:?}");
+}
+
 #[test]
 fn a_progress_line_after_a_second_and_not_before() {
     let here = Folder::new("progress");
     let Some(quick) = on_a_terminal(&here, "printf abab | marks find ab -") else { return };
     assert_eq!(quick, "0\r\n2\r\n");
     let slow = on_a_terminal(&here, "{ printf ab; sleep 2; printf ab; sleep .5; printf ab; } | marks find ab -").unwrap();
-    let line = |bytes| format!("\rmarks: (standard input): {bytes} bytes read\x1b[K");
-    let erased = "\r\x1b[K";
-    assert_eq!(slow, format!("0\r\n2\r\n{}{erased}4\r\n{}{erased}", line(4), line(6)));
+    assert_eq!(slow, format!("0\r\n2\r\n{}{ERASED}4\r\n{}{ERASED}", line(4), line(6)));
     // not where messages go to a file
     let kept = on_a_terminal(&here, "{ printf ab; sleep 1.5; printf ab; } | marks find ab - 2>err").unwrap();
     assert_eq!((kept.as_str(), std::fs::read(here.path("err")).unwrap()), ("0\r\n2\r\n", vec![]));

@@ -1,6 +1,6 @@
 //! `marks find`: words and mark files, offsets and counts, names, standard input, and files that cannot be read.
 
-use crate::{told, Folder, MARKS};
+use crate::{told, Folder};
 use marks::LONGEST_WORD;
 use std::{
     ffi::OsStr,
@@ -19,11 +19,11 @@ fn one_file_gives_offsets_alone_and_several_give_names() {
     here.marks(&["find", "aba", "ride", "empty", "other"]).is(0, "ride:2\nride:4\nother:0\n");
     here.marks(&["find", "-H", "aba", "ride"]).is(0, "ride:2\nride:4\n");
     here.marks(&["find", "--with-filename", "aba", "other"]).is(0, "other:0\n");
-    here.marks(&["find", "-h", "aba", "ride", "other"]).is(0, "2\n4\n0\n");
+    here.marks(&["find", "-I", "aba", "ride", "other"]).is(0, "2\n4\n0\n");
     here.marks(&["find", "--no-filename", "aba", "ride", "other"]).is(0, "2\n4\n0\n");
     // the last of the two decides
-    here.marks(&["find", "-hH", "aba", "other"]).is(0, "other:0\n");
-    here.marks(&["find", "-H", "-h", "aba", "other"]).is(0, "0\n");
+    here.marks(&["find", "-IH", "aba", "other"]).is(0, "other:0\n");
+    here.marks(&["find", "-H", "-I", "aba", "other"]).is(0, "0\n");
 }
 
 #[test]
@@ -47,34 +47,9 @@ fn counts_and_offsets_in_hex() {
 }
 
 #[test]
-fn a_word_in_hex_digits() {
-    let here = Folder::new("hex").with("bytes", [0x00, 0xff, 0x0a, 0x00, 0xff, 0x0a]);
-    here.marks(&["find", "-x", "00ff0A", "bytes"]).is(0, "0\n3\n");
-    here.marks(&["find", "--hex", "00 fF 0a", "bytes"]).is(0, "0\n3\n");
-    here.marks(&["find", "-x", "00", "bytes"]).is(0, "0\n3\n");
-    let digits = "write each byte as two of 0-9 and a-f, as 2e464954";
-    here.marks(&["find", "-x", "00f", "bytes"]).is_with(
-        2,
-        "",
-        &format!("marks: WORD: \"00f\" has an odd number of hex digits; {digits}\n"),
-    );
-    here.marks(&["find", "-x", "00fg", "bytes"]).is_with(2, "", &format!("marks: WORD: \"g\" is no hex digit; {digits}\n"));
-    here.marks(&["find", "-x", "0 0f f", "bytes"]).is_with(
-        2,
-        "",
-        &format!("marks: WORD: \"0\" has an odd number of hex digits; {digits}\n"),
-    );
-    here.marks(&["find", "-x", "0\u{1b}", "bytes"]).is_with(2, "", &format!("marks: WORD: \"\\x1b\" is no hex digit; {digits}\n"));
-}
-
-#[test]
-fn words_and_names_are_bytes_of_any_kind() {
-    let here = Folder::new("bytes");
-    let (word, name) = (OsStr::from_bytes(b"\xff\xfe"), OsStr::from_bytes(b"r\xe9sum\xe9"));
-    fs::write(here.path("").join(name), b"..\xff\xfe").unwrap();
-    let output = here.command(MARKS).args([OsStr::new("find"), OsStr::new("-H"), word, name]).output().unwrap();
-    assert_eq!((&output.stdout[..], output.status.code()), (&b"r\xe9sum\xe9:2\n"[..], Some(0)));
-    fs::write(here.path("text"), "Zürich, Zürich").unwrap();
+fn words_are_bytes_of_any_kind() {
+    let here = Folder::new("bytes").with("ride", b"..\xff\xfe").with("text", "Zürich, Zürich");
+    here.marks(&[OsStr::new("find"), OsStr::from_bytes(b"\xff\xfe"), OsStr::new("ride")]).is(0, "2\n");
     here.marks(&["find", "ürich", "text"]).is(0, "1\n10\n");
 }
 
@@ -82,7 +57,7 @@ fn words_and_names_are_bytes_of_any_kind() {
 fn a_word_has_1_byte_to_the_most() {
     let (most, more) = ("a".repeat(LONGEST_WORD), "a".repeat(LONGEST_WORD + 1));
     let here = Folder::new("lengths").with("long", &more);
-    let long = format!("the word is longer than {} bytes, or that of a stream than 64 (2)", told(LONGEST_WORD));
+    let long = format!("the word is longer than {} bytes, or for a stream than 64 (2)", told(LONGEST_WORD));
     let (empty, advice) = ("the word is empty (1)", format!("give 1 to {} bytes", told(LONGEST_WORD)));
     here.marks(&["find", &most, "long"]).is(0, "0\n1\n");
     for (word, said) in [("", empty), (&more, &long)] {
@@ -124,23 +99,25 @@ fn standard_input_is_a_hyphen() {
 fn a_bad_file_is_named_and_the_next_one_taken() {
     let here = folder("bad-files");
     fs::create_dir(here.path("folder")).unwrap();
+    let [gone, folder] =
+        ["gone: there is no such file; check its name", "folder: it is a directory; look in it with -r, or name the files in it"];
     here.marks(&["find", "aba", "gone", "ride", "folder", "other"]).is_with(
         2,
         "ride:2\nride:4\nother:0\n",
-        "marks: gone: there is no such file; check its name\nmarks: folder: it is a directory; name the files in it\n",
+        &format!("marks: {gone}\nmarks: {folder}\n"),
     );
-    here.marks(&["find", "-c", "zz", "folder", "ride"]).is_with(2, "ride:0\n", "marks: folder: it is a directory; name the files in it\n");
+    here.marks(&["find", "-c", "zz", "folder", "ride"]).is_with(2, "ride:0\n", &format!("marks: {folder}\n"));
     here.marks(&["find", "aba", "ride/x"]).is_with(2, "", "marks: ride/x: there is no such file; check its name\n");
     let long = "n".repeat(300);
     here.marks(&["find", "aba", &long]).is_with(
         2,
         "",
-        &format!("marks: {long}: it cannot be opened: File name too long (os error 36); check its name\n"),
+        &format!("marks: {long}: it cannot be opened: File name too long (os error 36); check its name, and what it is\n"),
     );
     here.shell("marks find aba ride gone other 2>&1")
         .is(2, "ride:2\nride:4\nmarks: gone: there is no such file; check its name\nother:0\n");
     // a name cannot forge a line of its own
-    here.marks(&["find", "aba", "a\nmarks: b"]).is_with(2, "", "marks: a\\nmarks: b: there is no such file; check its name\n");
+    here.marks(&["find", "aba", "a\nmarks: b"]).is_with(2, "", "marks: $'a\\nmarks: b': there is no such file; check its name\n");
 }
 
 #[test]
@@ -159,7 +136,7 @@ fn a_file_without_the_right_to_read_it() {
     let here = folder("unreadable");
     fs::set_permissions(here.path("ride"), fs::Permissions::from_mode(0o000)).unwrap();
     if let Some(said) = here.marks_unprivileged(&["find", "aba", "ride", "other"]) {
-        said.is_with(2, "other:0\n", "marks: ride: you may not read it; ask its owner, or chmod +r it\n");
+        said.is_with(2, "other:0\n", "marks: ride: you may not read it; ask its owner for the right to, and to enter its folder\n");
     }
 }
 
@@ -170,6 +147,6 @@ fn a_mark_file_that_cannot_be_used() {
     here.marks(&["find", "-m", "ride", "other"]).is_with(
         2,
         "",
-        "marks: ride: the file is of another edition than 1 (7), at offset 0; it is no mark file, or of a later edition: save the mark again\n",
+        "marks: ride: the file's edition is not 1 (7), at offset 0; it is no mark file, or of a later edition: save the mark again\n",
     );
 }

@@ -1,12 +1,19 @@
-//! The command line as a person uses it: the program is run in a folder of its own, and what it prints, complains of and ends with is compared.
+//! The command line as a person uses it: the program is run in a folder of its own, and what it prints, complains of and ends with is
+//! compared.
 
+mod answers;
 mod endings;
 mod engines;
 mod find;
+mod folders;
+mod help;
+mod jobs;
 mod mark_files;
 mod places;
+mod save;
 mod seams;
 mod usage;
+mod words;
 
 use std::{
     ffi::OsStr,
@@ -57,7 +64,8 @@ impl Folder {
         Said::of(self.command(MARKS).args(words).stdin(Stdio::null()).output().unwrap())
     }
 
-    /// Runs marks as somebody who has no right that a file does not give: root runs it as nobody. Nothing where nobody cannot reach the program.
+    /// Runs marks as somebody who has no right that a file does not give: root runs it as nobody. Nothing where nobody cannot reach the
+    /// program.
     pub fn marks_unprivileged(&self, words: &[&str]) -> Option<Said> {
         let mut command = self.command(MARKS);
         if fs::metadata(&self.0).unwrap().uid() == 0 {

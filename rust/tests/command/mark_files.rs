@@ -1,69 +1,8 @@
-//! `marks save`, `marks check` and `marks show`: mark files good and bad.
+//! `marks check` and `marks show`: mark files good and bad.
 
-use crate::{told, Folder, GOOD};
-use marks::LONGEST_WORD;
-use std::{fs, os::unix::fs::PermissionsExt};
-
-#[test]
-fn a_saved_mark_finds_its_word() {
-    let here = Folder::new("save");
-    here.marks(&["save", "ab", "ab.mark"]).is(0, "");
-    assert_eq!(fs::read(here.path("ab.mark")).unwrap(), b"\x01\x02ba\x01\0\0");
-    here.marks(&["save", "-x", "00ff", "bytes.mark"]).is(0, "");
-    assert_eq!(fs::read(here.path("bytes.mark")).unwrap(), b"\x01\x02\xff\x00\x01\0\0");
-    // over a longer file
-    here.marks(&["save", "aa", "ab.mark"]).is(0, "");
-    assert_eq!(fs::read(here.path("ab.mark")).unwrap(), b"\x01\x02aa\0");
-    here.marks(&["save", "aa", "-"]).is(0, "\u{1}\u{2}aa\0");
-    here.shell("marks save abc - | marks find -m - /dev/null").is(1, "");
-    here.shell("marks save abc - | marks check -")
-        .is(0, "(standard input): good, finds \"abc\" (3 letters; it holds the mirror, \"cba\")\n");
-}
-
-#[test]
-fn a_word_of_one_letter_is_not_saved_but_found() {
-    let here = Folder::new("one-letter").with("ride", "aba").with("kept", "as it was").with("old", b"\x01\x01a\0");
-    let complaint = "marks: WORD: a word of one letter is not saved (17); look for it directly: marks find WORD FILE\n";
-    for words in [&["save", "a", "kept"][..], &["save", "-x", "61", "kept"], &["save", "a", "-"], &["save", "a", "no/out"]] {
-        here.marks(words).is_with(2, "", complaint);
-    }
-    assert_eq!(fs::read(here.path("kept")).unwrap(), b"as it was");
-    here.marks(&["find", "a", "ride"]).is(0, "0\n2\n");
-    // and the file that one once had is not taken
-    let refused = "the file declares a word of fewer than 2 letters or of more than 4,096 (8), at offset 1; \
-                   it is damaged, no mark file, or of one letter: save a mark of 2 to 4,096 bytes";
-    here.marks(&["find", "-m", "old", "ride"]).is_with(2, "", &format!("marks: old: {refused}\n"));
-    let place = "  00000000  01 01 61 00                                       |..a.|\n               ^^\n";
-    here.marks(&["check", "old"]).is(1, &format!("old: refused: {refused}\n{place}"));
-}
-
-#[test]
-fn an_out_that_cannot_be_written() {
-    let here = Folder::new("out");
-    let complaint = |out: &str, said: &str| format!("marks: {out}: {said}\n");
-    here.marks(&["save", "ab", "."]).is_with(2, "", &complaint(".", "it is a directory; name a file in it"));
-    here.marks(&["save", "ab", "no/out"]).is_with(
-        2,
-        "",
-        &complaint("no/out", "its directory is not there; make that first, or name another place"),
-    );
-    here.marks(&["save", "ab", "/dev/full"]).is_with(
-        2,
-        "",
-        &complaint("/dev/full", "the disk is full; make room and run it again, for what was written is not whole"),
-    );
-    let long = "n".repeat(300);
-    here.marks(&["save", "ab", &long]).is_with(
-        2,
-        "",
-        &complaint(&long, "it cannot be written: File name too long (os error 36); name another place"),
-    );
-    fs::create_dir(here.path("locked")).unwrap();
-    fs::set_permissions(here.path("locked"), fs::Permissions::from_mode(0o555)).unwrap();
-    if let Some(said) = here.marks_unprivileged(&["save", "ab", "locked/out"]) {
-        said.is_with(2, "", &complaint("locked/out", "you may not write it; name another place"));
-    }
-}
+use crate::{Folder, GOOD};
+use marks::Refusal;
+use std::fs;
 
 #[test]
 fn check_says_what_good_files_find() {
@@ -84,29 +23,27 @@ fn check_says_what_good_files_find() {
 fn every_refusal_of_a_file_is_told_with_its_number_and_offset() {
     let again = "save the mark again";
     let damaged = format!("it is damaged or no mark file: {again}");
-    let cut = ("the file ends before its last field does (5)", format!("it was cut: copy it again, or {again}"));
-    let no_word = format!("the file declares a word of fewer than 2 letters or of more than {} (8)", told(LONGEST_WORD));
-    let length = (&no_word[..], "it is damaged, no mark file, or of one letter: save a mark of 2 to 4,096 bytes".to_string());
-    let arrows = ("the file's arrows are not those of its word (10)", damaged.clone());
-    let spelling = ("a number in the file is not in its one spelling (6)", format!("{damaged}; docs/FILE.md has the spelling"));
+    let cut = (Refusal::CutFile, format!("it was cut: copy it again, or {again}"));
+    let length = (Refusal::BadLength, "it is damaged, no mark file, or of one letter: save a mark of 2 to 4,096 bytes".to_string());
+    let [spelling, arrows] = [Refusal::BadNumber, Refusal::WrongArrow].map(|refusal| (refusal, damaged.clone()));
     let cases: [(&[u8], usize, _); 12] = [
         (b"", 0, cut.clone()),
         (&GOOD[..17], 17, cut),
         (b"\x01\x83\x00aaa\x00", 2, spelling.clone()),
         (b"\x01\xff\xff\xff\xff\x10", 5, spelling),
-        (b"\x02\x01a\0", 0, ("the file is of another edition than 1 (7)", format!("it is no mark file, or of a later edition: {again}"))),
+        (b"\x02\x01a\0", 0, (Refusal::OtherEdition, format!("it is no mark file, or of a later edition: {again}"))),
         // four billion letters, none, and one
         (b"\x01\xff\xff\xff\xff\x0f", 1, length.clone()),
         (b"\x01\x00", 1, length.clone()),
         (b"\x01\x01a\0", 1, length),
-        (b"\x01\x03aaa\x03", 5, ("the file declares more arrows than its word can have (9)", damaged)),
+        (b"\x01\x03aaa\x03", 5, (Refusal::BadCount, damaged)),
         (b"\x01\x03aaa\x01\0\0", 6, arrows.clone()),
         (b"\x01\x02ab\0", 5, arrows),
-        (b"\x01\x03aaa\0\0", 6, ("bytes follow the file's last arrow (11)", format!("something was added to it: {again}"))),
+        (b"\x01\x03aaa\0\0", 6, (Refusal::Leftovers, format!("something was added to it: {again}"))),
     ];
-    for (number, (bytes, offset, (meaning, advice))) in cases.into_iter().enumerate() {
+    for (number, (bytes, offset, (refusal, advice))) in cases.into_iter().enumerate() {
         let here = Folder::new(&format!("refused-{number}")).with("bad", bytes).with("good", GOOD).with("ride", "baabbba");
-        let told = format!("{meaning}, at offset {offset}; {advice}");
+        let told = format!("{refusal}, at offset {offset}; {advice}");
         let said = here.marks(&["check", "bad", "good"]);
         let unindented: Vec<&str> = said.out.lines().filter(|line| !line.starts_with("  ")).collect();
         let good = "good: good, finds \"baabbba\" (7 letters; it holds the mirror, \"abbbaab\")";
@@ -131,10 +68,9 @@ fn trouble_with_a_file_is_not_a_refusal() {
 #[test]
 fn a_huge_file_is_judged_by_its_front() {
     let here = Folder::new("huge").with("file", GOOD).with("none", "");
-    for (name, status) in [
-        ("file", "bytes follow the file's last arrow (11), at offset 18;"),
-        ("none", "the file is of another edition than 1 (7), at offset 0;"),
-    ] {
+    for (name, status) in
+        [("file", "bytes follow the file's last arrow (11), at offset 18;"), ("none", "the file's edition is not 1 (7), at offset 0;")]
+    {
         fs::File::options().write(true).open(here.path(name)).unwrap().set_len(1 << 40).unwrap();
         let said = here.shell(&format!("ulimit -v 32768; marks check {name}"));
         assert!(said.out.starts_with(&format!("{name}: refused: {status}")), "{said:?}");

@@ -20,7 +20,7 @@ fn the_faulty_byte_is_marked() {
     arrow[13] = 4;
     let here = Folder::new("marked").with("arrow", arrow).with("huge", b"\x01\xff\xff\xff\xff\x0f");
     assert_eq!(
-        shown(&here, "arrow", "the file's arrows are not those of its word (10), at offset 12"),
+        shown(&here, "arrow", "an arrow in the file is not its word's own at that place, or arrows are missing (10), at offset 12"),
         [
             "  00000000  01 07 61 62 62 62 61 61  62 04 00 00 01 04 01 01  |..abbbaab.......|",
             "                                                 ^^",
@@ -28,7 +28,7 @@ fn the_faulty_byte_is_marked() {
         ]
     );
     assert_eq!(
-        shown(&here, "huge", "the file declares a word of fewer than 2 letters or of more than 4,096 (8), at offset 1"),
+        shown(&here, "huge", "the file declares fewer than 2 letters, or more than 4,096 (8), at offset 1"),
         ["  00000000  01 ff ff ff ff 0f                                 |......|", "               ^^"]
     );
 }
@@ -36,7 +36,7 @@ fn the_faulty_byte_is_marked() {
 #[test]
 fn the_end_of_a_file_is_marked_behind_its_last_byte() {
     let here = Folder::new("ends").with("empty", "").with("cut", &GOOD[..11]).with("row", &GOOD[..16]).with("missing", b"\x01\x02ab\0");
-    let cut = |length| format!("the file ends before its last field does (5), at offset {length}");
+    let cut = |length| format!("the file ends before or inside a number, or before the last of its letters (5), at offset {length}");
     assert_eq!(shown(&here, "empty", &cut(0)), ["  00000000", "            ^^ the file ends here"]);
     assert_eq!(
         shown(&here, "cut", &cut(11)),
@@ -54,7 +54,7 @@ fn the_end_of_a_file_is_marked_behind_its_last_byte() {
         ]
     );
     assert_eq!(
-        shown(&here, "missing", "the file's arrows are not those of its word (10), at offset 5"),
+        shown(&here, "missing", "an arrow in the file is not its word's own at that place, or arrows are missing (10), at offset 5"),
         ["  00000000  01 02 61 62 00                                    |..ab.|", "                           ^^ the file ends here"]
     );
 }
@@ -66,14 +66,14 @@ fn each_place_stands_below_its_own_file() {
     said.is_with(
         2,
         "\
-1: refused: the file is of another edition than 1 (7), at offset 0; it is no mark file, or of a later edition: save the mark again
+1: refused: the file's edition is not 1 (7), at offset 0; it is no mark file, or of a later edition: save the mark again
   00000000  02                                                |.|
             ^^
 2: good, finds \"aa\" (2 letters)
 3: refused: bytes follow the file's last arrow (11), at offset 5; something was added to it: save the mark again
   00000000  01 02 61 61 00 1b 5b 32  4a                       |..aa..[2J|
                            ^^
-(standard input): refused: the file declares a word of fewer than 2 letters or of more than 4,096 (8), at offset 1; it is damaged, no mark file, or of one letter: save a mark of 2 to 4,096 bytes
+(standard input): refused: the file declares fewer than 2 letters, or more than 4,096 (8), at offset 1; it is damaged, no mark file, or of one letter: save a mark of 2 to 4,096 bytes
   00000000  01 00                                             |..|
                ^^
 ",
@@ -140,7 +140,7 @@ fn a_hundred_kilobytes_of_leftovers() {
 #[test]
 fn a_hundred_kilobytes_of_garbage() {
     let here = Folder::new("garbage").with("file", garbage());
-    assert_eq!(shown(&here, "file", "the file is of another edition than 1 (7), at offset 0").len(), 2);
+    assert_eq!(shown(&here, "file", "the file's edition is not 1 (7), at offset 0").len(), 2);
     judged_as_the_whole(here, &garbage());
     // from each field of a good file on
     let file = Mark::new(&garbage()[..LONGEST_WORD]).unwrap().to_file().unwrap();

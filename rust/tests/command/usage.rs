@@ -1,25 +1,6 @@
-//! Help, version, options, and command lines that ask for nothing that can be done.
+//! Options, and command lines that ask for nothing that can be done.
 
-use crate::{told, Folder};
-use marks::LONGEST_WORD;
-
-#[test]
-fn help_fits_a_screen() {
-    let here = Folder::new("help");
-    let said = here.marks(&["--help"]);
-    assert_eq!((said.status, said.err.as_str()), (Some(0), ""));
-    assert!(said.out.lines().count() <= 24 && said.out.lines().all(|line| line.chars().count() <= 80), "{}", said.out);
-    for word in ["find", "save", "check", "show", "-x", "-m", "-X", "-c", "-H", "-h", "--dot", "--help", "--version", "mirror"] {
-        assert!(said.out.contains(word), "{word}");
-    }
-    for word in ["--engine", "auto", "backward", "turbo", "--stats"] {
-        assert!(said.out.contains(word), "{word}");
-    }
-    assert!(said.out.contains(&format!("WORD has 1 to {} bytes", told(LONGEST_WORD))));
-    assert_eq!(here.marks(&["find", "--help"]), said);
-    assert_eq!(here.marks(&["check", "-x", "--help"]), said);
-    here.marks(&["--version"]).is(0, concat!("marks ", env!("CARGO_PKG_VERSION"), "\n"));
-}
+use crate::Folder;
 
 #[test]
 fn options_stand_anywhere_up_to_two_hyphens() {
@@ -36,36 +17,38 @@ fn options_stand_anywhere_up_to_two_hyphens() {
 #[test]
 fn what_cannot_be_done_is_said_with_what_to_do() {
     let here = Folder::new("usage").with("ride", "ababa");
-    let commands = "it is find, save, check or show; marks --help has more";
+    let commands = "it is find, save, check, show or help; marks --help has more";
     let options = "marks --help lists the options, and -- goes before a word that begins with - and is none";
     let save = "it takes a WORD and the file to write; as in marks save -x 2e464954 fit.mark";
     let show = "it takes one MARKFILE; name one that marks save wrote, or - for standard input";
     let engines = "it is auto, backward or turbo";
-    let cases: [(&[&str], &str); 31] = [
-        (&[], &format!("command: none is given; {commands}")),
+    let cases: [(&[&str], &str); 33] = [
         (&["-c"], &format!("command: none is given; {commands}")),
         (&["fnid", "a", "ride"], &format!("fnid: there is no such command; {commands}")),
         (&["find"], "find: no WORD is given; give the word to find, or a mark file with -m"),
+        (&["find", "-r"], "find: no WORD is given; give the word to find, or a mark file with -m"),
         (&["find", "a"], "find: no FILE is given; name the files to look in, or - for standard input"),
         (&["find", "-m", "x"], "find: no FILE is given; name the files to look in, or - for standard input"),
         (&["find", "a", "ride", "-m"], "-m: no mark file follows it; name one that marks save wrote"),
         (&["find", "ride", "--mark"], "-m: no mark file follows it; name one that marks save wrote"),
         (&["find", "-m", "x", "--mark=y", "ride"], "-m: it is given twice; look for one mark at a time"),
         (&["find", "a", "ride", "--engine"], &format!("--engine: no name follows it; {engines}")),
-        (&["find", "--engine=fast", "a", "ride"], &format!("--engine: there is no engine \"fast\"; {engines}")),
-        (&["find", "--engine", "", "a", "ride"], &format!("--engine: there is no engine \"\"; {engines}")),
-        (&["find", "--engine", "\u{1b}[2J", "a", "ride"], &format!("--engine: there is no engine \"\\x1b[2J\"; {engines}")),
+        (&["find", "--engine=fast", "a", "ride"], &format!("--engine: it cannot be \"fast\"; {engines}")),
+        (&["find", "--engine", "", "a", "ride"], &format!("--engine: it cannot be \"\"; {engines}")),
+        (&["find", "--engine", "\u{1b}[2J", "a", "ride"], &format!("--engine: it cannot be \"\\x1b[2J\"; {engines}")),
         (&["find", "--engine=auto", "--engine", "turbo", "a", "ride"], "--engine: it is given twice; choose one"),
         (&["find", "-x", "-m", "x", "ride"], "find: both -x and -m are given; give WORD in hex, or a mark file"),
         (&["find", "-m", "-", "ride", "-"], "find: - is both the mark file and a FILE; name one of them"),
+        (&["find", "a", "-", "ride", "-"], "find: - is given twice; standard input can be read once"),
         (&["find", "-z", "a", "ride"], &format!("-z: there is no such option; {options}")),
         (&["find", "-cz", "a", "ride"], &format!("-z: there is no such option; {options}")),
         (&["find", "--colour", "a", "ride"], &format!("--colour: there is no such option; {options}")),
         (&["find", "--colour=red", "a", "ride"], &format!("--colour: there is no such option; {options}")),
-        (&["find", "--\u{1b}[2J", "a", "ride"], &format!("--\\u{{1b}}[2J: there is no such option; {options}")),
+        (&["find", "--\u{1b}[2J", "a", "ride"], &format!("$'--\\x1b[2J': there is no such option; {options}")),
         (&["find", "--count=3", "a", "ride"], "--count: it takes no value; leave = and what follows out"),
         (&["find", "--dot", "a", "ride"], "find: --dot is for show; leave it out"),
         (&["check", "-x", "ride"], "check: --hex is for find and save; leave it out"),
+        (&["find", "-f", "a", "ride"], "find: --force is for save; leave it out"),
         (&["save", "-c", "a", "b"], "save: --count is for find; leave it out"),
         (&["check", "--engine", "turbo", "ride"], "check: --engine is for find; leave it out"),
         (&["save", "a"], &format!("save: {save}")),

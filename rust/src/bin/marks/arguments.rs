@@ -1,97 +1,101 @@
 //! What the command line asks for.
 
 use crate::{
-    find::{Style, Wanted},
-    input,
-    options::{Words, ENGINES},
+    find,
+    help::Help,
+    manual::{self, listed, COMMANDS},
+    names,
+    options::Words,
     trouble::Trouble,
-    word::{quoted, Word},
+    word::Word,
 };
-use marks::Engine;
-use std::{
-    ffi::{OsStr, OsString},
-    os::unix::ffi::OsStrExt,
-};
+use std::ffi::{OsStr, OsString};
 
 pub enum Command {
-    Help,
+    /// Nothing was asked for at all.
+    Nothing,
+    Help(Help),
     Version,
-    Find { wanted: Wanted, engine: Engine, files: Vec<OsString>, style: Style },
-    Save { word: Word, out: OsString },
-    Check { files: Vec<OsString> },
-    Show { file: OsString, dot: bool },
+    Generate {
+        kind: String,
+    },
+    Find(find::Asked),
+    Save {
+        word: Word,
+        out: OsString,
+        force: bool,
+    },
+    Check {
+        files: Vec<OsString>,
+    },
+    Show {
+        file: OsString,
+        dot: bool,
+    },
 }
-
-const COMMANDS: &str = "it is find, save, check or show; marks --help has more";
 
 pub fn command(words: impl Iterator<Item = OsString>) -> Result<Command, Trouble> {
     let mut words = Words::of(words)?;
+    if words.is_empty() {
+        return Ok(Command::Nothing);
+    }
     if words.has("help") {
-        return Ok(Command::Help);
+        return help(&words);
     }
     if words.has("version") {
         return Ok(Command::Version);
     }
     if words.rest.is_empty() {
-        return Err(Trouble::new("command", "none is given", COMMANDS));
+        return alone(&words);
     }
     let name = words.rest.remove(0);
+    if let Some(known) = name.to_str().and_then(manual::command) {
+        words.all_of(known.name)?;
+    }
     match name.to_str() {
-        Some("find") => find(words),
+        Some("find") => find::Asked::of(words).map(Command::Find),
         Some("save") => save(words),
         Some("check") => check(words),
         Some("show") => show(words),
-        _ => Err(Trouble::new(input::shown(&name), "there is no such command", COMMANDS)),
+        Some("help") => help(&words),
+        _ => Err(no_command(&name)),
     }
 }
 
-fn find(mut words: Words) -> Result<Command, Trouble> {
-    words.all_of("find")?;
-    let hex = words.has("hex");
-    let wanted = match words.value_of("mark") {
-        Some(_) if hex => return Err(Trouble::new("find", "both -x and -m are given", "give WORD in hex, or a mark file")),
-        Some(file) => Wanted::File(file.to_os_string()),
-        None if words.rest.is_empty() => {
-            return Err(Trouble::new("find", "no WORD is given", "give the word to find, or a mark file with -m"));
-        }
-        None => Wanted::Word(Word { given: words.rest.remove(0), hex }),
-    };
-    let engine = words.value_of("engine").map(engine).transpose()?.unwrap_or_default();
-    let style = Style {
-        count_only: words.has("count"),
-        hex_offsets: words.has("hex-offsets"),
-        names: words.last_of("with-filename", "no-filename").unwrap_or(words.rest.len() > 1),
-        stats: words.has("stats"),
-    };
-    if words.rest.is_empty() {
-        return Err(Trouble::new("find", "no FILE is given", "name the files to look in, or - for standard input"));
-    }
-    if matches!(&wanted, Wanted::File(file) if input::is_standard(file)) && words.rest.iter().any(|file| input::is_standard(file)) {
-        return Err(Trouble::new("find", "- is both the mark file and a FILE", "name one of them"));
-    }
-    Ok(Command::Find { wanted, engine, files: words.rest, style })
+fn no_command(name: &OsStr) -> Trouble {
+    Trouble::new(names::shown(name), "there is no such command", commands())
 }
 
-fn engine(name: &OsStr) -> Result<Engine, Trouble> {
-    match name.to_str() {
-        Some("auto") => Ok(Engine::Auto),
-        Some("backward") => Ok(Engine::Backward),
-        Some("turbo") => Ok(Engine::Turbo),
-        _ => Err(Trouble::new("--engine", format!("there is no engine {}", quoted(name.as_bytes())), ENGINES)),
+fn commands() -> String {
+    format!("it is {}; marks --help has more", listed(&COMMANDS.each_ref().map(|command| command.name), "or"))
+}
+
+/// The help of the command that is named first, if any: `help` itself asks for that of another. A command that there is not has none.
+fn help(words: &Words) -> Result<Command, Trouble> {
+    let command = match words.rest.iter().find(|word| *word != "help").or(words.rest.first()) {
+        Some(name) => Some(name.to_str().and_then(manual::command).ok_or_else(|| no_command(name))?),
+        None => None,
+    };
+    Ok(Command::Help(Help { command, short: words.only_by_letter("help") }))
+}
+
+/// Options without a command.
+fn alone(words: &Words) -> Result<Command, Trouble> {
+    match words.value_of("generate").and_then(OsStr::to_str) {
+        Some(kind) => Ok(Command::Generate { kind: kind.to_string() }),
+        None => Err(Trouble::new("command", "none is given", commands())),
     }
 }
 
 fn save(words: Words) -> Result<Command, Trouble> {
-    words.all_of("save")?;
-    let hex = words.has("hex");
+    let (hex, force) = (words.has("hex"), words.has("force"));
     let Ok([given, out]) = <[OsString; 2]>::try_from(words.rest) else {
         return Err(Trouble::new("save", "it takes a WORD and the file to write", "as in marks save -x 2e464954 fit.mark"));
     };
-    Ok(Command::Save { word: Word { given, hex }, out })
+    Ok(Command::Save { word: Word { given, hex }, out, force })
 }
 
 fn check(words: Words) -> Result<Command, Trouble> {
-    words.all_of("check")?;
     if words.rest.is_empty() {
         return Err(Trouble::new("check", "no MARKFILE is given", "name the mark files to check, or - for standard input"));
     }
@@ -99,7 +103,6 @@ fn check(words: Words) -> Result<Command, Trouble> {
 }
 
 fn show(words: Words) -> Result<Command, Trouble> {
-    words.all_of("show")?;
     let dot = words.has("dot");
     let Ok([file]) = <[OsString; 1]>::try_from(words.rest) else {
         return Err(Trouble::new("show", "it takes one MARKFILE", "name one that marks save wrote, or - for standard input"));

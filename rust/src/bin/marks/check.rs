@@ -1,31 +1,34 @@
 //! `marks check`: whether mark files are good, and what they find, or where they are broken.
 
 use crate::{
-    dump, input,
+    dump, input, names,
     output::Output,
     trouble,
     word::{counted, mirror, quoted},
 };
 use marks::{LoadError, Mark};
-use std::ffi::OsString;
+use std::ffi::{OsStr, OsString};
 
 /// Whether all that could be read are good.
 pub fn check(files: &[OsString], output: &mut Output) -> bool {
     let mut good = true;
     for name in files {
         match input::mark_file(name) {
-            Ok(file) => {
-                let loaded = Mark::from_file(&file);
-                output.line_of(input::label(name), format_args!(": {}", verdict(&loaded)));
-                if let Err(error) = loaded {
-                    good = false;
-                    show_place(&file, error, output);
-                }
-            }
+            Ok(file) => good &= judge(name, &file, output),
             Err(trouble) => output.complain(&trouble),
         }
     }
     good
+}
+
+/// Says what a file is. Whether it is good.
+fn judge(name: &OsStr, file: &[u8], output: &mut Output) -> bool {
+    let loaded = Mark::from_file(file);
+    output.line(format_args!("{}: {}", names::shown(name), verdict(&loaded)));
+    if let Err(error) = &loaded {
+        show_place(file, *error, output);
+    }
+    loaded.is_ok()
 }
 
 fn verdict(loaded: &Result<Mark, LoadError>) -> String {

@@ -1,5 +1,5 @@
-//! An oracle as Graphviz text: the spine as a straight line of states, the extra arrows dashed. They do not decide where a state stands, or a word of a
-//! hundred letters would take minutes to draw.
+//! An oracle as Graphviz text: the spine as a straight line of states, the extra arrows dashed. They do not decide where a state stands, or
+//! a word of a hundred letters would take minutes to draw.
 
 use crate::{
     oracle::Oracle,

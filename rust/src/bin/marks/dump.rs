@@ -3,7 +3,8 @@
 /// The bytes of a row.
 const ROW: usize = 16;
 
-/// So many bytes on each side of the place are shown, where there are as many: a place near an end of its row gets the next row on that side too.
+/// So many bytes on each side of the place are shown, where there are as many: a place near an end of its row gets the next row on that
+/// side too.
 const NEAR: usize = 4;
 
 /// The lines. The place may be the one behind the last byte.

@@ -1,52 +1,92 @@
-//! marks: finds byte marks in files of any size, and saves, checks and shows them. The proved library does the finding, saving and loading; the program
-//! takes the command line apart, reads, prints, and says what went wrong and what to do.
+//! marks: finds byte marks in files of any size, and saves, checks and shows them. The proved library does the finding, saving and loading;
+//! the program takes the command line apart, reads, prints, and says what went wrong and what to do.
+#![deny(unsafe_code)]
 
 mod arguments;
 mod check;
+mod closed;
+mod complete;
 mod dot;
 mod dump;
 mod find;
 mod help;
+mod hex;
 mod input;
+mod json;
+mod man;
+mod manual;
+mod names;
 mod options;
 mod oracle;
 mod output;
-mod parts;
 mod progress;
 mod save;
 mod show;
 mod trouble;
 mod word;
+mod wrap;
 
 use arguments::Command;
 use output::Output;
 use std::{env, process::ExitCode};
 use trouble::Trouble;
 
-/// Whether the answer is yes: found, all good, or done.
-fn run(command: Command, output: &mut Output) -> Result<bool, Trouble> {
+/// What the status says.
+#[derive(PartialEq)]
+enum Answer {
+    /// Found, all good, or done.
+    Yes,
+    No,
+    /// Found, which was all that was asked for: trouble on the way does not matter.
+    YesInAnyCase,
+}
+
+fn answer(yes: bool) -> Answer {
+    if yes {
+        Answer::Yes
+    } else {
+        Answer::No
+    }
+}
+
+fn run(command: Command, output: &mut Output) -> Result<Answer, Trouble> {
     match command {
-        Command::Help => output.line(format_args!("{}", help::HELP)),
+        Command::Nothing => output.usage(&help::usage()),
+        Command::Help(help) => output.lines(&help.lines()),
         Command::Version => output.line(format_args!("marks {}", env!("CARGO_PKG_VERSION"))),
-        Command::Find { wanted, engine, files, style } => return find::find(&wanted, engine, &files, style, output),
-        Command::Save { word, out } => save::save(&word, &out, output)?,
-        Command::Check { files } => return Ok(check::check(&files, output)),
+        Command::Generate { kind } => output.lines(&generated(&kind)),
+        Command::Find(asked) if asked.is_quiet() => {
+            return Ok(if find::find(asked, output)? { Answer::YesInAnyCase } else { Answer::No });
+        }
+        Command::Find(asked) => return find::find(asked, output).map(answer),
+        Command::Save { word, out, force } => save::save(&word, &out, force, output)?,
+        Command::Check { files } => return Ok(answer(check::check(&files, output))),
         Command::Show { file, dot } => show::show(&file, dot, output)?,
     }
-    Ok(true)
+    Ok(Answer::Yes)
+}
+
+/// What `--generate` makes.
+fn generated(kind: &str) -> Vec<String> {
+    match kind {
+        "man" => man::lines(),
+        "complete-bash" => complete::bash::lines(),
+        "complete-zsh" => complete::zsh::lines(),
+        _ => complete::fish::lines(),
+    }
 }
 
 /// The status is grep's: 0 for yes, 1 for no, 2 for any trouble.
 fn main() -> ExitCode {
     let mut output = Output::new();
     let answer = arguments::command(env::args_os().skip(1)).and_then(|command| run(command, &mut output));
-    let yes = answer.unwrap_or_else(|trouble| {
+    let answer = answer.unwrap_or_else(|trouble| {
         output.complain(&trouble);
-        false
+        Answer::No
     });
-    match (output.close(), yes) {
+    match (output.close(), answer) {
+        (_, Answer::YesInAnyCase) | (false, Answer::Yes) => ExitCode::SUCCESS,
+        (false, Answer::No) => ExitCode::from(1),
         (true, _) => ExitCode::from(2),
-        (false, true) => ExitCode::SUCCESS,
-        (false, false) => ExitCode::from(1),
     }
 }

@@ -1,6 +1,6 @@
 //! What the program says: answers on standard output, troubles and the progress line on standard error, in the order in which they come.
 
-use crate::{progress::Progress, trouble::Trouble};
+use crate::{closed, progress::Progress, trouble::Trouble};
 use std::{
     fmt,
     io::{self, BufWriter, ErrorKind, StdoutLock, Write},
@@ -8,28 +8,39 @@ use std::{
 };
 
 pub struct Output {
-    out: BufWriter<StdoutLock<'static>>,
+    out: BufWriter<Standard>,
     progress: Progress,
     troubled: bool,
 }
 
 impl Output {
     pub fn new() -> Output {
-        Output { out: BufWriter::with_capacity(65_536, io::stdout().lock()), progress: Progress::new(), troubled: false }
+        let out = if closed::output_was_closed() { Standard::Closed } else { Standard::Open(io::stdout().lock()) };
+        Output { out: BufWriter::with_capacity(65_536, out), progress: Progress::new(), troubled: false }
     }
 
     pub fn line(&mut self, text: fmt::Arguments<'_>) {
-        self.line_of(b"", text);
-    }
-
-    /// A line that begins with the bytes of a file's name, whatever they are.
-    pub fn line_of(&mut self, name: &[u8], text: fmt::Arguments<'_>) {
         self.progress.erase();
-        let written = self.out.write_all(name).and_then(|()| writeln!(self.out, "{text}"));
+        let written = writeln!(self.out, "{text}");
         self.go_on(written);
     }
 
+    pub fn lines(&mut self, lines: &[String]) {
+        for line in lines {
+            self.line(format_args!("{line}"));
+        }
+    }
+
+    /// What there is to ask for, said to somebody who asked for nothing.
+    pub fn usage(&mut self, lines: &[String]) {
+        self.troubled = true;
+        for line in lines {
+            let _ = writeln!(io::stderr(), "{line}");
+        }
+    }
+
     pub fn bytes(&mut self, bytes: &[u8]) {
+        self.progress.erase();
         let written = self.out.write_all(bytes);
         self.go_on(written);
     }
@@ -49,8 +60,8 @@ impl Output {
     pub fn note(&mut self, text: fmt::Arguments<'_>) {
         self.flush();
         self.progress.erase();
-        // a message that nobody can be told does not change the status
-        let _ = writeln!(io::stderr(), "marks: {text}");
+        // what cannot be said is trouble, too
+        self.troubled |= writeln!(io::stderr(), "marks: {text}").is_err();
     }
 
     /// The end of all output. Whether there was trouble.
@@ -60,19 +71,46 @@ impl Output {
         self.troubled
     }
 
-    fn flush(&mut self) {
+    pub fn flush(&mut self) {
         let written = self.out.flush();
         self.go_on(written);
     }
 
-    /// A write that failed ends the program: quietly where the reader of a pipe went away, with the status that a shell gives of grep then (128 and SIGPIPE's 13).
+    /// A write that failed ends the program: quietly where the reader of a pipe went away, with the status that a shell gives of grep then
+    /// (128 and SIGPIPE's 13).
     fn go_on(&mut self, written: io::Result<()>) {
         let Err(error) = written else { return };
         self.progress.erase();
         if error.kind() == ErrorKind::BrokenPipe {
             process::exit(141);
         }
-        let _ = writeln!(io::stderr(), "marks: {}", Trouble::writing("(standard output)".to_string(), &error));
+        let trouble = match self.out.get_ref() {
+            Standard::Open(_) => Trouble::writing("(standard output)".to_string(), &error),
+            Standard::Closed => Trouble::new("(standard output)", "it is closed", "leave >&- out, or give it a file or a pipe to write to"),
+        };
+        let _ = writeln!(io::stderr(), "marks: {trouble}");
         process::exit(2);
+    }
+}
+
+/// Standard output, or that there is none.
+enum Standard {
+    Open(StdoutLock<'static>),
+    Closed,
+}
+
+impl Write for Standard {
+    fn write(&mut self, bytes: &[u8]) -> io::Result<usize> {
+        match self {
+            Standard::Open(out) => out.write(bytes),
+            Standard::Closed => Err(ErrorKind::NotConnected.into()),
+        }
+    }
+
+    fn flush(&mut self) -> io::Result<()> {
+        match self {
+            Standard::Open(out) => out.flush(),
+            Standard::Closed => Ok(()),
+        }
     }
 }

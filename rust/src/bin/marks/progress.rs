@@ -1,4 +1,5 @@
-//! The progress line: on a terminal, once the program has run for a second. It is overwritten in place, and erased before anything else is said.
+//! The progress line: on a terminal, once the program has run for a second. It is overwritten in place, and erased before anything else is
+//! said.
 
 use std::{
     io::{self, IsTerminal, Write},

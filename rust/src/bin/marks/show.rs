@@ -1,7 +1,7 @@
 //! `marks show`: the oracle in a mark file, as a table or as text for a picture.
 
 use crate::{
-    dot, input,
+    dot, input, names,
     oracle::Oracle,
     output::Output,
     trouble::Trouble,
@@ -14,7 +14,7 @@ const SCREEN: usize = 80;
 
 pub fn show(name: &OsStr, as_dot: bool, output: &mut Output) -> Result<(), Trouble> {
     let file = input::mark_file(name)?;
-    let oracle = Oracle::of_file(&file).map_err(|error| Trouble::refused(input::shown(name), error))?;
+    let oracle = Oracle::of_file(&file).map_err(|error| Trouble::refused(names::shown(name), error))?;
     let lines = if as_dot { dot::lines(&oracle) } else { table(&oracle, file.len()) };
     for line in lines {
         output.line(format_args!("{line}"));

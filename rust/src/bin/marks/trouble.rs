@@ -20,8 +20,10 @@ impl Trouble {
     pub fn opening(of: String, error: &io::Error) -> Trouble {
         match error.kind() {
             ErrorKind::NotFound | ErrorKind::NotADirectory => Trouble::new(of, "there is no such file", "check its name"),
-            ErrorKind::PermissionDenied => Trouble::new(of, "you may not read it", "ask its owner, or chmod +r it"),
-            _ => Trouble::new(of, format!("it cannot be opened: {error}"), "check its name"),
+            ErrorKind::PermissionDenied => {
+                Trouble::new(of, "you may not read it", "ask its owner for the right to, and to enter its folder")
+            }
+            _ => Trouble::new(of, format!("it cannot be opened: {error}"), "check its name, and what it is"),
         }
     }
 
@@ -39,7 +41,9 @@ impl Trouble {
 
     pub fn writing(of: String, error: &io::Error) -> Trouble {
         match error.kind() {
-            ErrorKind::NotFound => Trouble::new(of, "its directory is not there", "make that first, or name another place"),
+            ErrorKind::NotFound | ErrorKind::NotADirectory => {
+                Trouble::new(of, "its directory is not there", "make that first, or name another place")
+            }
             ErrorKind::PermissionDenied => Trouble::new(of, "you may not write it", "name another place"),
             ErrorKind::IsADirectory => Trouble::new(of, "it is a directory", "name a file in it"),
             ErrorKind::StorageFull => Trouble::new(of, "the disk is full", "make room and run it again, for what was written is not whole"),
@@ -64,13 +68,12 @@ pub fn advice(refusal: Refusal) -> &'static str {
     match refusal {
         Refusal::EmptyWord | Refusal::LongWord => "give 1 to 4,096 bytes",
         Refusal::CutFile => "it was cut: copy it again, or save the mark again",
-        Refusal::BadNumber => "it is damaged or no mark file: save the mark again; docs/FILE.md has the spelling",
         Refusal::OtherEdition => "it is no mark file, or of a later edition: save the mark again",
         Refusal::BadLength => "it is damaged, no mark file, or of one letter: save a mark of 2 to 4,096 bytes",
-        Refusal::BadCount | Refusal::WrongArrow => "it is damaged or no mark file: save the mark again",
+        Refusal::BadNumber | Refusal::BadCount | Refusal::WrongArrow => "it is damaged or no mark file: save the mark again",
         Refusal::ShortWord => "look for it directly: marks find WORD FILE",
         Refusal::Leftovers => "something was added to it: save the mark again",
         // the program lends room enough for every word and every file, and texts in parts; it opens no stream
-        Refusal::ShortRoom | Refusal::LongText | Refusal::ShortOutput | Refusal::Unmade => "this is a fault of the program: report it",
+        _ => "this is a fault of the program: report it",
     }
 }

@@ -1,0 +1,75 @@
+"""The library's entries over rooms of Python's. What an entry refuses is raised."""
+from array import array
+from ctypes import byref, c_uint64
+from itertools import chain
+from typing import Any, List, Tuple, Union
+
+from ._lent import Lent
+from ._library import LIBRARY
+from ._refused import refused
+
+LONGEST_WORD = 4_096
+LONGEST_TEXT = 16_777_216
+LONGEST_FILE = 5 * LONGEST_WORD + 1
+SEARCHER = 134
+
+
+def room(kind: str, entries: int) -> "array[int]":
+    """Zeros, of a kind as the module array names it: B, H and I are 8, 16 and 32 bits."""
+    return array(kind, bytes(entries * array(kind).itemsize))
+
+
+def tables(letters: int) -> "array[int]":
+    """Room for the table of a word of so many letters; for that of the longest where they are more than any word has."""
+    return room("H", 6 * (min(letters, LONGEST_WORD) + 1))
+
+
+def _where(buffer: "Union[bytes, Lent, array[int]]") -> "Tuple[Union[bytes, int], int]":
+    """The address, for which ctypes takes bytes too, and how many elements stand there."""
+    return (buffer, len(buffer)) if isinstance(buffer, bytes) else buffer.buffer_info()
+
+
+def _asked(entry: Any, *buffers: "Union[bytes, Lent, array[int]]", answers: int, offset: bool = False) -> List[int]:
+    """The answers of an entry to which these buffers are lent. They are named here, so that none is gone before the entry has ended.
+    An entry that reads a file tells the offset too, behind its answers."""
+    told = [c_uint64() for _ in range(answers + offset)]
+    number = entry(*chain.from_iterable(map(_where, buffers)), *map(byref, told))
+    if number != 0:
+        raise refused(number, told[-1].value if offset else None)
+    return [answer.value for answer in told]
+
+
+def build(word: Lent) -> None:
+    """Refuses what is no mark's word."""
+    _asked(LIBRARY.marks_build, word, tables(len(word)), answers=1)
+
+
+def save(word: bytes) -> bytes:
+    out = room("B", LONGEST_FILE)
+    length, = _asked(LIBRARY.marks_save, word, tables(len(word)), out, answers=1)
+    return out[:length].tobytes()
+
+
+def load(file: Lent) -> bytes:
+    word = room("B", LONGEST_WORD)
+    length, _ = _asked(LIBRARY.marks_load, file, word, tables(LONGEST_WORD), answers=1, offset=True)
+    return word[:length].tobytes()
+
+
+def search(turbo: bool, word: bytes, text: Lent, table: "array[int]", finds: "array[int]") -> Tuple[int, int]:
+    """How many finds the text has, the first of them listed, and how many letters were read."""
+    entry = LIBRARY.marks_turbo if turbo else LIBRARY.marks_search
+    count, letters = _asked(entry, word, text, table, finds, answers=2)
+    return count, letters
+
+
+def open_searcher(word: "Union[bytes, Lent]") -> "array[int]":
+    searcher = room("B", SEARCHER)
+    _asked(LIBRARY.marks_open, word, searcher, answers=0)
+    return searcher
+
+
+def take(searcher: "array[int]", piece: "Union[bytes, Lent]", finds: "array[int]") -> int:
+    """How many finds end in the piece, the first of them listed."""
+    count, = _asked(LIBRARY.marks_take, searcher, piece, finds, answers=1)
+    return count

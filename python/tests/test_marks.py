@@ -1,0 +1,576 @@
+"""What the Python face must do, held against plain loops and the documents. Run by tools/python-tests."""
+import array
+import copy
+import ctypes
+import doctest
+import errno
+import io
+import mmap
+import os
+import pickle
+import random
+import stat
+import subprocess
+import sys
+import tempfile
+import threading
+import time
+import tracemalloc
+import unittest
+from pathlib import Path
+from unittest import mock
+
+import marks
+from marks import Mark, Stream, _entries, _files, _lent, _reading, _refused, _search
+from marks._library import LIBRARY
+from marks._refusals import REFUSALS
+
+README = Path(__file__).resolve().parent.parent / "README.md"
+ENGINES = "auto", "backward", "turbo"
+MEBI = 1 << 20
+
+
+def plainly(word, text):
+    return [at for at in range(len(text) - len(word) + 1) if text.startswith(word, at)]
+
+
+class Slow:
+    """A file that gives a few bytes at a time, by `read` alone."""
+
+    def __init__(self, data, most):
+        self.file, self.most = io.BytesIO(data), most
+
+    def read(self, length):
+        return self.file.read(min(length, self.most))
+
+
+class Zeros:
+    """A file of zeros that nobody has to have."""
+
+    def __init__(self, length):
+        self.left = length
+
+    def readinto(self, room):
+        got = min(len(room), self.left)
+        room[:got] = bytes(got)
+        self.left -= got
+        return got
+
+
+class Finds(unittest.TestCase):
+    def same(self, word, text, expected):
+        for engine in ENGINES:
+            mark = Mark(word, engine=engine)
+            self.assertEqual(list(mark.find_iter(text)), expected, engine)
+            self.assertEqual(mark.count(text), len(expected), engine)
+            self.assertEqual(mark.find(text), expected[0] if expected else None, engine)
+            self.assertEqual(list(mark.find_in(io.BytesIO(text))), expected, engine)
+
+    def test_as_a_plain_loop_finds_them(self):
+        chance = random.Random(1)
+        for _ in range(400):
+            letters = chance.choice((1, 2, 3, 256))
+            text = bytes(chance.randrange(letters) for _ in range(chance.randrange(200)))
+            at, length = chance.randrange(len(text) + 1), chance.choice((1, 2, 3, 5, 17, 70))
+            word = text[at:at + length] or bytes(length)
+            self.same(word, text, plainly(word, text))
+
+    def test_from_a_start_on(self):
+        mark, text = Mark(b"aba"), b"ababa..aba"
+        for start in range(len(text) + 3):
+            at = text.find(b"aba", start)
+            self.assertEqual(mark.find(text, start), None if at < 0 else at)
+        with self.assertRaisesRegex(ValueError, "start is below 0"):
+            mark.find(text, -1)
+
+    def test_across_every_seam_of_parts(self):
+        for word in b"RIDE", bytes(range(1, 65)), bytes(i * i % 251 for i in range(1, 4097)):
+            text, expected, seam = bytearray(4 * MEBI), [], max(4096, 16 * len(word))
+            while 2 * seam < len(text):
+                expected.append(seam - len(word) // 2)
+                text[expected[-1]:expected[-1] + len(word)] = word
+                seam = 2 * seam + seam // 3
+            self.same(word, bytes(text), expected)
+
+    def test_across_the_seams_of_a_file(self):
+        text = bytes(i * i // 5 % 2 for i in range(3000))
+        for length in 1, 2, 5, 17, 200:
+            word = text[700:700 + length]
+            for room in 1, 2, 16, 199, 200, 201, 2999, 3000, 5000:
+                with mock.patch.object(_reading, "_READ", room):
+                    for file in io.BytesIO(text), Slow(text, 3), Slow(text, 1000):
+                        self.assertEqual(list(Mark(word).find_in(file)), plainly(word, text), (length, room))
+
+    def test_more_than_a_list_has_room_for(self):
+        dense, sparse = b"a" * 300_000, b"." * 300_000
+        self.same(b"aa", dense, list(range(len(dense) - 1)))
+        text = sparse + dense + sparse + dense
+        self.same(b"a" * 70, text, [*range(300_000, 600_000 - 69), *range(900_000, 1_200_000 - 69)])
+
+    def test_beyond_the_longest_text_of_an_entry(self):
+        seam, text = 16 * MEBI, bytearray(17 * MEBI)
+        for word in b"RIDE", b"R" * 100:
+            places = [0, seam - len(word) // 2, len(text) - len(word)]
+            for at in places:
+                text[at:at + len(word)] = word
+            for engine in ENGINES:
+                mark = Mark(word, engine=engine)
+                self.assertEqual(list(mark.find_iter(text)), places)
+                self.assertEqual(mark.count(text), 3)
+                self.assertEqual(mark.find(text, 1), places[1])
+            self.assertEqual(list(Mark(word).find_in(io.BytesIO(text))), places)
+            text[:] = bytes(len(text))
+
+    def test_nothing_is_found_in_nothing(self):
+        self.same(b"a", b"", [])
+        self.same(b"ab", b"a", [])
+
+    def test_hostile_texts_take_no_time(self):
+        text, near = bytes(8 * MEBI), bytes(4095) + b"\1"
+        for word, expected in (bytes(4096), 8 * MEBI - 4095), (near, 0), (bytes(64), 8 * MEBI - 63), (b"\1" + bytes(63), 0):
+            begin = time.process_time()
+            self.assertEqual(Mark(word).count(text), expected)
+            self.assertLess(time.process_time() - begin, 0.5)
+        begin = time.process_time()
+        self.assertIsNone(Mark(near).find(text))
+        self.assertLess(time.process_time() - begin, 0.5)
+
+    def test_auto_goes_over_to_turbo_and_stays_there(self):
+        asked = []
+
+        def search(turbo, word, text, *rooms):
+            found, letters = _entries.search(turbo, word, text, *rooms)
+            asked.append((turbo, letters))
+            return found, letters
+
+        mark, text = Mark(bytes(64)), b"." * MEBI + bytes(MEBI)
+        with mock.patch.object(_search, "search", search):
+            for finds in mark.find_iter, lambda text: mark.find_in(io.BytesIO(text)), lambda text: range(mark.count(text)):
+                asked.clear()
+                self.assertEqual(len(list(finds(text))), MEBI - 63)
+                turbo = [turbo for turbo, _ in asked]
+                self.assertEqual((turbo[0], turbo[-1]), (False, True))
+                self.assertEqual(turbo, sorted(turbo))
+                self.assertLess(sum(letters for _, letters in asked), 2.2 * len(text) + 4_194_304)
+
+    def test_memory_stays_flat(self):
+        text = bytes(MEBI // 2)
+        tracemalloc.start()
+        try:
+            self.assertEqual(sum(1 for _ in Mark(b"\0\0").find_iter(text)), MEBI // 2 - 1)
+            self.assertEqual(list(Mark(b"\0\1").find_in(Zeros(20 * MEBI))), [])
+            self.assertLess(tracemalloc.get_traced_memory()[1], 3 * MEBI)
+        finally:
+            tracemalloc.stop()
+
+    def test_threads_share_a_mark(self):
+        text = bytes(i * i // 5 % 2 for i in range(40_000)) * 4
+        mark, found = Mark(text[700:712]), []
+        expected = plainly(mark.word, text)
+
+        def work():
+            for _ in range(10):
+                found.append(list(mark.find_iter(text)) == expected and mark.count(text) == len(expected))
+
+        threads = [threading.Thread(target=work) for _ in range(8)]
+        for thread in threads:
+            thread.start()
+        for thread in threads:
+            thread.join()
+        self.assertEqual(found, 80 * [True])
+
+    def test_conveniences(self):
+        self.assertEqual(marks.find(b"RIDE", b"..RIDE..RIDE"), [2, 8])
+        self.assertEqual(marks.count(b"aa", b"aaaa"), 3)
+        self.assertEqual(marks.find(Mark(b"aba"), b"ababa"), [0, 2])
+
+
+class Buffers(unittest.TestCase):
+    def test_of_every_kind(self):
+        text, mark = b"..RIDE..RIDE", Mark(b"RIDE")
+        numbers = array.array("I", b"RIDE" * 3)
+        for lent in bytearray(text), memoryview(text), memoryview(b"xx" + text + b"x")[2:-1], array.array("B", text):
+            self.assertEqual(list(mark.find_iter(lent)), [2, 8])
+            self.assertEqual(Mark(lent[2:6]), mark)
+        for lent in numbers, memoryview(numbers).cast("B").cast("B", (3, 4)), (ctypes.c_uint32 * 3).from_buffer(numbers):
+            self.assertEqual(list(mark.find_iter(lent)), [0, 4, 8])
+            self.assertEqual(Mark(lent).word, b"RIDE" * 3)
+        self.assertEqual(mark.count(array.array("I")), 0)
+
+    def test_a_mapped_file(self):
+        with tempfile.TemporaryFile() as file:
+            file.write(bytes(MEBI) + b"RIDE")
+            file.flush()
+            with mmap.mmap(file.fileno(), 0, access=mmap.ACCESS_READ) as mapped:
+                self.assertEqual(marks.find(b"RIDE", mapped), [MEBI])
+                self.assertEqual(Mark(b"RIDE").find(mapped), MEBI)
+
+    def test_none_is_copied(self):
+        text = bytes(4 * MEBI)
+        tracemalloc.start()
+        try:
+            for lent in text, memoryview(text)[1:]:
+                Mark(b"RIDE").count(lent)
+            self.assertLess(tracemalloc.get_traced_memory()[1], MEBI)
+        finally:
+            tracemalloc.stop()
+
+    def test_a_text_is_held_until_the_last_find_and_no_longer(self):
+        text = bytearray(b"aaaa")
+        finds = Mark(b"a").find_iter(text)
+        self.assertEqual(next(finds), 0)
+        with self.assertRaises(BufferError):
+            text.append(0)
+        self.assertEqual(list(finds), [1, 2, 3])
+        text.append(0)
+        Mark(b"a").find_iter(text)  # forgotten before the first find
+        text.append(0)
+        next(Mark(b"a").find_iter(text))  # and before the second
+        text.append(0)
+        for use in Mark(b"a").find, Mark(b"a").count, Stream(b"a").take, Mark:
+            use(text)
+            text.append(0)
+        with self.assertRaises(marks.Refused):
+            Mark.from_file(text)
+        text.append(0)
+
+    def test_others_are_refused_plainly(self):
+        mark, stream = Mark(b"a"), Stream(b"a")
+        for use in Mark, Stream, Mark.from_file, mark.find, mark.find_iter, mark.count, stream.take:
+            with self.assertRaisesRegex(TypeError, "is a str, .* encode it first"):
+                use("a")
+            with self.assertRaisesRegex(TypeError, "buffer protocol, not int"):
+                use(1)
+            with self.assertRaisesRegex(BufferError, "not contiguous .* copy it first"):
+                use(memoryview(b"abcd")[::2])
+        self.assertEqual((stream.taken, stream.count), (0, 0))
+
+    def test_files_that_cannot_be_searched(self):
+        def file(**how):
+            return mock.Mock(spec=list(how), **how)
+
+        for given, error, said in (
+            (1, TypeError, "not int"),
+            (io.StringIO("a"), TypeError, "open for text"),
+            (io.StringIO(), TypeError, "open for text"),
+            (file(readinto=lambda room: len(room) + 1), ValueError, "says that it read"),
+            (file(readinto=lambda room: -1), ValueError, "says that it read -1 bytes"),
+            (file(readinto=lambda room: None), BlockingIOError, "no bytes ready"),
+            (file(read=lambda length: None), BlockingIOError, "no bytes ready"),
+            (file(read=lambda length: bytes(length + 1)), ValueError, "says that it read"),
+        ):
+            with self.assertRaisesRegex(error, said):
+                list(Mark(b"a").find_in(given))
+
+
+    def test_finds_before_a_failing_read_come_first(self):
+        class Failing:
+            pieces = [b"..RIDE", b"..RIDE.."]
+
+            def read(self, length):
+                if not self.pieces:
+                    raise OSError(errno.EIO, "broken")
+                return self.pieces.pop(0)
+
+        finds = Mark(b"RIDE").find_in(Failing())
+        self.assertEqual([next(finds), next(finds)], [2, 8])
+        with self.assertRaisesRegex(OSError, "broken"):
+            next(finds)
+
+    def test_what_comes_slowly_is_told_as_it_comes(self):
+        reading, writing = os.pipe()
+        with open(reading, "rb") as file, open(writing, "wb", buffering=0) as out:
+            finds = Mark(b"RIDE").find_in(file)
+            for at in 2, 8:
+                out.write(b"..RIDE")
+                self.assertEqual(next(finds), at)
+
+    def test_a_file_that_drips_does_no_harm(self):
+        text, drops = bytes(20_000), []
+
+        class Dripping:
+            at = 0
+
+            def read(self, length):
+                self.at += 1
+                return text[self.at - 1:self.at]
+
+        real = _entries.search
+
+        def counted(*given):
+            found, letters = real(*given)
+            drops.append(letters)
+            return found, letters
+
+        with mock.patch.object(_search, "search", counted):
+            self.assertEqual(list(Mark(b"\x01" + bytes(4095)).find_in(Dripping())), [])
+        self.assertLessEqual(sum(drops), 18 * len(text))
+
+
+class Values(unittest.TestCase):
+    def test_a_mark_is_its_word_and_engine(self):
+        mark = Mark(bytearray(b"RIDE"), engine="turbo")
+        self.assertEqual((mark.word, mark.engine), (b"RIDE", "turbo"))
+        self.assertEqual(mark, Mark(b"RIDE", engine="turbo"))
+        self.assertEqual(len({mark, Mark(b"RIDE", engine="turbo"), Mark(b"RIDE"), Mark(b"ride")}), 3)
+        self.assertNotEqual(mark, b"RIDE")
+        for again in copy.copy(mark), copy.deepcopy(mark), pickle.loads(pickle.dumps(mark)):
+            self.assertEqual((again.word, again.engine), (b"RIDE", "turbo"))
+
+    def test_a_mark_cannot_be_changed(self):
+        for name in "word", "engine", "other":
+            with self.assertRaises(AttributeError):
+                setattr(Mark(b"RIDE"), name, b"")
+
+    def test_a_mark_is_shown_short(self):
+        self.assertEqual(repr(Mark(b"RIDE")), "Mark(b'RIDE')")
+        self.assertEqual(repr(Mark(b"RIDE", engine="turbo")), "Mark(b'RIDE', engine='turbo')")
+        self.assertLess(len(repr(Mark(bytes(4096)))), 160)
+
+    def test_an_engine_that_there_is_not(self):
+        with self.assertRaisesRegex(ValueError, "no engine 'fast': it is one of auto, backward, turbo"):
+            Mark(b"a", engine="fast")
+
+
+class Streams(unittest.TestCase):
+    def test_however_a_text_is_cut(self):
+        chance = random.Random(2)
+        for _ in range(200):
+            text = bytes(chance.randrange(2) for _ in range(chance.randrange(300)))
+            at = chance.randrange(len(text) + 1)
+            word = text[at:at + chance.randrange(1, 65)] or b"\0"
+            stream, found, at = Stream(word), [], 0
+            while at < len(text):
+                piece = text[at:at + chance.randrange(40)]
+                found += stream.take(piece)
+                at += len(piece)
+            self.assertEqual(found, plainly(word, text))
+            self.assertEqual((stream.word, stream.count, stream.taken), (word, len(found), len(text)))
+
+    def test_more_than_a_searcher_takes(self):
+        word, text, seam = bytes(range(1, 65)), bytearray(33 * MEBI), 16 * MEBI
+        places = [0, 64, seam - 32, 2 * seam - 63, 2 * seam + 1, len(text) - 64]
+        for at in places:
+            text[at:at + 64] = word
+        for pieces in (text,), (text[:5], text[5:seam - 1], text[seam - 1:seam + 1], text[seam + 1:]):
+            stream, found = Stream(word), []
+            for piece in pieces:
+                found += stream.take(piece)
+            self.assertEqual(found, places)
+            self.assertEqual((stream.count, stream.taken), (len(places), len(text)))
+
+    def test_many_finds_across_a_searchers_end(self):
+        stream = Stream(b"aaa")
+        stream.take(b"." * (16 * MEBI - 100_000))
+        self.assertEqual(stream.take(b"a" * 200_000), list(range(16 * MEBI - 100_000, 16 * MEBI + 100_000 - 2)))
+
+    def test_a_searcher_is_laid_out_as_the_document_has_it(self):
+        stream = Stream(b"RIDE")
+        stream.take(b"..RI")
+        self.assertEqual(stream._searcher.tobytes(), b"RIDE" + bytes(60 + 64) + bytes.fromhex("04 02 04 00 00 00"))
+
+    def test_copies_go_on_by_themselves(self):
+        stream = Stream(b"RIDE")
+        stream.take(b"..RI")
+        for again in copy.copy(stream), copy.deepcopy(stream), pickle.loads(pickle.dumps(stream)):
+            self.assertEqual(again.take(b"DE"), [2])
+            self.assertEqual(repr(again), "<Stream of b'RIDE': 1 finds in 6 bytes>")
+        self.assertEqual(stream.take(b"..RIDE"), [6])
+
+
+# docs/FILE.md: a file, the number that it is refused with, and where
+BROKEN = (
+    ("01 80", 5, 2),
+    ("01 03 61 61", 5, 4),
+    ("01 83 00 61 61 61 00", 6, 2),
+    ("02", 7, 0),
+    ("01 FF FF FF FF 0F", 8, 1),
+    ("01 01 61 00", 8, 1),
+    ("01 03 61 61 61 03", 9, 5),
+    ("01 07 61 62 62 62 61 61 62 04 00 00 01 04 01 01 01 00", 10, 12),
+    ("01 03 61 61 61 01 00 00", 10, 6),
+    ("01 02 61 62 00", 10, 5),
+    ("01 03 61 61 61 00 00", 11, 6),
+    ("81 00", 6, 1),
+    ("", 5, 0),
+)
+
+
+class Refusals(unittest.TestCase):
+    def refuses(self, number, offset, use, *given):
+        _, name, text = next(line for line in REFUSALS if line[0] == number)
+        with self.assertRaises(marks.Refused) as caught:
+            use(*given)
+        error = caught.exception
+        self.assertIs(type(error), getattr(marks, name))
+        self.assertEqual((error.number, error.offset), (number, offset))
+        self.assertEqual(str(error), f"{text} ({number})" + ("" if offset is None else f", at offset {offset}"))
+
+    def test_words(self):
+        for use in Mark, Stream:
+            self.refuses(1, None, use, b"")
+        self.refuses(2, None, Mark, bytes(4097))
+        self.refuses(2, None, Mark, bytes(MEBI))
+        self.refuses(2, None, Stream, bytes(65))
+        self.refuses(17, None, Mark(b"a").to_file)
+        self.assertEqual((Mark(bytes(4096)).count(bytes(4096)), Stream(bytes(64)).take(bytes(64))), (1, [0]))
+
+    def test_files(self):
+        for file, number, offset in BROKEN:
+            self.refuses(number, offset, Mark.from_file, bytes.fromhex(file))
+            self.refuses(number, offset, marks.check, bytearray.fromhex(file))
+
+    def test_what_only_the_entries_can_be_asked(self):
+        self.refuses(3, None, lambda: _entries._asked(LIBRARY.marks_build, b"ab", _entries.room("H", 17), answers=1))
+        word, finds = b"ab", _entries.room("I", 0)
+        text = _lent.Lent(bytes(16 * MEBI + 1), "text")
+        for turbo in False, True:
+            self.refuses(4, None, _entries.search, turbo, word, text, _entries.tables(2), finds)
+        out = _entries.room("B", 6)
+        self.refuses(12, None, lambda: _entries._asked(LIBRARY.marks_save, word, _entries.tables(2), out, answers=1))
+        self.refuses(16, None, _entries.take, _entries.room("B", 134), b"", finds)
+
+    def test_a_stream_that_was_tampered_with(self):
+        stream = Stream(b"RIDE")
+        stream._searcher[128] = 65
+        self.refuses(16, None, stream.take, b"RIDE")
+
+    def test_each_line_has_a_class_that_is_exported(self):
+        numbers = {kind.__name__: kind.number for kind in marks.Refused.__subclasses__()}
+        self.assertEqual(numbers, {name: number for number, name, _ in REFUSALS})
+        for number, name, text in REFUSALS:
+            self.assertIn(name, marks.__all__)
+            self.assertTrue(issubclass(getattr(marks, name), ValueError))
+            self.assertEqual(getattr(marks, name).__doc__, f"{number}: {text}.")
+
+    def test_they_are_pickled(self):
+        for number, _, _ in REFUSALS:
+            error = _refused.refused(number, 7)
+            for again in pickle.loads(pickle.dumps(error)), copy.copy(error):
+                self.assertIs(type(again), type(error))
+                self.assertEqual((again.number, again.offset, str(again)), (number, 7 if 5 <= number <= 11 else None, str(error)))
+
+
+class Files(unittest.TestCase):
+    def setUp(self):
+        folder = tempfile.TemporaryDirectory()
+        self.addCleanup(folder.cleanup)
+        self.folder = Path(folder.name)
+        self.path = self.folder / "ride.mark"
+
+    def test_as_the_document_has_them(self):
+        file = bytes.fromhex("01 07 61 62 62 62 61 61 62 04 00 00 01 03 01 01 01 00")
+        self.assertEqual(Mark(b"abbbaab"[::-1]).to_file(), file)
+        self.assertEqual(Mark.from_file(file).word, b"abbbaab"[::-1])
+        self.assertEqual(Mark(b"aa").to_file(), bytes.fromhex("01 02 61 61 00"))
+        self.assertEqual(Mark(b"ba").to_file(), bytes.fromhex("01 02 61 62 01 00 00"))
+        self.assertEqual(Mark(bytes(4096)).to_file(), bytes.fromhex("01 80 20") + bytes(4096 + 1))
+
+    def test_there_and_back(self):
+        chance = random.Random(3)
+        for length in (2, 3, 64, 65, 1000, 4096):
+            mark = Mark(bytes(chance.randrange(3) for _ in range(length)))
+            again = Mark.from_file(mark.to_file(), engine="turbo")
+            self.assertEqual((again.word, again.engine), (mark.word, "turbo"))
+            self.assertLessEqual(len(mark.to_file()), 20_481)
+
+    def test_saved_and_loaded(self):
+        for path in str(self.path), self.path, os.fsencode(self.path):
+            marks.save(b"RIDE", path, overwrite=True)
+            self.assertEqual(self.path.read_bytes(), Mark(b"RIDE").to_file())
+            self.assertEqual(marks.load(path, engine="turbo").find(b"..RIDE"), 2)
+        self.assertEqual(marks.check(self.path), marks.check(str(self.path)))
+        self.assertEqual(os.listdir(self.folder), ["ride.mark"])
+        umask = os.umask(0)
+        os.umask(umask)
+        self.assertEqual(stat.S_IMODE(self.path.stat().st_mode), 0o666 & ~umask)
+
+    def test_saved_over_another_only_if_asked(self):
+        marks.save(b"RIDE", self.path)
+        with self.assertRaises(FileExistsError):
+            marks.save(b"ride", self.path)
+        self.assertEqual(marks.load(self.path), Mark(b"RIDE"))
+        marks.save(Mark(b"ride"), self.path, overwrite=True)
+        self.assertEqual(marks.load(self.path), Mark(b"ride"))
+        self.assertEqual(os.listdir(self.folder), ["ride.mark"])
+
+    def test_nothing_is_left_where_saving_fails(self):
+        with self.assertRaises(marks.ShortWord):
+            marks.save(b"a", self.path)
+        with self.assertRaises(FileNotFoundError) as caught:
+            marks.save(b"ab", self.folder / "none" / "ride.mark")
+        self.assertEqual(caught.exception.filename, str(self.folder / "none" / "ride.mark"))
+        full = OSError(errno.ENOSPC, "full")
+        with mock.patch.object(_files.os, "replace", side_effect=full), self.assertRaisesRegex(OSError, "full"):
+            marks.save(b"ab", self.path, overwrite=True)
+        with mock.patch.object(_files.os, "link", side_effect=PermissionError(errno.EPERM, "no links")):
+            marks.save(b"ab", self.path)
+            self.assertEqual(marks.load(self.path), Mark(b"ab"))
+            with self.assertRaises(FileExistsError):
+                marks.save(b"cd", self.path)
+            os.unlink(self.path)
+            with mock.patch.object(_files.os, "replace", side_effect=full), self.assertRaisesRegex(OSError, "full"):
+                marks.save(b"ab", self.path)
+        self.assertEqual(os.listdir(self.folder), [])
+
+    def test_what_is_saved_over_keeps_what_it_is(self):
+        self.path.write_bytes(b"old")
+        os.chmod(self.path, 0o640)
+        link, pipe = self.folder / "link", self.folder / "pipe"
+        link.symlink_to("ride.mark")
+        marks.save(b"RIDE", link, overwrite=True)
+        self.assertTrue(link.is_symlink())
+        self.assertEqual((marks.load(self.path), stat.S_IMODE(self.path.stat().st_mode)), (Mark(b"RIDE"), 0o640))
+        os.mkfifo(pipe)
+        reading = os.open(pipe, os.O_RDONLY | os.O_NONBLOCK)
+        try:
+            marks.save(b"RIDE", pipe, overwrite=True)
+            self.assertEqual(Mark.from_file(os.read(reading, 100)), Mark(b"RIDE"))
+        finally:
+            os.close(reading)
+        self.assertTrue(stat.S_ISFIFO(pipe.stat().st_mode))
+
+    def test_only_the_front_of_a_long_file_is_read(self):
+        good = Mark(bytes(i % 251 for i in range(4096))).to_file()
+        self.path.write_bytes(good + bytes(MEBI))
+        with self.assertRaises(marks.Leftovers) as caught:
+            marks.load(self.path)
+        self.assertEqual(caught.exception.offset, len(good))
+        with self.assertRaises(marks.OtherEdition):
+            marks.check("/dev/zero")
+
+
+class Library(unittest.TestCase):
+    def imported_with(self, library):
+        known = {**os.environ, "MARKS_LIBRARY": str(library), "PYTHONPATH": str(Path(marks.__file__).resolve().parent.parent)}
+        return subprocess.run([sys.executable, "-c", "import marks"], env=known, stderr=subprocess.PIPE, universal_newlines=True).stderr
+
+    def test_that_is_not_there(self):
+        said = self.imported_with("/nowhere/libmarks.so")
+        self.assertIn("ImportError: marks needs its shared library and cannot load it (/nowhere/libmarks.so: ", said)
+        self.assertIn("or set MARKS_LIBRARY to its path.", said)
+
+    def test_that_is_another(self):
+        said = self.imported_with(__import__("_ctypes").__file__)
+        self.assertRegex(said, "ImportError: .* undefined symbol: marks_build")
+
+    def test_that_is_no_library(self):
+        self.assertIn("ImportError: marks needs its shared library", self.imported_with(__file__))
+
+
+def load_tests(loader, tests, pattern):
+    finder = doctest.DocTestFinder()
+    examples = finder.find(marks, module=False, globs=vars(marks), extraglobs={"marks": marks})
+    tests.addTests(doctest.DocTestCase(example) for example in examples if example.examples)
+    folder, here = tempfile.TemporaryDirectory(), os.getcwd()
+
+    def leave(_):
+        os.chdir(here)
+        folder.cleanup()
+
+    tests.addTests(doctest.DocFileSuite(str(README), module_relative=False, setUp=lambda _: os.chdir(folder.name), tearDown=leave))
+    return tests
+
+
+if __name__ == "__main__":
+    unittest.main()

@@ -1,0 +1,123 @@
+//! The options, in the order in which they are told.
+
+use super::{
+    values::{ENGINE, GENERATED, JOBS, MARKFILE, MOST},
+    Known,
+};
+
+const FIND: &[&str] = &["find"];
+const ALL: &[&str] = &["find", "save", "check", "show", "help"];
+
+/// What an option has where nothing is said of it.
+const PLAIN: Known = Known { short: None, long: "", value: None, commands: &[], line: "", more: "" };
+
+pub static OPTIONS: [Known; 20] = [
+    Known {
+        short: Some(b'x'),
+        long: "hex",
+        commands: &["find", "save"],
+        line: "WORD is in hex digits, as 2e464954 for .FIT",
+        more: "Each byte is two digits, upper or lower case. Bytes or groups of them may be set apart by white space, a colon, a hyphen \
+               or a comma, and each group may begin with 0x: 2e:46:49:54 and '0x2e, 0x46' are fine.",
+        ..PLAIN
+    },
+    Known {
+        short: Some(b'm'),
+        long: "mark",
+        value: Some(MARKFILE),
+        commands: FIND,
+        line: "find what this mark file finds",
+        more: "It stands in the place of WORD. MARKFILE may be -, standard input.",
+    },
+    Known { short: Some(b'X'), long: "hex-offsets", commands: FIND, line: "print offsets in hex, as 0x12c", ..PLAIN },
+    Known { short: Some(b'c'), long: "count", commands: FIND, line: "print only how many there are in each file", ..PLAIN },
+    Known {
+        short: Some(b'l'),
+        long: "files-with-matches",
+        commands: FIND,
+        line: "print only the names of files with a find",
+        more: "A file is read up to its first find.",
+        ..PLAIN
+    },
+    Known {
+        short: Some(b'q'),
+        long: "quiet",
+        commands: FIND,
+        line: "print nothing, stop at the first find: status alone",
+        more: "The status is 0 once anything is found, also where a file before could not be read.",
+        ..PLAIN
+    },
+    Known { long: "max-count", value: Some(MOST), commands: FIND, line: "stop after N finds in each file", ..PLAIN },
+    Known {
+        short: Some(b'r'),
+        long: "recursive",
+        commands: FIND,
+        line: "look in folders and all that is in them",
+        more: "What is in a folder is taken in the order of its names, byte by byte. In folders, symbolic links are not followed, and \
+               only regular files are read. Where no FILE is named it is the current folder.",
+        ..PLAIN
+    },
+    Known {
+        short: Some(b'j'),
+        long: "jobs",
+        value: Some(JOBS),
+        commands: FIND,
+        line: "search N files at once, 0: one for each processor",
+        more: "The output is the same as with one.",
+    },
+    Known { short: Some(b'H'), long: "with-filename", commands: FIND, line: "print the file's name too, as with several files", ..PLAIN },
+    Known { short: Some(b'I'), long: "no-filename", commands: FIND, line: "never print it", ..PLAIN },
+    Known {
+        short: Some(b'0'),
+        long: "null",
+        commands: FIND,
+        line: "a NUL behind each name, which is printed raw",
+        more: "It stands in the place of the colon, or with -l of the end of line, so that any name can be read back, as by xargs -0.",
+        ..PLAIN
+    },
+    Known {
+        long: "json",
+        commands: FIND,
+        line: "print each answer as a JSON object on a line",
+        more: "A find is {\"file\":NAME,\"at\":OFFSET}, with -c a file {\"file\":NAME,\"count\":N}, with -l {\"file\":NAME}. With --stats \
+               there is for each file also {\"file\":NAME,\"found\":N,\"bytes\":N,\"letters\":N}, behind its answers. A name that is not \
+               UTF-8 is given in hex digits, as \"file_hex\" in the place of \"file\". Standard input is -.",
+        ..PLAIN
+    },
+    Known {
+        long: "engine",
+        value: Some(ENGINE),
+        commands: FIND,
+        line: "how to search; without it, auto",
+        more: "The finds are the same with each. Backward leaves most bytes of most files unread. Turbo reads some two letters for each \
+               byte at most, however hostile the file is, and 18 where a pipe gives a few bytes at a time. Auto goes backward as long as \
+               that is fair, then over to turbo; for a word of more than 64 bytes it is turbo from the start.",
+        ..PLAIN
+    },
+    Known {
+        long: "stats",
+        commands: FIND,
+        line: "tell on standard error how many letters were read",
+        more: "Letters that were read again count again. With --json it is told on standard output.",
+        ..PLAIN
+    },
+    Known {
+        short: Some(b'f'),
+        long: "force",
+        commands: &["save"],
+        line: "write over OUT where it is there already",
+        more: "Its permissions are kept. Where OUT is a symbolic link, the file that it leads to is replaced. A terminal, a pipe or a \
+               device is written to as it is.",
+        ..PLAIN
+    },
+    Known { long: "dot", commands: &["show"], line: "as Graphviz text: marks show --dot F | dot -Tsvg", ..PLAIN },
+    Known { short: Some(b'h'), long: "help", commands: ALL, line: "this help; -h is shorter than --help", ..PLAIN },
+    Known { short: Some(b'V'), long: "version", commands: ALL, line: "print the version", ..PLAIN },
+    Known {
+        long: "generate",
+        value: Some(GENERATED),
+        line: "print the man page or a shell's completions",
+        more: "marks --generate man | man -l - shows the page; eval \"$(marks --generate complete-bash)\" completes in the shell at hand.",
+        ..PLAIN
+    },
+];

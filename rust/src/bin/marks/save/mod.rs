@@ -1,0 +1,40 @@
+//! `marks save`: the file from which `find -m` finds a word.
+
+mod place;
+mod temporary;
+
+use crate::{names, output::Output, trouble::Trouble, word::Word};
+use std::{
+    ffi::OsStr,
+    io::{self, ErrorKind},
+    os::unix::ffi::OsStrExt,
+    path::Path,
+};
+
+pub fn save(word: &Word, out: &OsStr, force: bool, output: &mut Output) -> Result<(), Trouble> {
+    let file = word.mark()?.to_file().map_err(|refusal| Trouble::refused("WORD".to_string(), refusal))?;
+    if out.is_empty() || out.as_bytes().ends_with(b"/") {
+        return Err(Trouble::new("OUT", "it is no file's name", "name the file to write"));
+    }
+    if names::is_standard(out) || force && is_standard_output(out) {
+        output.bytes(&file);
+        return Ok(());
+    }
+    let written = if force { place::replace(Path::new(out), &file) } else { place::create(Path::new(out), &file) };
+    written.map_err(|error| trouble(out, &error))
+}
+
+/// The names that the system has for standard output. Opened by one of them, a file would not be written to where the output has come to.
+fn is_standard_output(out: &OsStr) -> bool {
+    ["/dev/stdout", "/dev/fd/1", "/proc/self/fd/1"].iter().any(|name| out == *name)
+}
+
+fn trouble(out: &OsStr, error: &io::Error) -> Trouble {
+    let shown = names::shown(out);
+    match error.kind() {
+        ErrorKind::AlreadyExists if Path::new(out).is_dir() => Trouble::new(shown, "it is a directory", "name a file in it"),
+        ErrorKind::AlreadyExists => Trouble::new(shown, "it is there already", "name another file, or write over it with -f"),
+        ErrorKind::StorageFull => Trouble::new(shown, "the disk is full", "make room and run it again"),
+        _ => Trouble::writing(shown, error),
+    }
+}
