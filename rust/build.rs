@@ -71,9 +71,7 @@ fn take_proved(machine: &str, out: &Path, archive: &Path) {
             "set MARKS_ARCHIVE to the libmarks.a of an installed one",
         );
     }
-    for source in SOURCES {
-        println!("cargo:rerun-if-changed={}", top.join(source).display());
-    }
+    watch(&top, machine);
     let native_archive = |top: &Path, kept: &[&str]| {
         let mut made = Command::new(top.join("tools/native-archive"));
         let made = made.args(kept).arg("marks_c").arg(archive).env("MARKS_MACHINE", machine).current_dir(top).status();
@@ -93,6 +91,15 @@ fn take_proved(machine: &str, out: &Path, archive: &Path) {
             "the library could not be proved (above is why)",
             "it needs the Rattle toolchain, rt, that README.md names; without it set MARKS_ARCHIVE to the libmarks.a of an installed library",
         );
+    }
+}
+
+/// The library is taken again where its sources or the toolchain moved, and where the source tree's own archive was made anew, as by each run of the gate.
+/// Cargo takes a file that is not there for one that has changed, so only those that are there are named.
+fn watch(top: &Path, machine: &str) {
+    let kept = format!("target/native/{machine}/libmarks_c.a");
+    for watched in SOURCES.into_iter().chain(["kit", &kept]).map(|name| top.join(name)).filter(|path| path.exists()) {
+        println!("cargo:rerun-if-changed={}", watched.display());
     }
 }
 
