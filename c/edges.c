@@ -1,7 +1,7 @@
-/* What only a caller in C can hand over, a null pointer with length 0 for each buffer; turbo at its edges; one letter, which has no file;
- * and the deepest calls there are, every entry on eight threads at once. Each thread has a stack of 64 KiB, or the least that the system
- * gives where that is more, above a page that nobody may touch. It is painted before, and less than 64 KiB of it may be touched, by the
- * calls and by what a thread needs of its own. */
+/* What only a caller in C can hand over, a null pointer with length 0 for each buffer; turbo and the failure oracle at their edges; one
+ * letter, which has no file; and the deepest calls there are, every entry on eight threads at once. Each thread has a stack of 64 KiB, or
+ * the least that the system gives where that is more, above a page that nobody may touch. It is painted before, and less than 64 KiB of it
+ * may be touched, by the calls and by what a thread needs of its own. */
 #define _DEFAULT_SOURCE
 #include <inttypes.h>
 #include <pthread.h>
@@ -14,10 +14,10 @@
 
 enum { THREADS = 8, MOST = 64 * 1024, GUARD = MOST, PAINT = 0xa5, TEXT = 65536 };
 
-static uint16_t tables[MARKS_TABLES(MARKS_LEAST_SAVED)], all_tables[MARKS_MOST_TABLES];
+static uint16_t tables[MARKS_FAILURE_TABLES(MARKS_LEAST_SAVED)], all_tables[MARKS_MOST_FAILURE_TABLES];
 static uint8_t room[MARKS_LEAST_SAVED], out[5], searcher[MARKS_SEARCHER], long_text[MARKS_LONGEST_TEXT + 1];
 static uint32_t finds[2];
-static uint64_t count, letters, offset;
+static uint64_t count, letters, failures, offset;
 static const uint64_t nowhere = UINT64_MAX;
 
 /* what was said, and at which offset where one was written; the answers of a search */
@@ -60,6 +60,98 @@ static void null_buffers(void)
     print_said("with a file, no list", marks_search_file(file, 5, aa, 2, room, 2, tables, 18, NULL, 0, &count, &letters, &offset));
     print_said("with a file, no file and too long a text",
                marks_search_file(NULL, 0, long_text, sizeof long_text, room, 2, tables, 18, finds, 2, &count, &letters, &offset));
+}
+
+/* a word in a text by its failure oracle; a list of two entries is lent, or none of it */
+static void failure_in(const char *word, const char *text, size_t list)
+{
+    const uint8_t *w = (const uint8_t *)word, *t = (const uint8_t *)text;
+    const size_t room = MARKS_FAILURE_TABLES(strlen(word));
+    uint32_t said = marks_failure_search(w, strlen(word), t, strlen(text), all_tables, room, finds, list, &count, &letters, &failures);
+    printf("failure search, %s in %s, list of %zu: %" PRIu32 ", %" PRIu64 " letters, %" PRIu64 " failure arrows, %" PRIu64 " places:", word, text, list, said,
+           letters, failures, count);
+    for (size_t i = 0; i < count && i < list; i++)
+        printf(" %" PRIu32, finds[i]);
+    printf("\n");
+}
+
+/* the failure arrows of a word and its symbol arrows beside the spine, each with its target */
+static void failure_arrows(const char *word)
+{
+    size_t m = strlen(word), n = m + 1;
+    uint64_t answer = 0;
+    printf("failure oracle of %s: %" PRIu32, word, marks_failure_build((const uint8_t *)word, m, all_tables, MARKS_FAILURE_TABLES(m), &answer));
+    printf(", %" PRIu64 " letters", answer);
+    for (size_t x = 0; x <= m; x++)
+        if (all_tables[n + x] != 0)
+            printf(", %zu-%d", x, all_tables[n + x]);
+    for (size_t x = 0; x <= m; x++)
+        for (size_t slot = all_tables[2 * n + x]; slot != 0; slot = all_tables[3 * n + slot])
+            printf(", %zu-%c-%d", x, word[all_tables[4 * n + slot] - 1], all_tables[4 * n + slot]);
+    printf("\n");
+}
+
+static void failure_refusals(void)
+{
+    const uint8_t *aa = (const uint8_t *)"aa", *zeros = long_text;
+    const size_t longer = MARKS_LONGEST_WORD + 1, too_long = sizeof long_text, most = MARKS_LONGEST_TEXT;
+    const size_t longest_room = MARKS_MOST_FAILURE_TABLES;
+    uint64_t n;
+    print_said("failure build, no word and no tables", marks_failure_build(NULL, 0, NULL, 0, &n));
+    print_said("failure build, too long a word, no tables", marks_failure_build(zeros, longer, NULL, 0, &n));
+    print_said("failure build, no tables", marks_failure_build(aa, 1, NULL, 0, &n));
+    print_said("failure build, a table entry too few", marks_failure_build(aa, 1, tables, 19, &n));
+    print_said("failure build, room for the other oracle", marks_failure_build(aa, 2, tables, MARKS_TABLES(2), &n));
+    print_said("failure build, the longest word, a table entry too few", marks_failure_build(zeros, longer - 1, all_tables, longest_room - 1, &n));
+    print_said("failure search, no word, too long a text, no tables",
+               marks_failure_search(NULL, 0, zeros, too_long, NULL, 0, finds, 2, &count, &letters, &failures));
+    print_said("failure search, too long a word and a text, no tables",
+               marks_failure_search(zeros, longer, zeros, too_long, NULL, 0, finds, 2, &count, &letters, &failures));
+    print_said("failure search, too long a text, a table entry too few",
+               marks_failure_search(aa, 1, zeros, too_long, tables, 19, finds, 2, &count, &letters, &failures));
+    print_said("failure search, a table entry too few", marks_failure_search(aa, 1, zeros, most, tables, 19, finds, 2, &count, &letters, &failures));
+    print_said("failure search, no tables", marks_failure_search(aa, 1, aa, 2, NULL, 0, finds, 2, &count, &letters, &failures));
+    print_said("failure search, no text", marks_failure_search(aa, 1, NULL, 0, tables, 20, finds, 2, &count, &letters, &failures));
+    print_said("failure search, no list", marks_failure_search(aa, 1, aa, 2, tables, 20, NULL, 0, &count, &letters, &failures));
+}
+
+/* The longest word, a one and zeros: in the longest text without either, where each window fails at its last letter, after a failure arrow; and in the longest
+ * text of nothing but itself, where each window is read along the spine. */
+static void longest_failure(void)
+{
+    const size_t m = MARKS_LONGEST_WORD, room = MARKS_MOST_FAILURE_TABLES;
+    static uint8_t word[MARKS_LONGEST_WORD] = {1};
+    uint64_t n = 0;
+    printf("failure build, the longest word: %" PRIu32, marks_failure_build(word, m, all_tables, room, &n));
+    printf(", %" PRIu64 " letters\n", n);
+    memset(long_text, 2, MARKS_LONGEST_TEXT);
+    print_said("failure search, the longest word in the longest text without it",
+               marks_failure_search(word, m, long_text, MARKS_LONGEST_TEXT, all_tables, room, finds, 2, &count, &letters, &failures));
+    printf("failure arrows taken: %" PRIu64 "\n", failures);
+    for (size_t at = 0; at < MARKS_LONGEST_TEXT; at += m)
+        memcpy(long_text + at, word, m);
+    print_said("failure search, the longest word in the longest text of nothing else",
+               marks_failure_search(word, m, long_text, MARKS_LONGEST_TEXT, all_tables, room, finds, 2, &count, &letters, &failures));
+    printf("failure arrows taken: %" PRIu64 ", the second place: %" PRIu32 "\n", failures, finds[1]);
+    memset(long_text, 0, MARKS_LONGEST_TEXT);
+}
+
+/* each refusal where the later ones would be given too; the examples; a text shorter than the word, and as long; the longest word in the longest text */
+static void failure_edges(void)
+{
+    failure_refusals();
+    failure_arrows("a");
+    failure_arrows("abcacdace");
+    failure_arrows("abadbcaabdbaba");
+    failure_in("aba", "ababa", 2);
+    failure_in("aba", "ababa", 1);
+    failure_in("aba", "ababa", 0);
+    failure_in("ab", "ac", 2);
+    failure_in("abc", "ab", 2);
+    failure_in("ab", "ab", 2);
+    failure_in("ababdbaacbdaba", "abbbbbbbabdbaa", 2);
+    failure_in("ababdbaacbdaba", "ababdbaacbdaba", 2);
+    longest_failure();
 }
 
 /* refused before the rooms, so as well where there are none */
@@ -129,10 +221,10 @@ static void turbo_edges(void)
  * longest text, zeros, a search prepares arrows on the stack, as many as it ever does */
 struct work {
     uint8_t word[MARKS_LONGEST_WORD], mirror[MARKS_LONGEST_WORD], text[TEXT], room[MARKS_LONGEST_WORD], file[MARKS_MOST_FILE];
-    uint16_t tables[MARKS_MOST_TABLES];
+    uint16_t tables[MARKS_MOST_FAILURE_TABLES];
     uint8_t searcher[MARKS_SEARCHER];
-    uint32_t finds[2], turbo_finds[2], file_finds[2], stream_finds[2], said;
-    uint64_t m, length, count, turbo_count, file_count, before_cut, stream_count, letters, offset, in_zeros[3];
+    uint32_t finds[2], turbo_finds[2], failure_finds[2], file_finds[2], stream_finds[2], said;
+    uint64_t m, length, count, turbo_count, failure_count, file_count, before_cut, stream_count, letters, failures, offset, in_zeros[4];
     size_t cut;
     uint8_t *stack;
 };
@@ -157,6 +249,7 @@ static size_t touched(const uint8_t *stack)
 static void *deepest(void *mine)
 {
     struct work *w = mine;
+    const size_t failure_tables = MARKS_MOST_FAILURE_TABLES;
     w->said = marks_build(w->word, MARKS_LONGEST_WORD, w->tables, MARKS_MOST_TABLES, &w->m);
     w->said += marks_save(w->word, MARKS_LONGEST_WORD, w->tables, MARKS_MOST_TABLES, w->file, MARKS_MOST_FILE, &w->length);
     w->said += marks_load(w->file, w->length, w->room, MARKS_LONGEST_WORD, w->tables, MARKS_MOST_TABLES, &w->m, &w->offset);
@@ -164,10 +257,15 @@ static void *deepest(void *mine)
     w->said += marks_turbo(w->mirror, MARKS_LONGEST_WORD, w->text, TEXT, w->tables, MARKS_MOST_TABLES, w->turbo_finds, 2, &w->turbo_count, &w->letters);
     w->said += marks_search_file(w->file, w->length, w->text, TEXT, w->room, MARKS_LONGEST_WORD, w->tables, MARKS_MOST_TABLES, w->file_finds, 2,
                                  &w->file_count, &w->letters, &w->offset);
+    w->said += marks_failure_build(w->word, MARKS_LONGEST_WORD, w->tables, failure_tables, &w->m);
+    w->said += marks_failure_search(w->mirror, MARKS_LONGEST_WORD, w->text, TEXT / 4, w->tables, failure_tables, w->failure_finds, 2, &w->failure_count,
+                                    &w->letters, &w->failures);
     w->said += marks_search(w->mirror, MARKS_LONGEST_WORD, long_text, MARKS_LONGEST_TEXT, w->tables, MARKS_MOST_TABLES, NULL, 0, &w->in_zeros[0], &w->letters);
     w->said += marks_turbo(w->mirror, MARKS_LONGEST_WORD, long_text, MARKS_LONGEST_TEXT, w->tables, MARKS_MOST_TABLES, NULL, 0, &w->in_zeros[1], &w->letters);
     w->said += marks_search_file(w->file, w->length, long_text, MARKS_LONGEST_TEXT, w->room, MARKS_LONGEST_WORD, w->tables, MARKS_MOST_TABLES, NULL, 0,
                                  &w->in_zeros[2], &w->letters, &w->offset);
+    w->said += marks_failure_search(w->mirror, MARKS_LONGEST_WORD, long_text, MARKS_LONGEST_TEXT, w->tables, failure_tables, NULL, 0, &w->in_zeros[3],
+                                    &w->letters, &w->failures);
     w->said += marks_open(w->mirror, MARKS_LONGEST_STREAMED, w->searcher, MARKS_SEARCHER);
     w->said += marks_take(w->searcher, MARKS_SEARCHER, w->text, w->cut, w->stream_finds, 2, &w->before_cut);
     w->said += marks_take(w->searcher, MARKS_SEARCHER, w->text + w->cut, TEXT - w->cut, w->stream_finds, 2, &w->stream_count);
@@ -192,6 +290,7 @@ int main(void)
     null_buffers();
     null_buffers_of_streams();
     turbo_edges();
+    failure_edges();
     one_letter();
     for (int i = 0; i < THREADS; i++) {
         memset(works[i].word, 'a', MARKS_LONGEST_WORD - 1);
@@ -210,8 +309,10 @@ int main(void)
         printf("thread %d: %" PRIu32 ", file of %" PRIu64 " bytes, %" PRIu64 " place at %" PRIu32 ", with the file %" PRIu64 " at %" PRIu32, i, works[i].said,
                works[i].length, works[i].count, works[i].finds[0], works[i].file_count, works[i].file_finds[0]);
         printf(", by turbo %" PRIu64 " at %" PRIu32, works[i].turbo_count, works[i].turbo_finds[0]);
+        printf(", by failures %" PRIu64 " at %" PRIu32, works[i].failure_count, works[i].failure_finds[0]);
         printf(", in pieces %" PRIu64 " and %" PRIu64 " at %" PRIu32, works[i].before_cut, works[i].stream_count, works[i].stream_finds[0]);
-        printf(", in zeros %" PRIu64 ", %" PRIu64 " and %" PRIu64 "\n", works[i].in_zeros[0], works[i].in_zeros[1], works[i].in_zeros[2]);
+        printf(", in zeros %" PRIu64 ", %" PRIu64 ", %" PRIu64 " and %" PRIu64 "\n", works[i].in_zeros[0], works[i].in_zeros[1], works[i].in_zeros[2],
+               works[i].in_zeros[3]);
         most = touched(works[i].stack) > most ? touched(works[i].stack) : most;
     }
     fprintf(stderr, "edges: a thread touched at most %zu of its %zu bytes of stack\n", most, stack_size());

@@ -7,6 +7,8 @@
  *
  * Which search: marks_turbo where strangers choose the text or the mark, as it reads no more than two letters for each letter of the text. marks_search
  * where you know both, as it is quicker on most texts, where letters are many up to five and a half times, but may read m letters for each of a hostile one.
+ * marks_failure_search is there for its small automaton and for comparing: never for strangers, as it may read m letters for each of a hostile text, too, and
+ * its table alone takes up to m*m/2 letters to make, for a word that repeats itself.
  *
  * Any bytes and any lengths may be handed to every entry. It returns MARKS_OK and writes its answers through the last pointers; or it refuses: it returns
  * the number of the first refusal in the order given below, and leaves those pointers alone, but for an offset, which only a refusal writes. What is not
@@ -32,9 +34,9 @@
 
 /* The version of the library: as numbers, and as text. */
 #define MARKS_VERSION_MAJOR 0
-#define MARKS_VERSION_MINOR 2
+#define MARKS_VERSION_MINOR 3
 #define MARKS_VERSION_PATCH 0
-#define MARKS_VERSION "0.2.0"
+#define MARKS_VERSION "0.3.0"
 
 /* What an entry returns: a number, and when exactly it is given. m is the number of letters of the word, for a file the one that it declares. */
 /* begin refusals: as tools/refusals writes them */
@@ -42,7 +44,7 @@ enum {
     MARKS_OK = 0,            /* done */
     MARKS_EMPTY_WORD = 1,    /* the word is empty */
     MARKS_LONG_WORD = 2,     /* the word is longer than 4,096 bytes, or for a stream than 64 */
-    MARKS_SHORT_ROOM = 3,    /* too little room is lent: a word of m letters needs 6(m+1) table entries, from a file m bytes too, a stream 134 bytes */
+    MARKS_SHORT_ROOM = 3,    /* too little room is lent: 6(m+1) table entries, 10(m+1) for a failure oracle, m bytes too for a file, 134 for a stream */
     MARKS_LONG_TEXT = 4,     /* the text is longer than 16,777,216 bytes, or the stream would be with this piece */
     MARKS_CUT_FILE = 5,      /* the file ends before or inside a number, or before the last of its letters */
     MARKS_BAD_NUMBER = 6,    /* a number in the file is misspelled: the last of its several groups is zero, or its fifth byte is above 15 */
@@ -63,7 +65,7 @@ static inline const char *marks_meaning(uint32_t said)
     case MARKS_OK: return "done";
     case MARKS_EMPTY_WORD: return "the word is empty";
     case MARKS_LONG_WORD: return "the word is longer than 4,096 bytes, or for a stream than 64";
-    case MARKS_SHORT_ROOM: return "too little room is lent: a word of m letters needs 6(m+1) table entries, from a file m bytes too, a stream 134 bytes";
+    case MARKS_SHORT_ROOM: return "too little room is lent: 6(m+1) table entries, 10(m+1) for a failure oracle, m bytes too for a file, 134 for a stream";
     case MARKS_LONG_TEXT: return "the text is longer than 16,777,216 bytes, or the stream would be with this piece";
     case MARKS_CUT_FILE: return "the file ends before or inside a number, or before the last of its letters";
     case MARKS_BAD_NUMBER: return "a number in the file is misspelled: the last of its several groups is zero, or its fifth byte is above 15";
@@ -81,14 +83,16 @@ static inline const char *marks_meaning(uint32_t said)
 /* end refusals */
 
 /* Room, in elements of the buffer that it is for. A text may be empty, and a list of finds may have any length, 0 too. */
-#define MARKS_LONGEST_WORD 4096                             /* also word room for every file */
+#define MARKS_LONGEST_WORD 4096                                             /* also word room for every file */
 #define MARKS_LONGEST_TEXT 16777216
-#define MARKS_LEAST_SAVED 2                                 /* the fewest bytes of a word that is saved */
-#define MARKS_TABLES(m) (6 * ((m) + 1))                     /* table entries for a word of m letters */
-#define MARKS_MOST_TABLES MARKS_TABLES(MARKS_LONGEST_WORD)  /* table entries for every word */
-#define MARKS_MOST_FILE (5 * MARKS_LONGEST_WORD + 1)        /* output for the file of every word */
-#define MARKS_LONGEST_STREAMED 64                           /* bytes of a word that a stream is opened for */
-#define MARKS_SEARCHER 134                                  /* bytes of a searcher */
+#define MARKS_LEAST_SAVED 2                                                 /* the fewest bytes of a word that is saved */
+#define MARKS_TABLES(m) (6 * ((m) + 1))                                     /* table entries for a word of m letters */
+#define MARKS_MOST_TABLES MARKS_TABLES(MARKS_LONGEST_WORD)                  /* table entries for every word */
+#define MARKS_FAILURE_TABLES(m) (10 * ((m) + 1))                            /* table entries for the failure oracle of a word of m letters */
+#define MARKS_MOST_FAILURE_TABLES MARKS_FAILURE_TABLES(MARKS_LONGEST_WORD)  /* and for that of every word */
+#define MARKS_MOST_FILE (5 * MARKS_LONGEST_WORD + 1)                        /* output for the file of every word */
+#define MARKS_LONGEST_STREAMED 64                                           /* bytes of a word that a stream is opened for */
+#define MARKS_SEARCHER 134                                                  /* bytes of a searcher */
 
 /* A result that is dropped is a refusal that nobody sees: compilers warn of it. */
 #if (defined(__cplusplus) && __cplusplus >= 201703L) || (defined(__STDC_VERSION__) && __STDC_VERSION__ >= 202311L)
@@ -139,6 +143,20 @@ MARKS_CHECKED uint32_t marks_turbo(const uint8_t *word, size_t word_len, const u
 MARKS_CHECKED uint32_t marks_search_file(const uint8_t *file, size_t file_len, const uint8_t *text, size_t text_len, uint8_t *room, size_t room_len,
                                          uint16_t *tables, size_t tables_len, uint32_t *finds, size_t finds_len, uint64_t *count, uint64_t *letters,
                                          uint64_t *offset);
+
+/* The table of the word's failure oracle, in the first MARKS_FAILURE_TABLES(m) entries of tables; docs/TABLE.md has the use of each. The answer is m. In this
+ * automaton a state may have one failure arrow, taken only where no arrow on the letter leaves it, and consuming none; it has m to 2m-1 arrows in all. To
+ * make it, up to m*m/2 letters are walked of a word that repeats itself, 8.4 million of one of 4,096.
+ * Refusals: 1, 2, 3 (fewer than MARKS_FAILURE_TABLES(m) entries). They change nothing. */
+MARKS_CHECKED uint32_t marks_failure_build(const uint8_t *word, size_t word_len, uint16_t *tables, size_t tables_len, uint64_t *m);
+
+/* As marks_search, with the failure oracle: the same places and the same list. The first MARKS_FAILURE_TABLES(m) entries of tables get the table of the
+ * failure oracle of the word's mirror. The answers are how many places there are, how many letters were read, at most m(n-m+1) for a text of n, and how many
+ * failure arrows were taken, which are counted apart, at most m for each letter read. It makes its table anew in each call, as marks_failure_build does, and
+ * may read m letters for each place of a hostile text: it is there for its small automaton and for comparing.
+ * Refusals: 1, 2, 4, 3 (fewer than MARKS_FAILURE_TABLES(m) entries). They change nothing. */
+MARKS_CHECKED uint32_t marks_failure_search(const uint8_t *word, size_t word_len, const uint8_t *text, size_t text_len, uint16_t *tables, size_t tables_len,
+                                            uint32_t *finds, size_t finds_len, uint64_t *count, uint64_t *letters, uint64_t *failures);
 
 /* Opens a stream: a searcher for a word of 1 to 64 bytes that has taken nothing, in the first MARKS_SEARCHER bytes of searcher.
  * Refusals: 1, 2 (longer than 64), 3 (fewer bytes lent). They change nothing. */

@@ -1,6 +1,7 @@
 /* Asks the proved library and the second implementation the same things and compares whole outcomes: the number, the answers, the
    offset, every byte of every lent buffer, and the guard zones before and behind each. The first difference is printed with its input and
-   ends the run with status 1, and so does a refusal that an entry can give and that no case brought about.
+   ends the run with status 1, and so does a refusal that an entry can give and that no case brought about, and so does a run where no
+   failure oracle had a symbol arrow beside the spine, none two at one state, or where every window that was read whole was a find.
 
    compare [--seed N] [--seconds N] [--long]: the cases are the same for the same seed. --seconds goes on with mixed cases until so
    many seconds have passed; --long adds the costly ones.
@@ -22,7 +23,16 @@
      slip 141: past the worked examples, both sides refuse to save two letters with 17
      slip 142: past the worked examples, 17 changes the tables on both sides
      slip 143: past the worked examples, both sides load a file of one letter
-     slip 144: past the worked examples, both sides refuse a file of one letter with 3 */
+     slip 144: past the worked examples, both sides refuse a file of one letter with 3
+     slip 182: past the worked examples, the failure search has one find fewer on both sides
+     slip 183: past the worked examples, the failure search lists its first find one place late on both sides
+     slip 184: where the failure search is not held against the library's search, it has one find fewer on both sides
+     slip 185: past the worked examples, both sides leave out a failure arrow
+     slip 186: past the worked examples, both sides leave something in the last row of a failure oracle's table
+     slip 187: past the worked examples, both sides lose the first symbol arrow beside the spine
+     slip 188: past the worked examples, both sides leave a failure oracle's table with another letter
+     slip 189: past the worked examples, the failure search reads a letter more than m at each place on both sides
+     slip 190: words whose failure oracle has a symbol arrow beside the spine are none of the cases */
 #define _DEFAULT_SOURCE
 #include "entries.h"
 
@@ -169,6 +179,7 @@ struct zone {
 static struct zone zones[SLICES];
 static uint8_t noise[NOISE];
 static uint64_t seen[ENTRIES][NUMBERS];
+static uint64_t with_slots[ENTRIES], with_chains[ENTRIES]; /* failure oracles with a symbol arrow beside the spine, and with two at a state */
 static uint64_t cases;
 static bool past_examples;
 
@@ -298,7 +309,7 @@ static void lend(const struct asked *a, struct lent *m, struct lent *s)
     }
 }
 
-/* whether the library's search, which may read m letters for each of the text, is asked what turbo is asked */
+/* whether the library's search, which may read m letters for each of the text, is asked what turbo or the failure search is asked */
 static bool also_searched(const struct asked *a)
 {
     return (uint64_t)a->len[INPUT] * a->len[TEXT] <= 1 << 22;
@@ -316,6 +327,39 @@ static void slip_turbo(const struct asked *a, struct outcome *m, struct outcome 
         tables->second[tables->at + 2] = tables->marks[tables->at + 2] = 0;
     if (SLIP == 119 && past_examples && m->number == 0)
         m->answer[1] = s->answer[1] = 2 * (uint64_t)a->len[TEXT] + 1;
+}
+
+/* the table that the library left, and what the second side left at the same entry */
+static const uint16_t *left_table(void)
+{
+    return (const uint16_t *)(const void *)(zones[TABLES].marks + zones[TABLES].at);
+}
+
+static void leave_both(size_t entry, uint16_t number)
+{
+    memcpy(zones[TABLES].marks + zones[TABLES].at + 2 * entry, &number, sizeof number);
+    memcpy(zones[TABLES].second + zones[TABLES].at + 2 * entry, &number, sizeof number);
+}
+
+static void slip_failure(const struct asked *a, struct outcome *m, struct outcome *s)
+{
+    const struct zone *list = &zones[FINDS];
+    size_t letters = a->len[INPUT], n = letters + 1;
+    bool finds = a->entry == FAILURE_SEARCH && m->answer[0] > 0;
+    if (finds && (SLIP == 182 || (SLIP == 184 && !also_searched(a))))
+        s->answer[0] = --m->answer[0];
+    if (SLIP == 183 && finds && list->bytes > 0)
+        list->second[list->at] = ++list->marks[list->at];
+    if (SLIP == 185)
+        leave_both(n, 0);
+    if (SLIP == 186)
+        leave_both(10 * n - 1, 1);
+    if (SLIP == 187)
+        leave_both(4 * n + 1, 0);
+    if (SLIP == 188)
+        leave_both(1, left_table()[1] ^ 1);
+    if (SLIP == 189 && a->entry == FAILURE_SEARCH && m->answer[1] > 0)
+        m->answer[1] = s->answer[1] = (letters + 1) * (a->len[TEXT] - letters + 1);
 }
 
 /* the same number on both sides in the place of their own, with no offset; the answer of success */
@@ -387,7 +431,7 @@ static bool left_alike(const struct asked *a)
    where it would, the finds are held against the text. Where h is carried nothing may differ. */
 static void check_turbo(const struct asked *a, const struct lent *l, const struct outcome *m)
 {
-    struct outcome carried = {99, {UNTOUCHED, UNTOUCHED}, UNTOUCHED};
+    struct outcome carried = {99, {UNTOUCHED, UNTOUCHED, UNTOUCHED}, UNTOUCHED};
     if (m->number != 0 || also_searched(a)) {
         lend_again(a);
         struct outcome sought = ask_marks(SEARCH, l);
@@ -401,6 +445,39 @@ static void check_turbo(const struct asked *a, const struct lent *l, const struc
                                           l->at[FINDS], l->len[FINDS], &carried.answer[0], &carried.answer[1]);
     if (!same_outcome(m, &carried) || !left_alike(a))
         fail(a, "turbo where h is carried, given here as second opinion", m, &carried);
+}
+
+/* What the failure search is asked is asked of the library's search too, where that does not take too long, and must have the same finds;
+   where it would, they are held against the text. Only rooms that the library's search does not need make a difference. */
+static void check_failure_finds(const struct asked *a, const struct lent *l, const struct outcome *m)
+{
+    if (m->number == 0 && !also_searched(a)) {
+        if (!lists_places(l, m->answer[0]))
+            fail(a, "both sides find other places than those where the word stands", m, m);
+        return;
+    }
+    if (m->number == 3)
+        return;
+    lend_again(a);
+    const struct zone *list = &zones[FINDS];
+    struct outcome sought = ask_marks(SEARCH, l);
+    bool alike = memcmp(list->marks, list->second, list->at + list->bytes + GUARD) == 0;
+    if (sought.number != m->number || sought.answer[0] != m->answer[0] || !alike)
+        fail(a, "other finds between the failure search and the library's search, given here as second opinion", m, &sought);
+}
+
+/* the table of a failure oracle, held against what it must be in itself; counts those that few words have */
+static void check_failure_table(const struct asked *a, const struct outcome *m)
+{
+    const uint16_t *table = left_table();
+    size_t letters = a->len[INPUT], chains = 0;
+    const char *wrong = wrong_failure_table(table, a->input, letters, a->entry == FAILURE_SEARCH);
+    if (wrong != NULL)
+        fail(a, wrong, m, m);
+    for (size_t slot = 1; slot <= letters; slot++)
+        chains += in_row(table, letters, BEHIND_ROW, slot) != 0;
+    with_slots[a->entry] += SLIP != 190 && in_row(table, letters, TARGET_ROW, 1) != 0;
+    with_chains[a->entry] += chains > 0;
 }
 
 /* runs a case on both sides; ends the program at a difference. What the library left stays in zones[..].marks. */
@@ -417,6 +494,8 @@ static struct outcome compare(const struct asked *a)
         slip_turbo(a, &m, &s);
     if (past_examples)
         slip_one_letter(a, &m, &s);
+    if (past_examples && makes_failure_oracle(a->entry) && m.number == 0)
+        slip_failure(a, &m, &s);
     if (!same_outcome(&m, &s))
         fail(a, "the number, the answers or the offset", &m, &s);
     for (int i = 0; i < SLICES; i++)
@@ -431,16 +510,15 @@ static struct outcome compare(const struct asked *a)
         fail(a, "both sides give another refusal than 8, or none, where a file declares fewer letters than any has", &m, &s);
     if (a->entry == TURBO)
         check_turbo(a, &for_second, &m);
+    if (makes_failure_oracle(a->entry) && m.number == 0)
+        check_failure_table(a, &m);
+    if (a->entry == FAILURE_SEARCH)
+        check_failure_finds(a, &for_second, &m);
     seen[a->entry][m.number]++;
     return m;
 }
 
 /* ---- words, texts, files ---- */
-
-static size_t entries(size_t m)
-{
-    return 6 * (m + 1);
-}
 
 /* a number in so many groups, zeros at the end where it needs fewer */
 static size_t spell_in(uint32_t number, size_t groups, uint8_t *out)
@@ -573,7 +651,7 @@ static struct asked ask(enum entry entry, const uint8_t *input, size_t input_len
     struct asked a = {.entry = entry, .input = input, .fill = STRANGERS};
     a.len[INPUT] = input_len;
     a.len[ROOM] = m;
-    a.len[TABLES] = entries(m);
+    a.len[TABLES] = entries_for(entry, m);
     a.len[SEARCHER] = SEARCHER_BYTES;
     return a;
 }
@@ -643,11 +721,12 @@ static void set_taken(uint8_t *searcher, uint64_t taken)
         searcher[AT_TAKEN + i] = (uint8_t)(taken >> (8 * i));
 }
 
-/* build, save, load back; the last two are refused where it is one letter */
+/* build both oracles, save, load back; the last two are refused where it is one letter */
 static size_t there_and_back(const uint8_t *word, size_t m, uint8_t *file)
 {
     size_t size = file_of(word, m, file);
     run_plain(BUILD, word, m, m);
+    run_plain(FAILURE_BUILD, word, m, m);
     run_save(word, m, size);
     run_plain(LOAD, file, size, m);
     return size;
@@ -663,6 +742,7 @@ static void each_search(const uint8_t *word, size_t m, const uint8_t *text, size
     size_t lists[3] = {count > 0 ? below(count) : 0, count, count + 1 + below(4)};
     run_search(SEARCH, word, m, m, text, n, lists[below(3)]);
     run_search(TURBO, word, m, m, text, n, lists[below(3)]);
+    run_search(FAILURE_SEARCH, word, m, m, text, n, lists[below(3)]);
     run_search(SEARCH_FILE, file, size, m, text, n, lists[below(3)]);
 }
 
@@ -677,6 +757,7 @@ static void every_list(const uint8_t *word, size_t m, const uint8_t *text, size_
     for (size_t i = 0; i < sizeof lists / sizeof *lists; i++) {
         run_search(SEARCH, word, m, m, text, n, lists[i]);
         run_search(TURBO, word, m, m, text, n, lists[i]);
+        run_search(FAILURE_SEARCH, word, m, m, text, n, lists[i]);
         run_search(SEARCH_FILE, file, size, m, text, n, lists[i]);
     }
 }
@@ -789,7 +870,7 @@ static void example_saving(size_t m, uint32_t before_rooms)
         size_t tables = c % room_choices, out = c / room_choices;
         bool short_tables = tables < 2, short_out = out < 2;
         struct asked a = ask(SAVE, word, m, m);
-        a.len[TABLES] = room_choice(entries(m), tables);
+        a.len[TABLES] = room_choice(entries_for(SAVE, m), tables);
         a.len[OUT] = room_choice(m + 3, out);
         a.nulls = below(2);
         struct outcome o = compare(&a);
@@ -803,7 +884,7 @@ static void example_in_every_room(const uint8_t *file, size_t len, size_t m, uin
 {
     for (size_t c = 0; c < 2 * room_choices * room_choices; c++) {
         struct asked a = ask(c % 2 ? LOAD : SEARCH_FILE, file, len, m);
-        a.len[TABLES] = room_choice(entries(m), c / 2 % room_choices);
+        a.len[TABLES] = room_choice(entries_for(LOAD, m), c / 2 % room_choices);
         a.len[ROOM] = room_choice(m, c / 2 / room_choices);
         a.nulls = below(2);
         struct outcome o = compare(&a);
@@ -861,9 +942,12 @@ static void example_word(size_t m, uint32_t number)
     memset(text, 'a', sizeof text);
     struct outcome built = run_plain(BUILD, text, m, m), saved = run_save(text, m, ALWAYS_ENOUGH);
     struct outcome sought = run_search(SEARCH, text, m, m, text, m + 2, 3), turbo = run_search(TURBO, text, m, m, text, m + 2, 3);
+    struct outcome failing = run_plain(FAILURE_BUILD, text, m, m), by_failing = run_search(FAILURE_SEARCH, text, m, m, text, m + 2, 3);
     expect(built.number == number && saved.number == number && sought.number == number, "a word of many letters");
     expect(number != 0 || (built.answer[0] == m && saved.answer[0] == m + 4), "a word of many letters");
     expect(number != 0 || (sought.answer[0] == 3 && sought.answer[1] == 3 * m), "a word of many letters");
+    expect(failing.number == number && by_failing.number == number, "a word of many letters");
+    expect(number != 0 || (by_failing.answer[0] == 3 && by_failing.answer[1] == 3 * m && by_failing.answer[2] == 0), "a word of many letters");
     expect(turbo.number == number && (number != 0 || (turbo.answer[0] == 3 && turbo.answer[1] == m + m + 2)), "a word of many letters");
 }
 
@@ -1080,6 +1164,70 @@ static void examples_of_turbo(void)
     example_turbo("abc", "ab", 0, (const uint32_t[]){0}, 0);
 }
 
+static void example_failure_search(const char *word, const char *text, uint64_t count, const uint32_t *places, uint64_t letters,
+                                   uint64_t failures)
+{
+    size_t m = strlen(word);
+    struct outcome o = run_search(FAILURE_SEARCH, (const uint8_t *)word, m, m, (const uint8_t *)text, strlen(text), count);
+    expect_finds(o, word, count, places, letters);
+    expect(o.answer[2] == failures, word);
+}
+
+/* pairs: source and target of each failure arrow; slot, where it is not NULL: those of the one symbol arrow beside the spine */
+static void example_failure_oracle(const char *word, const uint16_t *pairs, size_t failures, const uint16_t *slot)
+{
+    size_t m = strlen(word), n = m + 1;
+    uint16_t right[10 * 64] = {0};
+    for (size_t i = 1; i <= m; i++)
+        right[i] = (uint8_t)word[i - 1];
+    for (size_t i = 0; i < failures; i++)
+        right[n + pairs[2 * i]] = pairs[2 * i + 1];
+    if (slot != NULL) {
+        right[2 * n + slot[0]] = 1;
+        right[4 * n + 1] = slot[1];
+    }
+    struct outcome o = run_plain(FAILURE_BUILD, (const uint8_t *)word, m, m);
+    expect(o.number == 0 && o.answer[0] == m && memcmp(left_table(), right, 10 * n * sizeof *right) == 0, word);
+}
+
+/* every choice of table room, that of the other oracle among them */
+static void example_failure_rooms(void)
+{
+    static const uint8_t word[] = "abcacdace";
+    for (size_t m = 1; m <= 9; m++)
+        for (size_t room = 0; room <= 10 * (m + 1) + 1; room++) {
+            struct asked built = ask(FAILURE_BUILD, word, m, m), sought = ask(FAILURE_SEARCH, word, m, m);
+            built.len[TABLES] = sought.len[TABLES] = room;
+            sought.text = word;
+            sought.len[TEXT] = 9;
+            uint32_t right = room < 10 * (m + 1) ? 3 : 0;
+            expect(compare(&built).number == right && compare(&sought).number == right, "the room of a failure oracle");
+        }
+}
+
+/* figure is 003's 4a; the last window but one is read whole, and the word does not stand there */
+static void examples_of_failure(void)
+{
+    static const uint16_t first[] = {0, 1, 1, 2, 2, 5, 3, 5, 5, 8}, figure[] = {0, 1, 1, 2, 2, 4};
+    static const uint16_t other[] = {0, 1, 1, 3, 2, 5, 3, 5, 5, 7, 7, 9, 9, 13}, slot[] = {13, 13};
+    example_failure_oracle("a", NULL, 0, NULL);
+    example_failure_oracle("aaa", NULL, 0, NULL);
+    example_failure_oracle("ab", first, 1, NULL);
+    example_failure_oracle("abcaab", figure, 3, NULL);
+    example_failure_oracle("abcacdace", first, 5, NULL);
+    example_failure_oracle("abadbcaabdbaba", other, 7, slot);
+    example_failure_search("a", "aba", 2, (const uint32_t[]){0, 2}, 3, 0);
+    example_failure_search("aa", "aaaa", 3, (const uint32_t[]){0, 1, 2}, 6, 0);
+    example_failure_search("ab", "ac", 0, (const uint32_t[]){0}, 1, 1);
+    example_failure_search("ab", "aab", 1, (const uint32_t[]){1}, 4, 1);
+    example_failure_search("aba", "ababa", 2, (const uint32_t[]){0, 2}, 6, 0);
+    example_failure_search("abc", "xxxxxx", 0, (const uint32_t[]){0}, 2, 4);
+    example_failure_search("abc", "ab", 0, (const uint32_t[]){0}, 0, 0);
+    example_failure_search("ababdbaacbdaba", "abbbbbbbabdbaa", 0, (const uint32_t[]){0}, 14, 3);
+    example_failure_search("ababdbaacbdaba", "ababdbaacbdaba", 1, (const uint32_t[]){0}, 14, 0);
+    example_failure_rooms();
+}
+
 /* by the word alone, as one letter has no file */
 static void example_search_one_letter(void)
 {
@@ -1107,6 +1255,7 @@ static void examples(void)
     example_search("abc", "xxxxxx", 0, (const uint32_t[]){0}, 2);
     example_search("abc", "ab", 0, (const uint32_t[]){0}, 0);
     examples_of_turbo();
+    examples_of_failure();
     examples_of_loading();
     examples_of_streams();
 }
@@ -1163,6 +1312,7 @@ static void every_text(const uint8_t *word, size_t m)
         for (size_t number = 0; number < (size_t)1 << n; number++) {
             spell_digits(number, n, text);
             run_search(SEARCH, word, m, m, text, n, n);
+            run_search(FAILURE_SEARCH, word, m, m, text, n, below(4) ? n : below(3));
             run_search(SEARCH_FILE, file, size, m, text, n, n);
         }
 }
@@ -1177,8 +1327,9 @@ static void short_texts(void)
         }
 }
 
-/* turbo alone: every word of 1 to so many letters in every text of up to so many; lists that are as long as the finds can be, or shorter */
-static void every_turbo(size_t base, size_t longest_word, size_t longest_text)
+/* one search alone: every word of 1 to so many letters in every text of up to so many; lists that are as long as the finds can be, or
+   shorter */
+static void every_case_of(enum entry entry, size_t base, size_t longest_word, size_t longest_text)
 {
     uint8_t word[16], text[16];
     for (size_t m = 1, words = base; m <= longest_word; m++, words *= base)
@@ -1187,25 +1338,59 @@ static void every_turbo(size_t base, size_t longest_word, size_t longest_text)
             for (size_t n = 0, texts = 1; n <= longest_text; n++, texts *= base)
                 for (size_t other = 0; other < texts; other++) {
                     spell_in_base(base, other, n, text);
-                    run_search(TURBO, word, m, m, text, n, below(4) ? n : below(3));
+                    run_search(entry, word, m, m, text, n, below(4) ? n : below(3));
                 }
         }
 }
 
 static void short_texts_turbo(void)
 {
-    every_turbo(2, 7, 12);
+    every_case_of(TURBO, 2, 7, 12);
 }
 
 static void short_texts_over_3(void)
 {
-    every_turbo(3, 4, 8);
+    every_case_of(TURBO, 3, 4, 8);
+}
+
+static void short_texts_failure(void)
+{
+    every_case_of(FAILURE_SEARCH, 3, 4, 7);
+    every_case_of(FAILURE_SEARCH, 4, 3, 6);
+}
+
+/* every word of 1 to so many letters */
+static void every_failure_oracle(size_t base, size_t longest_word)
+{
+    uint8_t word[32];
+    for (size_t m = 1, words = base; m <= longest_word; m++, words *= base)
+        for (size_t number = 0; number < words; number++) {
+            spell_in_base(base, number, m, word);
+            run_plain(FAILURE_BUILD, word, m, m);
+        }
+}
+
+static void short_failure_oracles(void)
+{
+    every_failure_oracle(2, 14);
+    every_failure_oracle(3, 9);
+    every_failure_oracle(4, 7);
+    every_failure_oracle(7, 5);
+}
+
+static void longer_failure_oracles(void)
+{
+    every_failure_oracle(2, 20);
+    every_failure_oracle(3, 12);
+    every_failure_oracle(4, 10);
+    every_case_of(FAILURE_SEARCH, 2, 8, 13);
+    every_case_of(FAILURE_SEARCH, 3, 5, 8);
 }
 
 static void longer_texts_turbo(void)
 {
-    every_turbo(2, 8, 14);
-    every_turbo(3, 5, 9);
+    every_case_of(TURBO, 2, 8, 14);
+    every_case_of(TURBO, 3, 5, 9);
 }
 
 /* ---- words in texts of the same period, where each find overlaps the one before by a border ---- */
@@ -1241,7 +1426,8 @@ static void same_periods(void)
     }
 }
 
-/* ---- words and texts by strangers, where a plain search reads most letters many times: turbo alone ---- */
+/* ---- words and texts by strangers, where a plain search reads most letters many times: turbo, and the failure search where that is not
+   too often ---- */
 
 enum hostile { ALL_A, FIRST_B, LAST_B, MIDDLE_B, ALTERNATING, OF_FIBONACCI, HOSTILES };
 
@@ -1283,9 +1469,13 @@ static void hostile_texts(const uint8_t *word, size_t m, size_t n)
             put_pieces(text, n, word, m);
         else
             make_hostile(text, n, kind == OWNS + 1 ? ALL_A : OF_FIBONACCI);
-        run_search(TURBO, word, m, m, text, n, below(2) ? n : below(5));
-        text[below(n)] = (uint8_t)('a' + below(3));
-        run_search(TURBO, word, m, m, text, n, below(2) ? n : below(5));
+        bool few = m * n <= 1 << 18;
+        for (int turn = 0; turn < 2; turn++) {
+            run_search(TURBO, word, m, m, text, n, below(2) ? n : below(5));
+            if (few)
+                run_search(FAILURE_SEARCH, word, m, m, text, n, below(2) ? n : below(5));
+            text[below(n)] = (uint8_t)('a' + below(3));
+        }
     }
 }
 
@@ -1873,7 +2063,7 @@ static void rooms_for(enum entry entry, const uint8_t *input, size_t input_len, 
     make_text(text, m + n, sought, sought != NULL ? m : 0, RANDOM + KINDS);
     for (size_t c = 0; c < all; c++) {
         struct asked a = ask(entry, input, input_len, m);
-        a.len[TABLES] = room_choice(entries(m), c % room_choices);
+        a.len[TABLES] = room_choice(entries_for(entry, m), c % room_choices);
         a.len[ROOM] = room_choice(m, c / room_choices % room_choices);
         a.len[OUT] = room_choice(file_size, c / room_choices % room_choices);
         a.len[FINDS] = room_choice(3, c / room_choices / room_choices % room_choices);
@@ -1894,6 +2084,8 @@ static void rooms_of_word(const uint8_t *word, size_t m)
     rooms_for(SAVE, word, m, m, size, NULL);
     rooms_for(SEARCH, word, m, m, 0, word);
     rooms_for(TURBO, word, m, m, 0, word);
+    rooms_for(FAILURE_SEARCH, word, m, m, 0, word);
+    rooms_for(FAILURE_BUILD, word, m, m, 0, NULL);
     if (good) {
         mirror(word, m, mirrored);
         rooms_for(LOAD, file, size, m, 0, NULL);
@@ -1930,6 +2122,150 @@ static void rooms(void)
             if (lengths[l] > MOST_LETTERS && lengths[l] < PAST_16_BITS)
                 rooms_of_long_file(word, lengths[l]);
         }
+}
+
+/* ---- failure oracles with symbol arrows beside the spine, which few words have ---- */
+
+/* words with one such arrow, two of one state, three of two states, more; found by changing the first step by step */
+static const char *const slotted[] = {
+    "abadbcaabdbaba",
+    "dabadbbecaabddcccddbabaacaddbbbbeebbaab",
+    "ebbabbbaadcdabebbdcaababbdbeccaaabbdbade",
+    "babbcecbaaeddacceebbbaeceecabbbaacceadb",
+    "cecabaabbddbabaebbbadaaedbaaaaaaadaaaaaa",
+    "ebhbabbgadbehhbgcdhfebcaagbhedhbhgffgeeabaeefbbhhaefaaadfdbcadhhhgcgdhbahghdfdeaabhfahbghhhahheaeebahhhhhgafcaahbaaefeed"};
+
+enum { SLOTTED = sizeof slotted / sizeof *slotted, LEAST_GROWN = 40 };
+
+/* words of any length from LEAST_GROWN on: a head, then one letter over and over but for another, about in the middle. With the letters the
+   arrows beside the spine grow, to about one for two letters. */
+static const struct {
+    const char *head;
+    char often, once;
+} grown[] = {{"abaabbcdcbaebbbadaac", 'a', 'd'}, {"bdbabddbadcbbdadbdcdda", 'd', 'c'}, {"befbaffbdfcfebfafbfeecffdd", 'f', 'e'}};
+
+/* so many letters, where that may be: a word from above, as it is, or in front of or behind letters by chance, or one that is grown; now and
+   then with a letter changed; its letters then exchanged for others */
+static void make_slotted_word(uint8_t *out, size_t m)
+{
+    uint8_t first = (uint8_t)chance(), step = (uint8_t)(2 * chance() + 1);
+    const char *own = slotted[below(SLOTTED)];
+    size_t len = strlen(own) < m ? strlen(own) : m, g = below(sizeof grown / sizeof *grown);
+    for (size_t i = 0; i < m; i++)
+        out[i] = (uint8_t)('a' + below(4));
+    memcpy(out + (below(2) ? m - len : 0), own, len);
+    if (m >= LEAST_GROWN && (m > 200 || below(2))) {
+        size_t head = strlen(grown[g].head), rest = m - head;
+        memset(out, grown[g].often, m);
+        memcpy(out, grown[g].head, head);
+        out[head + rest / 2 - below(rest / 4)] = (uint8_t)grown[g].once;
+    }
+    if (below(4) == 0)
+        out[below(m)] = (uint8_t)('a' + below(6));
+    for (size_t i = 0; i < m; i++)
+        out[i] = (uint8_t)(first + (out[i] - 'a') * step);
+}
+
+/* a letter to go on with from a state: of a slot of it or of a state on its failure path, as far as liked, else the spine's or any */
+static unsigned some_letter(const uint16_t *table, size_t m, unsigned state, unsigned liking)
+{
+    if (below(16) < liking)
+        for (unsigned x = state;; x = in_row(table, m, FAILURE_ROW, x)) {
+            unsigned slot = in_row(table, m, FIRST_ROW, x), behind = in_row(table, m, BEHIND_ROW, slot);
+            if (slot != 0)
+                return table[in_row(table, m, TARGET_ROW, behind != 0 && below(2) ? behind : slot)];
+            if (in_row(table, m, FAILURE_ROW, x) == 0)
+                break;
+        }
+    return state < m && below(2) ? table[state + 1] : table[1 + below(m)];
+}
+
+/* Letters that the oracle of the table reads, from the window's last to its first; whether all m of them. Where it is stuck, the rest of
+   the window stays as it is. */
+static bool walk_window(uint8_t *window, const uint16_t *table, size_t m)
+{
+    unsigned state = 0, liking = (unsigned)(below(3) ? 14 + below(3) : below(16));
+    for (size_t unread = m; unread > 0; unread--) {
+        unsigned letter = 0, next = 0;
+        for (int tries = 0; tries < 8 && next == 0; tries++) {
+            letter = some_letter(table, m, state, liking);
+            next = table_reach(table, m, state, letter);
+        }
+        if (next == 0)
+            return false;
+        window[unread - 1] = (uint8_t)letter;
+        state = next;
+    }
+    return true;
+}
+
+/* windows that the failure oracle of the word's mirror reads, at the text's first place and at some others; of some only the end */
+static void put_walked(uint8_t *text, size_t n, const uint8_t *word, size_t m)
+{
+    static uint16_t table[10 * (MOST_LETTERS + 1)];
+    static uint8_t mirrored[MOST_LETTERS];
+    uint64_t answer;
+    mirror(word, m, mirrored);
+    second_failure_build(mirrored, m, table, 10 * (m + 1), &answer);
+    for (size_t windows = m <= n ? 1 + below(1 + n / m) : 0, at = 0; windows > 0; windows--) {
+        for (int tries = 0; tries < 32 && !walk_window(text + at, table, m); tries++)
+            ;
+        at = below(2) && at + 2 * m <= n ? at + m : below(n - m + 1);
+    }
+}
+
+/* a word of which the failure oracle is made, and its mirror, which is looked for with it */
+static void slotted_word(const uint8_t *word, size_t m)
+{
+    uint8_t sought[MOST_LETTERS];
+    static uint8_t text[3 * MOST_LETTERS + 300];
+    size_t n = m + below(2 * m + 300);
+    mirror(word, m, sought);
+    run_plain(FAILURE_BUILD, word, m, m);
+    choose_palette(4);
+    make_text(text, n, sought, m, (unsigned)chance());
+    put_walked(text, n, sought, m);
+    run_search(FAILURE_SEARCH, sought, m, m, text, m, below(3));
+    run_search(FAILURE_SEARCH, sought, m, m, text, n, below(3) ? n : below(4));
+    put_walked(text, n, sought, m);
+    memcpy(text + below(n - m + 1), sought, m);
+    run_search(FAILURE_SEARCH, sought, m, m, text, n, below(3) ? n : below(4));
+}
+
+/* the first word, with every two of its letters changed in every way */
+static void changed_slotted_words(void)
+{
+    size_t m = strlen(slotted[0]);
+    uint8_t word[64];
+    for (size_t i = 0; i < m; i++)
+        for (size_t k = 0; k < i; k++)
+            for (unsigned letters = 0; letters < 25; letters++) {
+                memcpy(word, slotted[0], m);
+                word[i] = (uint8_t)('a' + letters % 5);
+                word[k] = (uint8_t)('a' + letters / 5);
+                slotted_word(word, m);
+            }
+}
+
+static void slotted_words(void)
+{
+    static const size_t lengths[] = {128, 255, 256, 257, 500, LONG_EDGES};
+    uint8_t word[MOST_LETTERS], mirrored[MOST_LETTERS];
+    for (size_t i = 0; i < SLOTTED; i++)
+        for (int turn = 0; turn < 500; turn++)
+            slotted_word((const uint8_t *)slotted[i], strlen(slotted[i]));
+    changed_slotted_words();
+    for (size_t turn = 0; turn < 10000; turn++) {
+        make_slotted_word(word, 14 + turn % 110);
+        slotted_word(word, 14 + turn % 110);
+    }
+    for (size_t turn = 0; turn < 5 * sizeof lengths / sizeof *lengths; turn++) {
+        size_t m = lengths[turn / 5];
+        make_slotted_word(word, m);
+        slotted_word(word, m);
+        mirror(word, m, mirrored);
+        slotted_word(mirrored, m);
+    }
 }
 
 /* ---- files: cut, changed, bytes put in and taken out, numbers replaced ---- */
@@ -2310,6 +2646,23 @@ static void long_texts(void)
         search_long_text(2 + l % 15, 65535 + below(3) + below(2) * below(200000), wide_alphabets[below(6)], STRETCHES);
 }
 
+/* the failure search with what few words have, in long texts where it often reads whole windows */
+static void long_slotted_texts(void)
+{
+    static const size_t lengths[] = {14, 15, 20, 39, 40, 64, 65, 120, 257};
+    uint8_t word[MOST_LETTERS], sought[MOST_LETTERS];
+    for (size_t l = 0; l < sizeof lengths / sizeof *lengths; l++)
+        for (unsigned c = 0; c < 3 * NEARS; c++) {
+            size_t m = lengths[l], n = near_long(m, c % NEARS);
+            choose_wide_palette(4);
+            make_slotted_word(word, m);
+            mirror(word, m, sought);
+            make_long_text(long_text, n, sought, m, STRETCHES);
+            put_walked(long_text, n < 40 * m || c < 6 ? n : 40 * m, sought, m);
+            run_search(FAILURE_SEARCH, sought, m, m, long_text, n, below(2) ? n : below(50));
+        }
+}
+
 /* the longest texts, and words of more letters in texts all of one kind, where every letter may be read m times */
 static void longest_texts(void)
 {
@@ -2342,7 +2695,8 @@ static void texts_at_the_limit(void)
     memcpy(text, word, m);
     memcpy(text + MOST_TEXT - m, word, m);
     for (size_t past = 0; past <= 1; past++) {
-        for (enum entry entry = SEARCH; entry <= TURBO; entry++) {
+        for (int i = 0; i < 3; i++) {
+            enum entry entry = i == 0 ? SEARCH : i == 1 ? TURBO : FAILURE_SEARCH;
             run_search(entry, word, m, m, text, MOST_TEXT + past, 10000);
             run_search(entry, word, m, m - 1, text, MOST_TEXT + past, 10);
             run_search(entry, word, 0, m, text, MOST_TEXT + past, 10);
@@ -2358,26 +2712,28 @@ static void texts_at_the_limit(void)
     memset(text, 'a', MOST_TEXT);
     run_search(SEARCH, text, 4, 4, text, MOST_TEXT, 1000);
     run_search(TURBO, text, 4, 4, text, MOST_TEXT, 1000);
+    run_search(FAILURE_SEARCH, text, 4, 4, text, MOST_TEXT, 1000);
     free(text);
 }
 
 /* a's in a text of a's alone: the letters read pass 32 bits; every find has its entry */
-static void hostile(size_t m, size_t n, uint64_t letters)
+static void hostile(enum entry entry, size_t m, size_t n, uint64_t letters)
 {
     uint8_t *text = reserve(NULL, n);
     memset(text, 'a', n);
-    expect(run_search(SEARCH, text, m, m, text, n, n).answer[1] == letters, "letters read past 32 bits");
+    expect(run_search(entry, text, m, m, text, n, n).answer[1] == letters, "letters read past 32 bits");
     free(text);
 }
 
 static void hostile_text(void)
 {
-    hostile(300, MOST_TEXT, UINT64_C(5033075100));
+    hostile(SEARCH, 300, MOST_TEXT, UINT64_C(5033075100));
+    hostile(FAILURE_SEARCH, 300, MOST_TEXT, UINT64_C(5033075100));
 }
 
 static void hostile_word(void)
 {
-    hostile(4096, 2097152, UINT64_C(8573161472));
+    hostile(SEARCH, 4096, 2097152, UINT64_C(8573161472));
 }
 
 /* ---- lengths past 32 bits, over memory that is asked for and hardly touched ---- */
@@ -2550,12 +2906,12 @@ static void ask_mixed(enum entry entry, const uint8_t *word, size_t m, const uin
     size_t size = entry == SAVE || reads_file(entry) ? file_of(word, m, file) : 0;
     a.text = text;
     a.len[TEXT] = n;
-    a.len[TABLES] = some_room(entries(m));
+    a.len[TABLES] = some_room(entries_for(entry, m));
     a.len[ROOM] = some_room(m);
     a.len[OUT] = some_room(size);
     a.len[FINDS] = some_length(n);
     a.fill = (enum fill)below(FILLS);
-    a.inside = (entry == SEARCH || entry == TURBO) && m <= n && below(20) == 0;
+    a.inside = (entry == SEARCH || entry == TURBO || entry == FAILURE_SEARCH) && m <= n && below(20) == 0;
     if (a.inside)
         a.input = text;
     if (reads_file(entry)) {
@@ -2573,10 +2929,17 @@ static void mixed_case(void)
     size_t m = some_word_length(entry == SAVE || reads_file(entry)), n = some_length(below(8) ? 600 : sizeof text);
     if (m > 600 && below(2))
         n = m + some_length(sizeof text - m);
+    bool walked = makes_failure_oracle(entry) && below(3) == 0;
     choose_palette(alphabets[below(5)]);
     make_word(word, m, (enum kind)below(KINDS));
+    if (walked)
+        make_slotted_word(word, m);
     mirror(word, m, mirrored);
+    if (walked && entry == FAILURE_SEARCH)
+        memcpy(word, mirrored, m);
     make_text(text, n, entry == SEARCH_FILE ? mirrored : word, m, (unsigned)below(1000));
+    if (walked && entry == FAILURE_SEARCH && m < 1000)
+        put_walked(text, n, word, m);
     ask_mixed(entry, word, m, text, n);
 }
 
@@ -2584,7 +2947,7 @@ static void mixed_case(void)
 static void mixed_long_case(void)
 {
     uint8_t word[MOST_LETTERS], mirrored[MOST_LETTERS];
-    enum entry entry = (enum entry)(SEARCH + below(3));
+    enum entry entry = (enum entry)(SEARCH + below(4));
     size_t m = 1 + (below(8) ? below(16) : below(20) ? below(64) : below(300)), n = near_long(m, (unsigned)below(NEARS));
     choose_wide_palette(wide_alphabets[below(6)]);
     make_any_word(word, m, (unsigned)below(WORD_KINDS));
@@ -2685,6 +3048,17 @@ static bool print_seen(void)
     return missing;
 }
 
+/* how many failure oracles had what few words have, and how many windows were read whole without a find; whether there was none */
+static bool print_rare(void)
+{
+    uint64_t windows = second_read_without_find();
+    printf("failure oracles with a symbol arrow beside the spine: %" PRIu64 " searched with and %" PRIu64 " built, with two at one state: %" PRIu64
+           " and %" PRIu64 "; windows read whole without a find: %" PRIu64 "\n",
+           with_slots[FAILURE_SEARCH], with_slots[FAILURE_BUILD], with_chains[FAILURE_SEARCH], with_chains[FAILURE_BUILD], windows);
+    return with_slots[FAILURE_SEARCH] == 0 || with_slots[FAILURE_BUILD] == 0 || with_chains[FAILURE_SEARCH] == 0 ||
+           with_chains[FAILURE_BUILD] == 0 || windows == 0;
+}
+
 static void all_parts(bool costly)
 {
     part("the worked examples", examples);
@@ -2692,11 +3066,15 @@ static void all_parts(bool costly)
         return;
     past_examples = true;
     part("every word of 1 to 8 letters over 3: build, save, load back, search", short_words);
-    part("every word of 1 to 6 letters over 2 in every text of up to 10: both searches", short_texts);
+    part("every word of 1 to 6 letters over 2 in every text of up to 10: search, with a file too, and failure search", short_texts);
     part("every word of 1 to 7 letters over 2 in every text of up to 12: turbo", short_texts_turbo);
     part("every word of 1 to 4 letters over 3 in every text of up to 8: turbo", short_texts_over_3);
+    part("every word of 1 to 4 letters over 3 in every text of up to 7, of 1 to 3 over 4 in every one of up to 6: failure search",
+         short_texts_failure);
+    part("every word of 1 to 14 letters over 2, of 1 to 9 over 3, of 1 to 7 over 4, of 1 to 5 over 7: failure oracle", short_failure_oracles);
+    part("failure oracles with symbol arrows beside the spine", slotted_words);
     part("words of 1 to 64 letters, of every period, and longer ones, in texts of the same period", same_periods);
-    part("words of 1 letter to the most, and texts, by strangers: turbo", hostile_words);
+    part("words of 1 letter to the most, and texts, by strangers: turbo and, where that is not slow, failure search", hostile_words);
     part("openings of streams", openings);
     part("every text of 8 letters over 2 cut in every way, words of 1 to 5", short_texts_cut);
     part("texts of 12 letters over 2 cut in every way, words of 1 to 8", texts_of_12_cut);
@@ -2714,11 +3092,15 @@ static void all_parts(bool costly)
     part("slices of more than 4,294,967,296 elements", vast_slices);
     part("all of it mixed", mixed_cases);
     part("long texts, and those that are just not long: the searches", long_texts);
+    part("failure searches in long texts, with symbol arrows beside the spine", long_slotted_texts);
     part("searches in long texts mixed", mixed_long_cases);
     if (costly) {
         part("damaged files of the most letters, of half as many, and of 1,025", long_damaged_files);
         part("every text of 12 letters over 2 cut in every way, words of 1 to 3", every_text_of_12_cut);
         part("words of 1 to 8 letters over 2 in every text of up to 14, of 1 to 5 over 3 in every one of up to 9: turbo", longer_texts_turbo);
+        part("words of 1 to 20 letters over 2, of 1 to 12 over 3, of 1 to 10 over 4; of 1 to 8 over 2 in every text of up to 13, of 1 to 5 "
+             "over 3 in every one of up to 8: failure oracle and search",
+             longer_failure_oracles);
         part("words of the most letters and texts of the most bytes, by strangers: turbo", longest_hostiles);
         part("words of 2 to 16 letters, and longer ones, in long texts up to the most bytes", longest_texts);
         part("300 a's in the longest text, of a's alone", hostile_text);
@@ -2748,10 +3130,12 @@ int main(int argc, char **argv)
     for (size_t i = 0; i < NOISE; i++)
         noise[i] = (uint8_t)chance();
     all_parts(costly);
-    bool missing = print_seen();
+    bool missing = print_seen(), rare = print_rare();
     if (missing)
         printf("DIFFERENT: a refusal that can be given was never seen\n");
+    else if (rare)
+        printf("DIFFERENT: no failure oracle was seen that few words have, or no window that is read whole without a find\n");
     else
         printf("second opinion: seed %" PRIu64 ", %" PRIu64 " cases, no difference, %.1f s\n", seed, cases, seconds() - begun);
-    return missing ? 1 : 0;
+    return missing || rare ? 1 : 0;
 }

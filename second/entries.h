@@ -1,4 +1,4 @@
-/* The eight entries of both sides by number, so that the comparison and the attack can ask either side the same thing in one line.
+/* The ten entries of both sides by number, so that the comparison and the attack can ask either side the same thing in one line.
    This is all that the two share with each other; neither implementation sees it. */
 #ifndef ENTRIES_H
 #define ENTRIES_H
@@ -12,9 +12,10 @@
 #include <stdlib.h>
 #include <string.h>
 
-enum entry { BUILD, SAVE, LOAD, SEARCH, TURBO, SEARCH_FILE, OPEN, TAKE, ENTRIES };
+enum entry { BUILD, SAVE, LOAD, SEARCH, TURBO, SEARCH_FILE, FAILURE_SEARCH, FAILURE_BUILD, OPEN, TAKE, ENTRIES };
 
-static const char *const entry_name[ENTRIES] = {"build", "save", "load", "search", "turbo", "search_file", "open", "take"};
+static const char *const entry_name[ENTRIES] = {"build",       "save",         "load",          "search", "turbo",
+                                                "search_file", "fail_search", "fail_build", "open",   "take"};
 
 /* the slices that an entry may be lent; input is the word, or the file of load and search_file; text is also the piece of take */
 enum slice { INPUT, TEXT, ROOM, OUT, TABLES, FINDS, SEARCHER, SLICES };
@@ -30,6 +31,8 @@ static const unsigned lent_slices[ENTRIES] = {
     1 << INPUT | 1 << TEXT | 1 << TABLES | 1 << FINDS,
     1 << INPUT | 1 << TEXT | 1 << TABLES | 1 << FINDS,
     1 << INPUT | 1 << TEXT | 1 << ROOM | 1 << TABLES | 1 << FINDS,
+    1 << INPUT | 1 << TEXT | 1 << TABLES | 1 << FINDS,
+    1 << INPUT | 1 << TABLES,
     1 << INPUT | 1 << SEARCHER,
     1 << TEXT | 1 << FINDS | 1 << SEARCHER,
 };
@@ -43,6 +46,7 @@ static const unsigned can_give[ENTRIES] = {
     1 << 0 | 1 << 1 | 1 << 2 | 1 << 3,          1 << 0 | 1 << 1 | 1 << 2 | 1 << 3 | 1 << 12 | 1 << 17,
     1 << 0 | 1 << 3 | 0xFE0,                    1 << 0 | 1 << 1 | 1 << 2 | 1 << 3 | 1 << 4,
     1 << 0 | 1 << 1 | 1 << 2 | 1 << 3 | 1 << 4, 1 << 0 | 1 << 3 | 1 << 4 | 0xFE0,
+    1 << 0 | 1 << 1 | 1 << 2 | 1 << 3 | 1 << 4, 1 << 0 | 1 << 1 | 1 << 2 | 1 << 3,
     1 << 0 | 1 << 1 | 1 << 2 | 1 << 3,          1 << 0 | 1 << 4 | 1 << 16,
 };
 
@@ -58,6 +62,17 @@ static size_t may_write(int slice, size_t len, uint32_t number)
     return slice == SEARCHER && len > SEARCHER_BYTES ? SEARCHER_BYTES : len;
 }
 
+static bool makes_failure_oracle(enum entry entry)
+{
+    return entry == FAILURE_SEARCH || entry == FAILURE_BUILD;
+}
+
+/* how many table entries an entry needs for a word of m letters */
+static size_t entries_for(enum entry entry, size_t m)
+{
+    return (makes_failure_oracle(entry) ? 10 : 6) * (m + 1);
+}
+
 /* an answer and an offset that no entry gives: what is handed over under the last pointers */
 #define UNTOUCHED UINT64_C(0xA5C3A5C35A3C5A3C)
 
@@ -69,21 +84,21 @@ struct lent {
 
 struct outcome {
     uint32_t number;
-    uint64_t answer[2];
+    uint64_t answer[3];
     uint64_t offset;
 };
 
 static bool same_outcome(const struct outcome *a, const struct outcome *b)
 {
-    return a->number == b->number && a->answer[0] == b->answer[0] && a->answer[1] == b->answer[1] && a->offset == b->offset;
+    return a->number == b->number && memcmp(a->answer, b->answer, sizeof a->answer) == 0 && a->offset == b->offset;
 }
 
-/* the number, both answers and the offset, a dash for each that was not written */
+/* the number, the answers and the offset, a dash for each that was not written */
 static void print_outcome(const char *side, const struct outcome *o)
 {
-    const uint64_t beside[] = {o->answer[0], o->answer[1], o->offset};
+    const uint64_t beside[] = {o->answer[0], o->answer[1], o->answer[2], o->offset};
     printf("%s: %" PRIu32 ", answers and offset", side, o->number);
-    for (int i = 0; i < 3; i++)
+    for (int i = 0; i < 4; i++)
         if (beside[i] == UNTOUCHED)
             printf(" -");
         else
@@ -113,12 +128,20 @@ static bool too_short_a_file(enum entry entry, const struct outcome *o, const si
     return (reads_file(entry) && len[INPUT] < LEAST_FILE) || (entry == SAVE && o->answer[0] < LEAST_FILE);
 }
 
+/* Whether the failure search can count so: at most m letters for each place where a window can be, nothing where there is none, and for each
+   letter at most as many failure arrows as there are states to climb to. */
+static bool failure_counts_can_be(uint64_t letters, uint64_t failures, size_t m, size_t n)
+{
+    uint64_t places = m <= n ? n - m + 1 : 0;
+    return letters <= places * m && failures <= letters * m;
+}
+
 /* what an outcome cannot be, whatever the other side says; NULL where it can be. Slices of so many elements were lent. */
 static const char *wrong_in_itself(enum entry entry, const struct outcome *o, const size_t *len)
 {
     if (o->number >= NUMBERS || !(can_give[entry] & 1u << o->number))
         return "both sides give a number that the entry cannot give";
-    if (o->number != 0 && (o->answer[0] != UNTOUCHED || o->answer[1] != UNTOUCHED))
+    if (o->number != 0 && (o->answer[0] != UNTOUCHED || o->answer[1] != UNTOUCHED || o->answer[2] != UNTOUCHED))
         return "both sides answer beside a refusal";
     if (has_offset(o->number) != (o->offset != UNTOUCHED))
         return "both sides write an offset where there is none, or none where there is one";
@@ -130,6 +153,8 @@ static const char *wrong_in_itself(enum entry entry, const struct outcome *o, co
         return "both sides take or write a file that is shorter than any";
     if (entry == TURBO && o->number == 0 && o->answer[1] > 2 * (uint64_t)len[TEXT])
         return "both sides read more than two letters for each of the text";
+    if (entry == FAILURE_SEARCH && o->number == 0 && !failure_counts_can_be(o->answer[1], o->answer[2], len[INPUT], len[TEXT]))
+        return "both sides count letters or failure arrows that no failure search reads or takes";
     return NULL;
 }
 
@@ -148,13 +173,104 @@ static bool lists_places(const struct lent *l, uint64_t count)
     return found == count;
 }
 
+/* ---- the table of a failure oracle, read as it is laid out: ten rows of m+1 entries ---- */
+
+enum { LETTER_ROW, FAILURE_ROW, FIRST_ROW, BEHIND_ROW, TARGET_ROW, EMPTY_ROW, FAILURE_ROWS = 10 };
+
+static unsigned in_row(const uint16_t *table, size_t m, int row, size_t i)
+{
+    return table[(size_t)row * (m + 1) + i];
+}
+
+/* where the symbol arrow of a state on a letter leads; 0 for none */
+static unsigned table_symbol(const uint16_t *table, size_t m, unsigned state, unsigned letter)
+{
+    if (state < m && table[state + 1] == letter)
+        return state + 1;
+    for (unsigned slot = in_row(table, m, FIRST_ROW, state); slot != 0; slot = in_row(table, m, BEHIND_ROW, slot))
+        if (table[in_row(table, m, TARGET_ROW, slot)] == letter)
+            return in_row(table, m, TARGET_ROW, slot);
+    return 0;
+}
+
+/* the same by both kinds of arrow */
+static unsigned table_reach(const uint16_t *table, size_t m, unsigned state, unsigned letter)
+{
+    unsigned next;
+    while ((next = table_symbol(table, m, state, letter)) == 0 && in_row(table, m, FAILURE_ROW, state) != 0)
+        state = in_row(table, m, FAILURE_ROW, state);
+    return next;
+}
+
+/* The slots of a state: each older than the one before it, none used twice, no arrow that climbs, and none on a letter that the state has
+   already. Says how many there are, more than m where that is not so. */
+static size_t slots_of(const uint16_t *table, size_t m, unsigned state)
+{
+    if (in_row(table, m, FIRST_ROW, state) == 0)
+        return 0;
+    bool has[256] = {false};
+    size_t many = 0;
+    if (state < m)
+        has[table[state + 1]] = true;
+    for (unsigned slot = in_row(table, m, FIRST_ROW, state), before = (unsigned)m; slot != 0; many++) {
+        unsigned target = in_row(table, m, TARGET_ROW, slot);
+        if (slot >= before || target == 0 || target > state || has[table[target]])
+            return m + 1;
+        has[table[target]] = true;
+        before = slot;
+        slot = in_row(table, m, BEHIND_ROW, slot);
+    }
+    return many;
+}
+
+/* whether every suffix from a place on, where the next one begins so many letters on, is walked to its end */
+static bool walks_suffixes(const uint16_t *table, size_t m, size_t from, size_t step)
+{
+    for (; from < m; from += step) {
+        unsigned state = 0;
+        for (size_t i = from; i < m; i++)
+            if ((state = table_reach(table, m, state, table[i + 1])) == 0)
+                return false;
+    }
+    return true;
+}
+
+/* What the table of a failure oracle cannot be, whatever the other side says; NULL where it can be: it has the letters, read from the first
+   to the last or the other way round; failure arrows climb; there are m to 2m-1 arrows; slots are those from 1 on, each of one state;
+   every suffix is walked, or some of them; all else is zero. */
+static const char *wrong_failure_table(const uint16_t *table, const uint8_t *word, size_t m, bool mirrored)
+{
+    size_t failures = 0, slots = 0, n = m + 1;
+    for (size_t i = 0; i < m; i++)
+        if (table[i + 1] != word[mirrored ? m - 1 - i : i])
+            return "both sides leave a table with other letters";
+    for (unsigned x = 0; x <= m; x++) {
+        unsigned to = in_row(table, m, FAILURE_ROW, x);
+        if (to != 0 && (to <= x || to >= m))
+            return "both sides leave a failure arrow that does not climb";
+        failures += to != 0;
+        slots += slots_of(table, m, x);
+    }
+    if (failures + slots > m - 1)
+        return "both sides leave more arrows than there can be, or slots that cannot be";
+    for (size_t i = 0; i < n; i++)
+        if ((i >= 1 && i <= slots) != (in_row(table, m, TARGET_ROW, i) != 0) || (i > slots && in_row(table, m, BEHIND_ROW, i) != 0))
+            return "both sides leave a slot that is no state's";
+    for (size_t i = EMPTY_ROW * n; i < FAILURE_ROWS * n; i++)
+        if (table[i] != 0)
+            return "both sides leave something in a row that is to be zero";
+    if (table[0] != 0 || in_row(table, m, BEHIND_ROW, 0) != 0 || !walks_suffixes(table, m, m > 64 ? m % 61 : 0, 1 + m / 64))
+        return "both sides leave a table that does not walk every suffix, or with an entry that is to be zero";
+    return NULL;
+}
+
 #define ASK(SIDE)                                                                                                                          \
     static struct outcome ask_##SIDE(enum entry entry, const struct lent *l) {                                                             \
-        struct outcome o = {99, {UNTOUCHED, UNTOUCHED}, UNTOUCHED};                                                                        \
+        struct outcome o = {99, {UNTOUCHED, UNTOUCHED, UNTOUCHED}, UNTOUCHED};                                                             \
         const uint8_t *input = l->at[INPUT], *text = l->at[TEXT];                                                                          \
         size_t input_len = l->len[INPUT], text_len = l->len[TEXT], room_len = l->len[ROOM], tables_len = l->len[TABLES];                   \
         uint16_t *tables = l->at[TABLES];                                                                                                  \
-        uint64_t *a = &o.answer[0], *b = &o.answer[1];                                                                                     \
+        uint64_t *a = &o.answer[0], *b = &o.answer[1], *c = &o.answer[2];                                                                  \
         switch (entry) {                                                                                                                   \
         case BUILD: o.number = SIDE##_build(input, input_len, tables, tables_len, a); break;                                               \
         case SAVE: o.number = SIDE##_save(input, input_len, tables, tables_len, l->at[OUT], l->len[OUT], a); break;                        \
@@ -169,6 +285,11 @@ static bool lists_places(const struct lent *l, uint64_t count)
             o.number = SIDE##_search_file(input, input_len, text, text_len, l->at[ROOM], room_len, tables, tables_len, l->at[FINDS],       \
                                           l->len[FINDS], a, b, &o.offset);                                                                 \
             break;                                                                                                                         \
+        case FAILURE_SEARCH:                                                                                                               \
+            o.number =                                                                                                                     \
+                SIDE##_failure_search(input, input_len, text, text_len, tables, tables_len, l->at[FINDS], l->len[FINDS], a, b, c);         \
+            break;                                                                                                                         \
+        case FAILURE_BUILD: o.number = SIDE##_failure_build(input, input_len, tables, tables_len, a); break;                               \
         case OPEN: o.number = SIDE##_open(input, input_len, l->at[SEARCHER], l->len[SEARCHER]); break;                                     \
         case TAKE: o.number = SIDE##_take(l->at[SEARCHER], l->len[SEARCHER], text, text_len, l->at[FINDS], l->len[FINDS], a); break;       \
         case ENTRIES: break;                                                                                                               \

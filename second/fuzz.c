@@ -1,4 +1,4 @@
-/* A target for a coverage-guided fuzzer (libFuzzer): its bytes become one call of one of the eight entries, which the proved library and
+/* A target for a coverage-guided fuzzer (libFuzzer): its bytes become one call of one of the ten entries, which the proved library and
    the second implementation both answer; whole outcomes must agree.
 
    What sees a stray access: the second implementation and this file are compiled with AddressSanitizer and UndefinedBehaviorSanitizer,
@@ -25,7 +25,7 @@
 #define SLIP 0
 #endif
 
-enum { MOST_INPUT = MOST_FILE, ROOM_BYTES = 65536, BESIDE = 256 };
+enum { MOST_INPUT = MOST_FILE, ROOM_BYTES = 131072, LONGEST_STRETCHED = 65536, BESIDE = 256 };
 
 /* ---- memory for the library: between two inaccessible pages ---- */
 
@@ -158,6 +158,14 @@ static bool turbo_agrees(const struct lent *l, const struct outcome *o)
     return count == o->answer[0] && letters == o->answer[1] && lists_places(l, count);
 }
 
+/* what is wrong with a failure oracle's table, or with the finds of a search with it, after success on the second side; NULL for nothing */
+static const char *wrong_with_failure(const struct asked *a, const struct lent *l, const struct outcome *o)
+{
+    if (a->entry == FAILURE_SEARCH && !lists_places(l, o->answer[0]))
+        return "both sides find other places than those where the word stands";
+    return wrong_failure_table(l->at[TABLES], l->at[INPUT], l->len[INPUT], a->entry == FAILURE_SEARCH);
+}
+
 static void call_both(const struct asked *a)
 {
     struct lent library = {0}, second = {0};
@@ -179,10 +187,13 @@ static void call_both(const struct asked *a)
     if (a->entry == TURBO && m.number == 0 && !turbo_agrees(&second, &o))
         stop(a, "other places than those where the word stands, or another outcome where h is carried", -1, &m, &o);
     for (int s = 0; s < SLICES; s++)
-        if (is_lent(a, s)) {
+        if (is_lent(a, s))
             check_slice(a, s, &second, &m, &o);
+    if (makes_failure_oracle(a->entry) && m.number == 0 && (wrong = wrong_with_failure(a, &second, &o)) != NULL)
+        stop(a, wrong, -1, &m, &o);
+    for (int s = 0; s < SLICES; s++)
+        if (is_lent(a, s))
             free(second.at[s]);
-        }
 }
 
 /* ---- from the fuzzer's bytes to a call ---- */
@@ -191,7 +202,7 @@ static void call_both(const struct asked *a)
    searcher, two bytes */
 enum { WHICH, FLAGS, TABLES_CHOICE, ROOM_CHOICE, OUT_CHOICE, LIST, INPUT_LOW, INPUT_HIGH, HEAD };
 
-/* the calls: eight entries on what is there; two on the file of a word, and one on the searcher of a word, changed at a few places */
+/* the calls: ten entries on what is there; two on the file of a word, and one on the searcher of a word, changed at a few places */
 enum { LOAD_CHANGED = ENTRIES, SEARCH_FILE_CHANGED, TAKE_CHANGED, CALLS };
 
 static enum entry entry_of(unsigned call)
@@ -317,9 +328,9 @@ enum { STRETCHED = 0x0C };
    is empty or so long already, or where the room is too small. */
 static void stretch_text(struct asked *a, size_t m, uint8_t choice)
 {
-    static uint8_t text[ROOM_BYTES];
+    static uint8_t text[LONGEST_STRETCHED];
     size_t own = a->len[TEXT], n = long_from(m) - 1 + (choice + 1u) % 256;
-    if (own == 0 || own >= n || n > ROOM_BYTES)
+    if (own == 0 || own >= n || n > LONGEST_STRETCHED)
         return;
     for (size_t i = 0; i < n; i++)
         text[i] = a->content[TEXT][i % own];
@@ -338,14 +349,15 @@ static void understand(const uint8_t *data, size_t size, struct asked *a)
         understand_searcher(data, size, call, a);
     else
         m = understand_input(data, size, call, a);
-    a->len[TABLES] = chosen(6 * (m + 1), data[TABLES_CHOICE]) % (ROOM_BYTES / 2);
+    a->len[TABLES] = chosen(entries_for(a->entry, m), data[TABLES_CHOICE]) % (ROOM_BYTES / 2);
     a->len[ROOM] = chosen(m, data[ROOM_CHOICE]);
     a->len[OUT] = chosen(a->entry == SAVE && m >= 1 && m <= MOST_LETTERS ? file_of(data + HEAD, m, file) : 12, data[OUT_CHOICE]);
     a->len[FINDS] = data[LIST];
     a->fill = data[FLAGS];
     a->front = data[FLAGS] & 1;
     a->nulls = data[FLAGS] & 2;
-    if ((data[FLAGS] & STRETCHED) == STRETCHED && (a->entry == SEARCH || a->entry == TURBO || a->entry == SEARCH_FILE))
+    bool searches = a->entry == SEARCH || a->entry == TURBO || a->entry == FAILURE_SEARCH || a->entry == SEARCH_FILE;
+    if ((data[FLAGS] & STRETCHED) == STRETCHED && searches)
         stretch_text(a, m, data[OUT_CHOICE]);
     a->whole = (data[FLAGS] & 0xF0) == 0xF0 && (lent_slices[a->entry] & 1 << TEXT);
     if (a->whole)
@@ -463,6 +475,9 @@ static void seed_word(const uint8_t *word, size_t m)
     seed(SEARCH, 0xF0, word, m, text, 0);
     seed(TURBO, 0, word, m, text, n);
     seed(TURBO, 0xF0, word, m, text, 0);
+    seed(FAILURE_BUILD, 0, word, m, text, 0);
+    seed(FAILURE_SEARCH, 0, word, m, text, n);
+    seed(FAILURE_SEARCH, 0xF0, word, m, text, 0);
     if (size > 0 && m <= MOST_STREAMED)
         seed_stream(word, m);
     if (size == 0)
@@ -530,6 +545,7 @@ static void seed_periodic(size_t m, size_t period)
         mirrored[i] = text[m - 1 - i];
     seed(SEARCH, 0, text, m, text, n);
     seed(TURBO, 1, text, m, text, n);
+    seed(FAILURE_SEARCH, 0, text, m, text, n);
     seed(SEARCH_FILE, 1, file, file_of(mirrored, m, file), text, n);
 }
 
@@ -559,11 +575,13 @@ static void seed_hostile(size_t m)
         make_hostile(word, m, kind);
         memset(text, 'a', n);
         seed(TURBO, 0, word, m, text, n);
+        seed(FAILURE_SEARCH, 1, word, m, text, m <= 256 ? n : m + 8);
         for (size_t i = 0; i < n; i++)
             text[i] = word[i % m];
         seed(TURBO, 1, word, m, text, n);
         make_hostile(text, n, 4);
         seed(TURBO, 0, word, m, text, n);
+        seed(FAILURE_SEARCH, 0, word, m, text, m <= 256 ? n : m + 8);
     }
 }
 
@@ -582,10 +600,31 @@ static void seed_stretched(size_t m)
         make_hostile(text + 5 * m, 3 * m, 4);
         seed(SEARCH, STRETCHED, word, m, text, 8 * m);
         seed(TURBO, STRETCHED + 1, word, m, text, 8 * m);
+        seed(FAILURE_SEARCH, STRETCHED, word, m, text, 8 * m);
         seed(SEARCH_FILE, STRETCHED, file, file_of(mirrored, m, file), text, 8 * m);
         seed(SEARCH, STRETCHED + 1, word, m, word, m);
         seed(TURBO, STRETCHED, word, m, word, m);
     }
+}
+
+/* A word of whose mirror the failure oracle has symbol arrows beside the spine, and a window that it reads whole without the word: both in
+   every choice of tables, the text also longer, and over and over until it is long. */
+static void seed_read_whole(const char *word, const char *window)
+{
+    uint8_t mirrored[256], text[512];
+    const uint8_t *w = (const uint8_t *)word;
+    size_t m = strlen(word);
+    for (size_t i = 0; i < m; i++)
+        mirrored[i] = w[m - 1 - i];
+    memcpy(text, window, m);
+    memcpy(text + m, word, m);
+    for (uint8_t c = 0; c < CHOICES; c++) {
+        seed_in(c, EXACT, FAILURE_BUILD, c % 2, mirrored, m, text, 0);
+        seed_in(c, EXACT, FAILURE_SEARCH, c % 2, w, m, text, m);
+    }
+    seed(FAILURE_SEARCH, 1, w, m, text, 2 * m);
+    seed(FAILURE_SEARCH, STRETCHED, w, m, text, 2 * m);
+    seed(FAILURE_BUILD, 0, w, m, text, 0);
 }
 
 static void seed_hex(const char *hex)
@@ -673,6 +712,13 @@ static void write_seeds(void)
                                         "010761626262616162040000010201010100",
                                         "010761626262616162030000010301010100",
                                         "0107616262626161620500000103010101000000"};
+    static const char *const read_whole[][2] = {
+        {"ababdbaacbdaba", "abbbbbbbabdbaa"},
+        {"ababdbaacbdaba", "bbbbbbbbbbbabd"},
+        {"baabbeebbbbddacaababddcccddbaacebbdabad", "bbbbbbbbbbbbbbbbbbbbbbbbbbbbbbbabddcaba"},
+        {"edabdbbaaaccebdbbabaacdbbebadcdaabbbabbe", "bdbbdbbdbbdbbdbbdbbdbbdbbdbbdbbdbbdbbaac"},
+        {"bdaeccaabbbaceeceabbbeeccaddeaabcecbbab", "eeeeeeceaeeeeeeeeeeeeeeeeeeeeeeeceaeccb"},
+        {"aaaaaadaaaaaaabdeaadabbbeababddbbaabacec", "aaaaaaaaaaaaaaaaaaaaaaaaaaaaaaaaababdbac"}};
     static const size_t lengths[] = {16, 64, 65, 127, 128, 129, 300, 1024, 1025, MOST_LETTERS - 1, MOST_LETTERS, MOST_LETTERS + 1};
     static const size_t periodic[][2] = {{1, 1}, {3, 1}, {3, 2}, {4, 4}, {7, 3}, {8, 5}, {64, 8}, {256, 64}, {MOST_LETTERS, 2},
                                          {MOST_LETTERS, MOST_LETTERS / 2}};
@@ -684,6 +730,8 @@ static void write_seeds(void)
     for (size_t i = 0; i < sizeof files / sizeof *files; i++)
         seed_hex(files[i]);
     seed_least();
+    for (size_t i = 0; i < sizeof read_whole / sizeof *read_whole; i++)
+        seed_read_whole(read_whole[i][0], read_whole[i][1]);
     seed_spellings((const uint8_t *)"abbbaab", 7);
     for (size_t i = 0; i < sizeof periodic / sizeof *periodic; i++)
         seed_periodic(periodic[i][0], periodic[i][1]);

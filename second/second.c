@@ -1,7 +1,8 @@
 /* The second implementation: what an oracle is by the suffix rule, a supply by 001's definition, an occurrence by comparing bytes at
    each place, a border by comparing the word's beginning with its end, the letters read by going through the published steps, what a
-   stream, or a text read so far, ends with by comparing the word's beginnings, the longest first. Nothing here is clever, so that it can
-   be held against the scope document and the requests line by line.
+   stream, or a text read so far, ends with by comparing the word's beginnings, the longest first; a failure oracle is the list of the
+   arrows that its rule adds, in their order. Nothing here is clever, so that it can be held against the scope document and the requests
+   line by line.
 
    Compiled with -DSLIP=n it has one mistake on purpose, to show that the comparison finds it (tools/second-opinion --slips). The mistakes:
      slip 1: the letters of a file are asked for after the rooms (5 and 3 exchanged)
@@ -132,8 +133,41 @@
      slip 146: in a long text the search does not look at the last place for a word of 33 to 1,024
      slip 147: in a text that is longer by one than just long turbo reads one letter more for a word of 8 to 16
      slip 148: in a long text, behind 16 windows in a row that fail at their first letter, one letter is not counted for a word of 33 or more
-   slip 31, slip 32, slip 67, slip 68, slip 69, slip 84, slip 85, slip 116 to slip 120 and slip 140 to slip 144 stand in compare.c, slip 33,
-   slip 34 and slip 70 in fuzz.c. */
+     slip 149: the failure oracle is built with failure arrows taken although a symbol arrow fits
+     slip 150: the failure search takes a failure arrow although a symbol arrow fits
+     slip 151: the failure oracle is built by walks along symbol arrows alone
+     slip 152: where a failure arrow would not climb, no arrow is added
+     slip 153: where a failure arrow would not climb, the symbol arrow leads to k
+     slip 154: where a failure arrow would not climb, the symbol arrow leads from j
+     slip 155: where a failure arrow would not climb, it is added all the same, unless that would close a circle
+     slip 156: the failure arrow leads from j, not from the end of its failure path
+     slip 157: the failure path from j is followed by one arrow only
+     slip 158: the failure arrow leads to k+1
+     slip 159: the walk of the last letter is left out
+     slip 160: a new slot goes behind the others of its state
+     slip 161: slots count from 0
+     slip 162: rows 5 to 9 keep what stood there
+     slip 163: building a failure oracle judges 3 at 6(m+1)
+     slip 164: building a failure oracle clears an entry behind its table
+     slip 165: building a failure oracle judges 3 before 2
+     slip 166: the failure search takes m letters as a find
+     slip 167: the failure search counts failure arrows as letters
+     slip 168: the failure search does not count the failure arrows taken on a letter that finally fails
+     slip 169: the failure search does not count the letter that fails
+     slip 170: the failure search moves one place after a find
+     slip 171: the failure search moves as after a find where m letters are none
+     slip 172: the failure search moves past f+1
+     slip 173: the failure search walks the oracle of the word and not of its mirror
+     slip 174: the failure search leaves the table of the word and not of its mirror
+     slip 175: the failure search answers a short text before its table is filled
+     slip 176: the failure search judges 3 at 6(m+1)
+     slip 177: the failure search judges 3 before 4
+     slip 178: the failure search takes a text one byte too long
+     slip 179: the failure search counts finds as far as they fit
+     slip 180: the failure search answers beside 4
+     slip 181: the failure search exchanges its two counts
+   slip 31, slip 32, slip 67, slip 68, slip 69, slip 84, slip 85, slip 116 to slip 120, slip 140 to slip 144 and slip 182 to slip 189 stand in
+   compare.c, slip 33, slip 34 and slip 70 in fuzz.c. */
 #include "second.h"
 
 #include <stdbool.h>
@@ -273,6 +307,124 @@ static void write_tables(const uint8_t *p, size_t m, uint16_t *tables)
             tables[3 * n + e] = SLIP == 30 && extra[e].target == m ? 0 : extra[e].target;
             e++;
         }
+    }
+}
+
+/* ---- the failure oracle at hand: one at a time, besides the other oracle ---- */
+
+/* its word, and of each state where its failure arrow leads and where its symbol arrow on a letter leads, the spine left out; 0 for none, as
+   no arrow leads to 0 */
+static uint8_t failing[STATES];
+static size_t failing_len;
+static uint16_t falls[STATES];
+static uint16_t besides[STATES][256];
+
+/* the symbol arrows beside the spine in the order in which the rule adds them */
+static struct {
+    uint16_t source, target;
+} added[STATES];
+static size_t adds;
+
+/* where the symbol arrow of a state on a letter leads; 0 for none */
+static unsigned symbol(unsigned state, uint8_t letter)
+{
+    return state < failing_len && failing[state] == letter ? state + 1 : besides[state][letter];
+}
+
+/* Where a letter leads from a state by both kinds of arrow, 0 where it is stuck; *taken grows by the failure arrows taken to find out. A
+   state answers by its symbol arrow, else as the state does that its failure arrow leads to. */
+static unsigned reach(unsigned state, uint8_t letter, bool falls_first, uint64_t *taken)
+{
+    unsigned next = symbol(state, letter);
+    if ((next != 0 && !(falls_first && falls[state] != 0)) || falls[state] == 0)
+        return next;
+    ++*taken;
+    return reach(falls[state], letter, falls_first, taken);
+}
+
+/* where the failure path of a state ends */
+static unsigned end_of_path(unsigned state)
+{
+    while (falls[state] != 0) {
+        state = falls[state];
+        if (SLIP == 157)
+            break;
+    }
+    return state;
+}
+
+static void add_symbol(unsigned source, size_t target)
+{
+    besides[source][failing[target - 1]] = (uint16_t)target;
+    added[adds].source = (uint16_t)source;
+    added[adds].target = (uint16_t)target;
+    adds++;
+}
+
+/* One step of the rule: the walk of p[from] .. p[m-1], and the arrow that it asks for. k letters of the word come before the one where the
+   walk is stuck. */
+static void walk_suffix(const uint8_t *p, size_t from, size_t m)
+{
+    unsigned j = 0, next;
+    uint64_t taken = 0;
+    size_t k = from;
+    for (; k < m; k++, j = next) {
+        next = SLIP == 151 ? symbol(j, p[k]) : reach(j, p[k], SLIP == 149, &taken);
+        if (next == 0)
+            break;
+    }
+    unsigned last = end_of_path(j), source = SLIP == 156 ? j : last;
+    if (k == m)
+        return;
+    if (k > source)
+        falls[source] = (uint16_t)(k + (SLIP == 158));
+    else if (SLIP == 155 && end_of_path((unsigned)k) != source)
+        falls[source] = (uint16_t)k;
+    else if (SLIP != 152)
+        add_symbol(SLIP == 154 ? j : source, SLIP == 153 ? k : k + 1);
+}
+
+/* it depends on the word alone, so the one at hand is kept where it is of this word already */
+static void make_failure_oracle(const uint8_t *p, size_t m)
+{
+    if (m == failing_len && memcmp(p, failing, m) == 0)
+        return;
+    memcpy(failing, p, m);
+    failing_len = m;
+    memset(falls, 0, (m + 1) * sizeof falls[0]);
+    memset(besides, 0, (m + 1) * sizeof besides[0]);
+    adds = 0;
+    for (size_t from = 1; from < m - (SLIP == 159); from++)
+        walk_suffix(p, from, m);
+}
+
+static size_t failure_entries(size_t m)
+{
+    return 10 * (m + 1);
+}
+
+/* Ten rows of m+1 entries. A state's first slot is its newest, and behind a slot comes the next older one of the same state. */
+static void write_failure_table(size_t m, uint16_t *table)
+{
+    size_t n = m + 1;
+    uint16_t *letter = table, *failure = table + n, *first = table + 2 * n, *behind = table + 3 * n, *target = table + 4 * n;
+    clear(table, (SLIP == 162 ? 5 * n : failure_entries(m)) * sizeof *table);
+    for (size_t i = 1; i <= m; i++)
+        letter[i] = failing[i - 1];
+    for (size_t x = 0; x <= m; x++)
+        failure[x] = falls[x];
+    for (size_t a = 0; a < adds; a++) {
+        uint16_t slot = (uint16_t)(a + (SLIP != 161));
+        size_t older = a;
+        while (older > 0 && added[older - 1].source != added[a].source)
+            older--;
+        target[slot] = added[a].target;
+        if (SLIP == 160 && older > 0) {
+            behind[older] = slot;
+            continue;
+        }
+        behind[slot] = (uint16_t)older;
+        first[added[a].source] = slot;
     }
 }
 
@@ -595,6 +747,66 @@ static void turbo_steps(struct turbo *t)
     }
 }
 
+/* ---- the search with a failure oracle ---- */
+
+struct failure_search {
+    const uint8_t *word, *text;
+    size_t m, n;
+    uint64_t letters, failures, count;
+    uint32_t *finds;
+    size_t finds_len;
+};
+
+static uint64_t windows_without_find;
+
+uint64_t second_read_without_find(void)
+{
+    return windows_without_find;
+}
+
+/* Reads the window at s from its last letter on. How many of its letters were left unread when one had no arrow, that one among them; 0
+   where all m were read. */
+static size_t read_window(struct failure_search *f, size_t s)
+{
+    unsigned state = 0;
+    for (size_t unread = f->m; unread > 0; unread--) {
+        uint64_t taken = 0;
+        state = reach(state, f->text[s + unread - 1], SLIP == 150, &taken);
+        f->letters += 1 + (SLIP == 167 ? taken : 0);
+        f->failures += SLIP == 167 || (SLIP == 168 && state == 0) ? 0 : taken;
+        if (state == 0) {
+            f->letters -= SLIP == 169;
+            return unread;
+        }
+    }
+    return 0;
+}
+
+static void failure_find(struct failure_search *f, size_t s)
+{
+    if (f->count < f->finds_len)
+        f->finds[f->count] = (uint32_t)s;
+    if (SLIP != 179 || f->count < f->finds_len)
+        f->count++;
+}
+
+/* the steps, with the failure oracle at hand, which is of the mirror of the word */
+static void failure_steps(struct failure_search *f)
+{
+    size_t s = 0, after_find = step_after_find(f->word, f->m);
+    while (s + f->m <= f->n) {
+        size_t unread = read_window(f, s);
+        bool stands = unread == 0 && memcmp(f->text + s, f->word, f->m) == 0;
+        windows_without_find += unread == 0 && !stands;
+        if (stands || (SLIP == 166 && unread == 0))
+            failure_find(f, s);
+        if (unread > 0)
+            s += unread + (SLIP == 172); /* its letter stands at s + unread - 1 */
+        else
+            s += (stands && SLIP != 170) || SLIP == 171 ? after_find : 1;
+    }
+}
+
 /* ---- streams ---- */
 
 static uint64_t bytes_taken(const uint8_t *searcher)
@@ -692,7 +904,7 @@ static uint64_t take_piece(uint8_t *searcher, const uint8_t *piece, size_t piece
     return SLIP == 60 && count > finds_len ? finds_len : count;
 }
 
-/* ---- the eight entries ---- */
+/* ---- the ten entries ---- */
 
 uint32_t second_build(const uint8_t *word, size_t word_len, uint16_t *tables, size_t tables_len, uint64_t *m)
 {
@@ -886,6 +1098,64 @@ uint32_t second_search_file(const uint8_t *file, size_t file_len, const uint8_t 
     mirror(room, m, sought); /* the oracle at hand is of the file's word, so of the mirror of what is sought */
     *count = list_occurrences(SLIP == 28 ? room : sought, m, text, searched(m, text_len), 0, finds, finds_len);
     *letters = letters_read(sought, m, text, text_len);
+    return 0;
+}
+
+uint32_t second_failure_build(const uint8_t *word, size_t word_len, uint16_t *tables, size_t tables_len, uint64_t *m)
+{
+    bool too_small = tables_len < (SLIP == 163 ? entries(word_len) : failure_entries(word_len));
+    if (word_len == 0)
+        return 1;
+    if (SLIP == 165 && too_small)
+        return 3;
+    if (word_len > MOST_LETTERS)
+        return 2;
+    if (too_small)
+        return 3;
+    make_failure_oracle(word, word_len);
+    if (SLIP != 163 || tables_len >= failure_entries(word_len))
+        write_failure_table(word_len, tables);
+    if (SLIP == 164 && tables_len > failure_entries(word_len))
+        tables[failure_entries(word_len)] = 0;
+    *m = word_len;
+    return 0;
+}
+
+/* the refusals of the search with a failure oracle, in their order */
+static uint32_t refuse_failure_search(size_t word_len, size_t text_len, size_t tables_len)
+{
+    bool too_small = tables_len < (SLIP == 176 ? entries(word_len) : failure_entries(word_len));
+    if (word_len == 0)
+        return 1;
+    if (word_len > MOST_LETTERS)
+        return 2;
+    if (SLIP == 177 && too_small)
+        return 3;
+    if (text_len > MOST_TEXT + (SLIP == 178))
+        return 4;
+    return too_small ? 3 : 0;
+}
+
+uint32_t second_failure_search(const uint8_t *word, size_t word_len, const uint8_t *text, size_t text_len, uint16_t *tables,
+                               size_t tables_len, uint32_t *finds, size_t finds_len, uint64_t *count, uint64_t *letters,
+                               uint64_t *failures)
+{
+    uint8_t mirrored[MOST_LETTERS];
+    struct failure_search f = {.word = word, .text = text, .m = word_len, .n = text_len, .finds = finds, .finds_len = finds_len};
+    uint32_t no = refuse_failure_search(word_len, text_len, tables_len);
+    if (SLIP == 180 && no == 4)
+        *failures = 0;
+    if (no != 0)
+        return no;
+    mirror(word, word_len, mirrored);
+    make_failure_oracle(SLIP == 174 ? word : mirrored, word_len);
+    if (!(SLIP == 175 && text_len < word_len) && (SLIP != 176 || tables_len >= failure_entries(word_len)))
+        write_failure_table(word_len, tables);
+    make_failure_oracle(SLIP == 173 ? word : mirrored, word_len);
+    failure_steps(&f);
+    *count = f.count;
+    *letters = SLIP == 181 ? f.failures : f.letters;
+    *failures = SLIP == 181 ? f.letters : f.failures;
     return 0;
 }
 

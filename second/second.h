@@ -1,6 +1,6 @@
-/* A second opinion on the library: the same eight entries, written once more from the scope document and the requests, and from
+/* A second opinion on the library: the same ten entries, written once more from the scope document and the requests, and from
    docs/TABLE.md and docs/FILE.md where those leave the layout of the tables and of a searcher open, as plainly as can be.
-   It shares no code and no definition with the proved library, is quadratic where that is simpler, and keeps its oracle in static
+   It shares no code and no definition with the proved library, is quadratic where that is simpler, and keeps its oracles in static
    memory (one caller at a time). Each answers the refusal's number, 0 for success; what is answered beside it goes through the last
    pointers, which a refusal leaves alone. The offset is the other way round: a refusal that shows at a place in the file writes it, and
    nothing else does. */
@@ -58,6 +58,15 @@ uint32_t second_turbo_carried(const uint8_t *word, size_t word_len, const uint8_
 uint32_t second_search_file(const uint8_t *file, size_t file_len, const uint8_t *text, size_t text_len, uint8_t *room, size_t room_len,
                             uint16_t *tables, size_t tables_len, uint32_t *finds, size_t finds_len, uint64_t *count, uint64_t *letters,
                             uint64_t *offset);
+
+uint32_t second_failure_build(const uint8_t *word, size_t word_len, uint16_t *tables, size_t tables_len, uint64_t *m);
+
+uint32_t second_failure_search(const uint8_t *word, size_t word_len, const uint8_t *text, size_t text_len, uint16_t *tables,
+                               size_t tables_len, uint32_t *finds, size_t finds_len, uint64_t *count, uint64_t *letters,
+                               uint64_t *failures);
+
+/* how many windows the search with a failure oracle has read to their first letter so far, in all calls, without a find there */
+uint64_t second_read_without_find(void);
 
 uint32_t second_open(const uint8_t *word, size_t word_len, uint8_t *searcher, size_t searcher_len);
 

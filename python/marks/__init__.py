@@ -16,7 +16,7 @@ from ._refused import (BadCount, BadLength, BadNumber, CutFile, EmptyWord, Lefto
                        ShortOutput, ShortRoom, ShortWord, Unmade, WrongArrow)
 from ._stream import LONGEST_STREAMED, Stream
 
-__version__ = "0.2.0"
+__version__ = "0.3.0"
 
 __all__ = ["LONGEST_STREAMED", "LONGEST_WORD", "Mark", "Stream", "check", "count", "find", "load", "save", "Refused", "BadCount",
            "BadLength", "BadNumber", "CutFile", "EmptyWord", "Leftovers", "LongText", "LongWord", "OtherEdition", "ShortOutput",

@@ -13,6 +13,13 @@ LONGEST_TEXT = 16_777_216
 LONGEST_FILE = 5 * LONGEST_WORD + 1
 SEARCHER = 134
 
+# The entry that each engine asks, and how many answers it has: that of the failure oracle also tells how many failure arrows were taken.
+_SEARCHES = {
+    "backward": (LIBRARY.marks_search, 2),
+    "turbo": (LIBRARY.marks_turbo, 2),
+    "failure": (LIBRARY.marks_failure_search, 3),
+}
+
 
 def room(kind: str, entries: int) -> "array[int]":
     """Zeros, of a kind as the module array names it: B, H and I are 8, 16 and 32 bits."""
@@ -22,6 +29,11 @@ def room(kind: str, entries: int) -> "array[int]":
 def tables(letters: int) -> "array[int]":
     """Room for the table of a word of so many letters; for that of the longest where they are more than any word has."""
     return room("H", 6 * (min(letters, LONGEST_WORD) + 1))
+
+
+def failure_tables(letters: int) -> "array[int]":
+    """The same for that of the failure oracle of a word."""
+    return room("H", 10 * (min(letters, LONGEST_WORD) + 1))
 
 
 def _where(buffer: "Union[bytes, Lent, array[int]]") -> "Tuple[Union[bytes, int], int]":
@@ -56,10 +68,10 @@ def load(file: Lent) -> bytes:
     return word[:length].tobytes()
 
 
-def search(turbo: bool, word: bytes, text: Lent, table: "array[int]", finds: "array[int]") -> Tuple[int, int]:
+def search(engine: str, word: bytes, text: Lent, table: "array[int]", finds: "array[int]") -> Tuple[int, int]:
     """How many finds the text has, the first of them listed, and how many letters were read."""
-    entry = LIBRARY.marks_turbo if turbo else LIBRARY.marks_search
-    count, letters = _asked(entry, word, text, table, finds, answers=2)
+    entry, answers = _SEARCHES[engine]
+    count, letters, *_ = _asked(entry, word, text, table, finds, answers=answers)
     return count, letters
 
 

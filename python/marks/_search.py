@@ -3,10 +3,10 @@ from array import array
 from itertools import chain
 from typing import Iterable, Iterator, Literal, Optional, Tuple, get_args
 
-from ._entries import LONGEST_TEXT, room, search, tables
+from ._entries import LONGEST_TEXT, failure_tables, room, search, tables
 from ._lent import Lent
 
-Engine = Literal["auto", "backward", "turbo"]
+Engine = Literal["auto", "backward", "turbo", "failure"]
 ENGINES: Tuple[str, ...] = get_args(Engine)
 
 # The longest word that is searched for backward where strangers may have chosen it.
@@ -34,8 +34,9 @@ class Search:
     def __init__(self, word: bytes, engine: Engine) -> None:
         self._word = word
         self._trying = engine == "auto" and len(word) <= _LONGEST_TRIED
-        self._turbo = engine != "backward" and not self._trying
-        self._tables = tables(len(word))
+        # that of the next part
+        self._engine: str = engine if engine != "auto" else "backward" if self._trying else "turbo"
+        self._tables = failure_tables(len(word)) if engine == "failure" else tables(len(word))
         self._places = max(_LEAST_LIST, _LIST_FOR_A_LETTER * len(word))
 
     def first(self, text: Lent, start: int) -> Optional[int]:
@@ -81,9 +82,9 @@ class Search:
         beyond = len(self._word) - 1
         end = min(at + self._places, len(text) - beyond)
         part = text.part(at, end + beyond)
-        found, letters = search(self._turbo, self._word, part, self._tables, finds)
+        found, letters = search(self._engine, self._word, part, self._tables, finds)
         if self._trying and letters > _FAIR * len(part):
-            self._trying, self._turbo = False, True
+            self._trying, self._engine = False, "turbo"
         return found, end
 
     def _grow(self) -> None:

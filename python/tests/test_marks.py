@@ -26,7 +26,7 @@ from marks._library import LIBRARY
 from marks._refusals import REFUSALS
 
 README = Path(__file__).resolve().parent.parent / "README.md"
-ENGINES = "auto", "backward", "turbo"
+ENGINES = "auto", "backward", "turbo", "failure"
 MEBI = 1 << 20
 
 
@@ -138,9 +138,9 @@ class Finds(unittest.TestCase):
     def test_auto_goes_over_to_turbo_and_stays_there(self):
         asked = []
 
-        def search(turbo, word, text, *rooms):
-            found, letters = _entries.search(turbo, word, text, *rooms)
-            asked.append((turbo, letters))
+        def search(engine, word, text, *rooms):
+            found, letters = _entries.search(engine, word, text, *rooms)
+            asked.append((engine, letters))
             return found, letters
 
         mark, text = Mark(bytes(64)), b"." * MEBI + bytes(MEBI)
@@ -148,10 +148,21 @@ class Finds(unittest.TestCase):
             for finds in mark.find_iter, lambda text: mark.find_in(io.BytesIO(text)), lambda text: range(mark.count(text)):
                 asked.clear()
                 self.assertEqual(len(list(finds(text))), MEBI - 63)
-                turbo = [turbo for turbo, _ in asked]
-                self.assertEqual((turbo[0], turbo[-1]), (False, True))
-                self.assertEqual(turbo, sorted(turbo))
+                engines = [engine for engine, _ in asked]
+                self.assertEqual((engines[0], engines[-1]), ("backward", "turbo"))
+                self.assertEqual(engines, sorted(engines))
                 self.assertLess(sum(letters for _, letters in asked), 2.2 * len(text) + 4_194_304)
+
+    def test_each_engine_asks_the_entry_of_its_name(self):
+        for engine, word, asked in (("backward", bytes(65), "backward"), ("turbo", b"RIDE", "turbo"), ("failure", b"RIDE", "failure"),
+                                    ("auto", b"RIDE", "backward"), ("auto", bytes(65), "turbo")):
+            with mock.patch.object(_search, "search", side_effect=_entries.search) as search:
+                self.assertEqual(Mark(word, engine=engine).count(b"." * 9_999 + word), 1)
+            self.assertEqual({call[0][0] for call in search.call_args_list}, {asked})
+
+    def test_the_failure_oracle_of_long_words(self):
+        for word, text in ((bytes(4096), bytes(20_000)), (bytes(4095) + b"\1", bytes(20_000) + b"\1"), (b"ab" * 2048, b"ab" * 10_000)):
+            self.same(word, text, plainly(word, text))
 
     def test_memory_stays_flat(self):
         text = bytes(MEBI // 2)
@@ -328,7 +339,7 @@ class Values(unittest.TestCase):
         self.assertLess(len(repr(Mark(bytes(4096)))), 160)
 
     def test_an_engine_that_there_is_not(self):
-        with self.assertRaisesRegex(ValueError, "no engine 'fast': it is one of auto, backward, turbo"):
+        with self.assertRaisesRegex(ValueError, "no engine 'fast': it is one of auto, backward, turbo, failure"):
             Mark(b"a", engine="fast")
 
 
@@ -424,11 +435,25 @@ class Refusals(unittest.TestCase):
         self.refuses(3, None, lambda: _entries._asked(LIBRARY.marks_build, b"ab", _entries.room("H", 17), answers=1))
         word, finds = b"ab", _entries.room("I", 0)
         text = _lent.Lent(bytes(16 * MEBI + 1), "text")
-        for turbo in False, True:
-            self.refuses(4, None, _entries.search, turbo, word, text, _entries.tables(2), finds)
+        for engine in ENGINES[1:]:
+            self.refuses(4, None, _entries.search, engine, word, text, _entries.failure_tables(2), finds)
+        for engine, entries in ("backward", 17), ("turbo", 17), ("failure", 29):
+            self.refuses(3, None, _entries.search, engine, word, _lent.Lent(b"ab", "text"), _entries.room("H", entries), finds)
+        self.refuses(3, None, lambda: _entries._asked(LIBRARY.marks_failure_build, word, _entries.room("H", 29), answers=1))
         out = _entries.room("B", 6)
         self.refuses(12, None, lambda: _entries._asked(LIBRARY.marks_save, word, _entries.tables(2), out, answers=1))
         self.refuses(16, None, _entries.take, _entries.room("B", 134), b"", finds)
+
+    def test_what_the_entries_of_the_failure_oracle_tell(self):
+        table, finds = _entries.failure_tables(9), _entries.room("I", 2)
+        self.assertEqual(_entries._asked(LIBRARY.marks_failure_build, b"abcacdace", table, answers=1), [9])
+        self.assertEqual(table[10:20].tolist(), [1, 2, 5, 5, 0, 8, 0, 0, 0, 0])
+        for word, text, told in ((b"ab", b"ac", [0, 1, 1]), (b"aba", b"ababa", [2, 6, 0]),
+                                 (b"ababdbaacbdaba", b"abbbbbbbabdbaa", [0, 14, 3])):
+            table = _entries.failure_tables(len(word))
+            self.assertEqual(_entries._asked(LIBRARY.marks_failure_search, word, text, table, finds, answers=3), told)
+            self.assertEqual(_entries.search("failure", word, _lent.Lent(text, "text"), table, finds), tuple(told[:2]))
+        self.assertEqual(finds.tolist(), [0, 2])
 
     def test_a_stream_that_was_tampered_with(self):
         stream = Stream(b"RIDE")

@@ -1,6 +1,6 @@
 //! Which search goes over a text, and for how long.
 
-use crate::LONGEST_TEXT;
+use crate::{failure_table_room, table_room, LONGEST_TEXT};
 
 /// The longest word that [`Engine::Auto`] searches for backward. With a longer one a hostile part would cost too much before it is noticed, and parts short
 /// enough would spend their time on the word's table, which is made again for each part.
@@ -22,7 +22,8 @@ const FAIR: u64 = 2;
 /// repeat themselves as the word does, like zeros where the word is 4,096 zeros.
 ///
 /// Stay with [`Auto`](Engine::Auto), and nobody has to know. [`Turbo`](Engine::Turbo) is for strangers' texts and marks where each text has to be linear by
-/// itself, however short; [`Backward`](Engine::Backward) is for texts and marks that you know.
+/// itself, however short; [`Backward`](Engine::Backward) is for texts and marks that you know. [`Failure`](Engine::Failure) is there for its small
+/// automaton and for comparing.
 ///
 /// ```
 /// use marks::{Engine, Mark};
@@ -49,9 +50,33 @@ pub enum Engine {
     /// The same windows, but that what was read is remembered: at most two letters are read for each letter searched, whatever the word and the text. On
     /// most texts the backward search is quicker, where letters are many up to five and a half times.
     Turbo,
+    /// Backward too, with the failure oracle of the word's mirror: in it a state may have one failure arrow, taken only where no arrow on the letter leaves the
+    /// state, and consuming no letter. It is there for its small automaton and for comparing, and not for texts or marks of strangers.
+    ///
+    /// To make its table, up to m*m/2 letters are walked of a word of m letters that repeats itself, 8.4 million for 4,096 letters, and it is made again for
+    /// each part of a text. Of a hostile text it may read m letters for each place, as the backward search. Failure arrows are counted apart from the letters:
+    ///
+    /// ```
+    /// use marks::{Engine, Mark};
+    ///
+    /// let mark = Mark::new("ab")?.engine(Engine::Failure);
+    /// let mut finds = mark.find_iter(b"aab");
+    /// assert_eq!(finds.by_ref().collect::<Vec<_>>(), [1]);
+    /// assert_eq!((finds.letters(), finds.failures()), (4, 1));
+    /// # Ok::<(), marks::Refusal>(())
+    /// ```
+    Failure,
 }
 
 impl Engine {
+    /// How many entries its table takes, for a word of so many letters.
+    pub(crate) fn table_room(self, letters: usize) -> usize {
+        match self {
+            Engine::Failure => failure_table_room(letters),
+            _ => table_room(letters),
+        }
+    }
+
     /// The engine with which a text is begun, for a word of so many letters.
     pub(crate) fn at_first(self, letters: usize) -> Engine {
         match self {

@@ -66,6 +66,20 @@ extern "C" {
         letters: *mut u64,
         offset: *mut u64,
     ) -> u32;
+    fn marks_failure_build(word: *const u8, word_len: usize, tables: *mut u16, tables_len: usize, m: *mut u64) -> u32;
+    fn marks_failure_search(
+        word: *const u8,
+        word_len: usize,
+        text: *const u8,
+        text_len: usize,
+        tables: *mut u16,
+        tables_len: usize,
+        finds: *mut u32,
+        finds_len: usize,
+        count: *mut u64,
+        letters: *mut u64,
+        failures: *mut u64,
+    ) -> u32;
     fn marks_open(word: *const u8, word_len: usize, searcher: *mut u8, searcher_len: usize) -> u32;
     fn marks_take(
         searcher: *mut u8,
@@ -146,7 +160,7 @@ pub struct Tally {
     pub letters: u64,
 }
 
-/// What both searches are for C.
+/// What the searches without failure arrows are for C.
 type SearchEntry = unsafe extern "C" fn(*const u8, usize, *const u8, usize, *mut u16, usize, *mut u32, usize, *mut u64, *mut u64) -> u32;
 
 fn searched(entry: SearchEntry, word: &[u8], text: &[u8], tables: &mut [u16], finds: &mut [u32]) -> Result<Tally, Refusal> {
@@ -215,6 +229,80 @@ pub fn search_file(file: &[u8], text: &[u8], room: &mut [u8], tables: &mut [u16]
         )
     };
     told_of_file(said, tally, offset)
+}
+
+/// The table of a word's failure oracle, in the first 10(m+1) entries of `tables`; the answer is m. To make it, up to m*m/2 letters are walked
+/// of a word that repeats itself, 8.4 million for 4,096 letters.
+///
+/// ```
+/// use marks::{entries, failure_table_room};
+///
+/// let word = b"abcacdace";
+/// let mut tables = [0; failure_table_room(9)];
+/// assert_eq!(entries::failure_build(word, &mut tables), Ok(9));
+/// // row 1 has where the failure arrow of each state leads, 0 for none; row 2 has no symbol arrow beside the spine
+/// assert_eq!(tables[10..20], [1, 2, 5, 5, 0, 8, 0, 0, 0, 0]);
+/// assert_eq!(tables[20..30], [0; 10]);
+/// ```
+///
+/// # Errors
+///
+/// The refusals 1, 2 and 3, the last where there are fewer entries; they change nothing.
+pub fn failure_build(word: &[u8], tables: &mut [u16]) -> Result<usize, Refusal> {
+    let mut m = 0;
+    // SAFETY: `word` and `tables` are slices, handed over with their lengths, and `m` is a local: what is written is borrowed here alone.
+    let said = unsafe { marks_failure_build(word.as_ptr(), word.len(), tables.as_mut_ptr(), tables.len(), &raw mut m) };
+    told(said, m).map(size)
+}
+
+/// What [`failure_search`] answers: a [`Tally`], and how many failure arrows were taken.
+#[derive(Clone, Copy, Debug, Default, PartialEq, Eq, Hash)]
+pub struct FailureTally {
+    /// How often the word stands there, overlaps included.
+    pub count: u64,
+    /// How many letters were read, a letter that was read again counting again.
+    pub letters: u64,
+    /// How many failure arrows were taken. They consume no letter, and are in no count of letters.
+    pub failures: u64,
+}
+
+/// The same as [`search`], with the failure oracle of the word's mirror, whose table takes the first 10(m+1) entries of `tables`, and is made in each call, as
+/// by [`failure_build`]. Of a hostile text m letters may be read for each place. The failure arrows are counted apart.
+///
+/// ```
+/// use marks::entries::{failure_search, FailureTally};
+/// use marks::failure_table_room;
+///
+/// let (mut tables, mut finds) = ([0; failure_table_room(3)], [0; 2]);
+/// let told = failure_search(b"aba", b"ababa", &mut tables, &mut finds)?;
+/// assert_eq!(told, FailureTally { count: 2, letters: 6, failures: 0 });
+/// assert_eq!(finds, [0, 2]);
+/// # Ok::<(), marks::Refusal>(())
+/// ```
+///
+/// # Errors
+///
+/// The refusals 1, 2, 4 and 3, which change nothing.
+pub fn failure_search(word: &[u8], text: &[u8], tables: &mut [u16], finds: &mut [u32]) -> Result<FailureTally, Refusal> {
+    let mut tally = FailureTally::default();
+    // SAFETY: `word`, `text`, `tables` and `finds` are slices, handed over with their lengths, and the tally is a local: what is written is borrowed here
+    // alone.
+    let said = unsafe {
+        marks_failure_search(
+            word.as_ptr(),
+            word.len(),
+            text.as_ptr(),
+            text.len(),
+            tables.as_mut_ptr(),
+            tables.len(),
+            finds.as_mut_ptr(),
+            finds.len(),
+            &raw mut tally.count,
+            &raw mut tally.letters,
+            &raw mut tally.failures,
+        )
+    };
+    told(said, tally)
 }
 
 /// A searcher for a word of 1 to 64 bytes that has taken nothing, in the first [`SEARCHER`](crate::SEARCHER) bytes of `searcher`.

@@ -40,6 +40,20 @@ impl<'a> Finds<'a> {
         self.search.letters()
     }
 
+    /// How many failure arrows have been taken so far, by [`Engine::Failure`]; with the other engines there are none.
+    ///
+    /// ```
+    /// # use marks::{Engine, Mark};
+    /// let mark = Mark::new("ab")?.engine(Engine::Failure);
+    /// let mut finds = mark.find_iter(b"ac");
+    /// assert_eq!((finds.next(), finds.letters(), finds.failures()), (None, 1, 1));
+    /// # Ok::<(), marks::Refusal>(())
+    /// ```
+    #[must_use]
+    pub fn failures(&self) -> u64 {
+        self.search.failures()
+    }
+
     /// The engine for what has not been searched yet: that of the mark, but that it is turbo once [`Engine::Auto`] has gone over to it.
     ///
     /// ```

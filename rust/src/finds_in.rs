@@ -51,6 +51,12 @@ impl<'a, R: Read> FindsIn<'a, R> {
         self.search.letters()
     }
 
+    /// How many failure arrows have been taken so far, as [`Finds::failures`](crate::Finds::failures) has it.
+    #[must_use]
+    pub fn failures(&self) -> u64 {
+        self.search.failures()
+    }
+
     /// The engine for what has not been searched yet, as [`Finds::engine`](crate::Finds::engine) has it.
     #[must_use]
     pub fn engine(&self) -> Engine {

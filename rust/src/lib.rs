@@ -36,7 +36,7 @@
 //! ```
 //!
 //! What is refused is refused with a number of one table, [`Refusal`]; nothing panics, and no declared number is acted on before it is checked. A refused file
-//! comes with the offset at which it is broken, in a [`LoadError`]. [`entries`] has the eight entries themselves, over slices that the caller lends.
+//! comes with the offset at which it is broken, in a [`LoadError`]. [`entries`] has the ten entries themselves, over slices that the caller lends.
 
 #![deny(unsafe_code)]
 #![warn(missing_docs)]
@@ -55,7 +55,7 @@ mod stream;
 mod taken;
 
 pub use engine::Engine;
-pub use entries::Tally;
+pub use entries::{FailureTally, Tally};
 pub use finds::Finds;
 pub use finds_in::FindsIn;
 pub use load_error::LoadError;
@@ -86,6 +86,12 @@ pub const LONGEST_FILE: usize = 5 * LONGEST_WORD + 1;
 #[must_use]
 pub const fn table_room(m: usize) -> usize {
     6 * (m + 1)
+}
+
+/// How many entries the table of the failure oracle of a word of m letters takes.
+#[must_use]
+pub const fn failure_table_room(m: usize) -> usize {
+    10 * (m + 1)
 }
 
 /// The README's programs in Rust, compiled and run with the examples here.

@@ -178,7 +178,8 @@ impl Mark {
         self.tally(text).count
     }
 
-    /// How often the word stands in the text, and how many letters were read to find out. A letter that was read again counts again.
+    /// How often the word stands in the text, and how many letters were read to find out. A letter that was read again counts again. The failure arrows that
+    /// [`Engine::Failure`] takes are told by [`Finds::failures`].
     ///
     /// ```
     /// use marks::{Engine, Mark, Tally};

@@ -1,6 +1,6 @@
 //! One search: its rooms, and how far it has come in the text at hand. It goes over a text in parts.
 
-use crate::{entries, table_room, Engine, Mark};
+use crate::{entries, Engine, FailureTally, Mark, Tally};
 use std::fmt;
 
 /// How many finds are listed at a time; where that is more, so many for each letter of the word, as the table of a long word takes its time and is made for
@@ -15,6 +15,8 @@ const OF_THE_FIRST_FOR_A_LETTER: usize = 64;
 pub(crate) struct Search {
     engine: Engine,
     letters: u64,
+    /// How many failure arrows were taken.
+    failures: u64,
     tables: Vec<u16>,
     list: Vec<u32>,
     /// The most finds that are listed at a time. The list gets so long when a part may have so many.
@@ -38,7 +40,8 @@ impl Search {
         Search {
             engine,
             letters: 0,
-            tables: vec![0; table_room(m)],
+            failures: 0,
+            tables: vec![0; engine.table_room(m)],
             list: Vec::new(),
             most_listed: LEAST_LIST.max(LIST_FOR_A_LETTER * m),
             at: 0,
@@ -58,6 +61,10 @@ impl Search {
 
     pub fn letters(&self) -> u64 {
         self.letters
+    }
+
+    pub fn failures(&self) -> u64 {
+        self.failures
     }
 
     pub fn engine(&self) -> Engine {
@@ -150,12 +157,16 @@ impl Search {
         let places = self.places.min(self.engine.most_places(word.len()));
         let end = text.len().min(self.at + places + beyond);
         let part = &text[self.at..end];
-        let entry = match self.engine {
-            Engine::Auto | Engine::Backward => entries::search,
-            Engine::Turbo => entries::turbo,
+        let (tables, list) = (&mut self.tables[..], &mut self.list[..most]);
+        let told = match self.engine {
+            Engine::Auto | Engine::Backward => entries::search(word, part, tables, list),
+            Engine::Turbo => entries::turbo(word, part, tables, list),
+            Engine::Failure => entries::failure_search(word, part, tables, list).map(|FailureTally { count, letters, failures }| {
+                self.failures += failures;
+                Tally { count, letters }
+            }),
         };
-        let tally =
-            entry(word, part, &mut self.tables, &mut self.list[..most]).expect("a mark's word, rooms and parts are within the limits");
+        let tally = told.expect("a mark's word, rooms and parts are within the limits");
         self.engine = self.engine.after(part.len(), tally.letters);
         self.letters += tally.letters;
         (self.from, self.at) = (self.at, end - beyond);
@@ -175,7 +186,7 @@ mod tests {
     use super::Search;
     use crate::{Engine, Mark};
 
-    const ENGINES: [Engine; 3] = [Engine::Auto, Engine::Backward, Engine::Turbo];
+    const ENGINES: [Engine; 4] = [Engine::Auto, Engine::Backward, Engine::Turbo, Engine::Failure];
 
     /// The first find, and how many letters were read for it.
     fn first(word: &[u8], text: &[u8], engine: Engine) -> (Option<usize>, u64) {

@@ -1,7 +1,7 @@
 //! A header that declares four billion letters costs six bytes: the file goes on in memory that cannot be read, and the rooms cannot be touched at all. So with
 //! a searcher that is refused: the piece and the list cannot be touched, and no byte behind it can. So with a search that is refused. An offset is written only
 //! by the refusals that have one. And a thread of 64 KiB has stack enough for a search.
-use marks::{entries, table_room, LONGEST_TEXT, LONGEST_WORD, SEARCHER};
+use marks::{entries, failure_table_room, table_room, Refusal, LONGEST_TEXT, LONGEST_WORD, SEARCHER};
 use std::{ffi::c_void, ptr};
 
 const PAGE: usize = 65_536;
@@ -57,6 +57,20 @@ extern "C" {
         finds_len: usize,
         count: *mut u64,
         letters: *mut u64,
+    ) -> u32;
+    fn marks_failure_build(word: *const u8, word_len: usize, tables: *mut u16, tables_len: usize, m: *mut u64) -> u32;
+    fn marks_failure_search(
+        word: *const u8,
+        word_len: usize,
+        text: *const u8,
+        text_len: usize,
+        tables: *mut u16,
+        tables_len: usize,
+        finds: *mut u32,
+        finds_len: usize,
+        count: *mut u64,
+        letters: *mut u64,
+        failures: *mut u64,
     ) -> u32;
     fn marks_take(
         searcher: *mut u8,
@@ -214,6 +228,33 @@ fn a_refused_search_touches_nothing() {
     assert_eq!(search_with_all_forbidden(LONGEST_WORD, LONGEST_TEXT, table_room(LONGEST_WORD) - 1), 3);
 }
 
+/// The same of the failure oracle: what its search says, and its building too where the text is not what is refused.
+fn failure_with_all_forbidden(word_len: usize, text_len: usize, tables_len: usize) -> u32 {
+    let [word, text, tables, finds] = [(); 4].map(|()| forbidden_behind_a_page(1));
+    let (tables, finds): (*mut u16, *mut u32) = (tables.cast(), finds.cast());
+    let (mut m, mut count, mut letters, mut failures) = (99, 99, 99, 99);
+    // SAFETY: as above.
+    let built = unsafe { marks_failure_build(word, word_len, tables, tables_len, &mut m) };
+    // SAFETY: as above.
+    let searched = unsafe {
+        let finds_len = 1 << 10;
+        marks_failure_search(word, word_len, text, text_len, tables, tables_len, finds, finds_len, &mut count, &mut letters, &mut failures)
+    };
+    assert_eq!((m, count, letters, failures), (99, 99, 99, 99));
+    assert!(searched == built || searched == 4);
+    searched
+}
+
+#[test]
+fn a_refused_failure_oracle_touches_nothing() {
+    let room = failure_table_room(LONGEST_WORD);
+    assert_eq!(failure_with_all_forbidden(0, LONGEST_TEXT + 1, 0), 1);
+    assert_eq!(failure_with_all_forbidden(LONGEST_WORD + 1, LONGEST_TEXT + 1, 0), 2);
+    assert_eq!(failure_with_all_forbidden(LONGEST_WORD, LONGEST_TEXT + 1, room - 1), 4);
+    assert_eq!(failure_with_all_forbidden(4, usize::MAX >> 1, 0), 4);
+    assert_eq!(failure_with_all_forbidden(LONGEST_WORD, LONGEST_TEXT, room - 1), 3);
+}
+
 #[test]
 fn a_text_below_the_word_is_not_looked_at() {
     let (text, finds) = (forbidden_behind_a_page(1), forbidden_behind_a_page(1));
@@ -228,16 +269,23 @@ fn a_text_below_the_word_is_not_looked_at() {
     }
 }
 
+type Count = fn(&[u8], &[u8], &mut [u16], &mut [u32]) -> Result<u64, Refusal>;
+
 /// The longest words, one of one letter and one whose walk over supplies is long, on threads that have no more stack than is promised to be enough.
 #[test]
 fn a_thread_of_64_kib_has_stack_enough() {
     let of_one_letter = vec![b'a'; LONGEST_WORD];
     let ends_otherwise = [&of_one_letter[1..], b"b"].concat();
+    let searches: [Count; 3] = [
+        |word, text, tables, finds| entries::search(word, text, tables, finds).map(|tally| tally.count),
+        |word, text, tables, finds| entries::turbo(word, text, tables, finds).map(|tally| tally.count),
+        |word, text, tables, finds| entries::failure_search(word, text, tables, finds).map(|tally| tally.count),
+    ];
     for word in [of_one_letter, ends_otherwise] {
-        for entry in [entries::search, entries::turbo] {
+        for count_by in searches {
             let (word, text) = (word.clone(), word.repeat(2));
-            let (mut tables, mut finds) = (vec![0; table_room(LONGEST_WORD)], vec![0; 8]);
-            let search = move || entry(&word, &text, &mut tables, &mut finds).map(|tally| tally.count);
+            let (mut tables, mut finds) = (vec![0; failure_table_room(LONGEST_WORD)], vec![0; 8]);
+            let search = move || count_by(&word, &text, &mut tables, &mut finds);
             let count = std::thread::Builder::new().stack_size(1 << 16).spawn(search).unwrap().join().unwrap();
             assert!(count.is_ok_and(|count| count >= 2));
         }

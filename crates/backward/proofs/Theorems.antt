@@ -22,7 +22,7 @@ module _ (w t : Word) where
   -- the oracle of the mirrored word is all that the search asks for
   pub oracle-walker : Walker w (oracle (mirror w))
   oracle-walker = record {
-    factor = λ a n h. (_, factor-walk (mirror w) (oracle-supplied (mirror w)) a n (rw (length-reverse w) h));
+    parts = record { part-walked = λ a n h. (_, factor-walk (mirror w) (oracle-supplied (mirror w)) a n (rw (length-reverse w) h)) };
     no-other = λ v y e n. only-walk (mirror w) v y e (n ∙ sym (length-reverse w));
   }
 

@@ -24,12 +24,16 @@ use Rattle.backward.proofs.AfterFind.{after-moves, after-safe, after-mi
 
 -- ── One window ─────────────────────────────────────────────────────────────
 
--- all that the search asks of an automaton: it walks each part of the mirrored word, and of the words of that length only the mirrored word
+-- an automaton walks each part of the mirrored word
+pub record WalksParts (w : Word) (δ : Delta) : Type 0 where
+  pub part-walked : (a n : ℕ) → a + n ≤ length w → (y : State) × (walk δ 0 (part (mirror w) a n) ≡ some y)
+
+-- all that the search asks of it: that, and that of the words of its length it walks only the mirrored word
 pub record Walker (w : Word) (δ : Delta) : Type 0 where
-  pub factor : (a n : ℕ) → a + n ≤ length w → (y : State) × (walk δ 0 (part (mirror w) a n) ≡ some y)
+  pub parts : WalksParts w δ
   pub no-other : (v : Word) (y : State) → walk δ 0 v ≡ some y → length v ≡ length w → v ≡ mirror w
 
-module _ {w : Word} {δ : Delta} (W : Walker w δ) (t : Word) (s : Place) where
+module _ {w : Word} {δ : Delta} (parts : WalksParts w δ) (t : Word) (s : Place) where
   -- a reading of k letters from s on fails: up to the failing letter, no place at which the word stands lets it end behind the reading
   pub reading-loses-none : (k : ℕ) → s + k ≤ length t → (f : Place) → readDown δ t s k 0 .failed ≡ some f
       → (j : Place) → s + k ≤ j + length w → j ≤ f → stands w t j ≡ true → ⊥
@@ -56,13 +60,13 @@ module _ {w : Word} {δ : Delta} (W : Walker w δ) (t : Word) (s : Place) where
       walked : (y : State) × (walk δ 0 (mirror (part w (f - j) n)) ≡ some y)
       walked =
           let b = j + length w - (s + k) in
-          rw (mirror-part w (f - j) n b (omega (arith, place))) (W .factor b n (omega (arith, place)))
+          rw (mirror-part w (f - j) n b (omega (arith, place))) (parts .part-walked b n (omega (arith, place)))
 
 module _ {w : Word} {δ : Delta} (W : Walker w δ) (t : Word) (s : Place) (inside : s + length w ≤ length t) where
   -- the word stands nowhere from a window's start to its failing letter
   pub failed-loses-none : (f : Place) → readWindow δ w t s .failed ≡ some f
       → (j : Place) → s ≤ j → j ≤ f → stands w t j ≡ true → ⊥
-  failed-loses-none f e j l = reading-loses-none W t s (length w) inside f e j (omega arith)
+  failed-loses-none f e j l = reading-loses-none (W .parts) t s (length w) inside f e j (omega arith)
 
   -- the word stands where a window is read without failing
   pub whole-stands : readWindow δ w t s .failed ≡ none → stands w t s ≡ true

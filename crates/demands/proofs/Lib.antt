@@ -8,3 +8,4 @@ pub mod UploadsInPieces
 pub mod WhereBroken
 pub mod HostileText
 pub mod OneLetterMarks
+pub mod FailureOracle

@@ -1,5 +1,5 @@
--- Every example of the table holds: the checker computes both rules, the supplies, the searches, the files, the refusals and the
--- pieces, and compares.
+-- Every example of the table holds: the checker computes the rules, the supplies, the searches, the tables, the files, the refusals
+-- and the pieces, and compares.
 use lib.Dec.{T}
 use Rattle.words.specs.Lists.{from, only, first}
 use Rattle.words.specs.Words.{same, stands, occurrences}
@@ -13,6 +13,9 @@ use Rattle.border.specs.Borders.{longest, closes, longestBorder, borders}
 use Rattle.backward.specs.Steps.{readDown, afterFind, windows, steps, backward}
 use Rattle.turbo_steps.specs.Turbo.{forward, turboWindows, turboSteps, turbo}
 use Rattle.table.specs.Table.{tableFrom, tableOf}
+use Rattle.failure.specs.FailureRule.{failureOf, ask, pathEnd, askIn, repair, afterSuffix, failureRule, failureWalk}
+use Rattle.failure.specs.FailureSteps.{readBoth, failureWindows, failureStepsWith, failureSteps}
+use Rattle.failure_table.specs.FailureTable.{wordAlone, slotted, layFailures, layArrows, failureTableFrom, failureTable}
 use Rattle.number.specs.Number.{groups, spellNumber, refuses, see, seeNumber, numberAt}
 use Rattle.saved.specs.File.{edition, stepsFrom, spellSteps, ownSteps, body, spell}
 use Rattle.loaded.specs.Load.{frontWithin, twoAt, arrowsAt, ending, verdict}
@@ -21,9 +24,11 @@ use Rattle.mark_files.specs.Save.{saveSays}
 use Rattle.finds.specs.Finds.{filled}
 use Rattle.pieces.specs.Kept.{kept}
 use Rattle.stream.specs.Searchers.{searcherOf, after, finds, makeable}
+use Rattle.stream.specs.Pieces.{joined}
 use Rattle.stream.specs.Opening.{openSays}
 use Rattle.stream.specs.Taking.{takeSays}
-use Rattle.examples.specs.Examples.{is, isNone, walked, empty, has, gives, isRefused, isRefusedAt, loadInRooms, leaves, refusesToSave}
+use Rattle.examples.specs.Examples.{is, isNone, walked, empty, has, failsTo, gives, isRefused, isRefusedAt}
+use Rattle.examples.specs.Examples.{loadInRooms, leaves, refusesToSave}
 use Rattle.examples.specs.Examples.{shows, isDoneWith, takenInTurn, holds, allHold, word, digit, bytes, table}
 
 pub examples-hold : T (allHold table)
@@ -32,8 +37,10 @@ unfolding from only first same stands occurrences longestWord longestText longes
     ends twice repeated supply leadsTo extraTargets extrasBefore fileArrows targetsBefore tableFrom tableOf
     longest closes longestBorder borders filled kept searcherOf after finds makeable openSays takeSays
     readDown afterFind windows steps backward forward turboWindows turboSteps turbo
+    failureOf ask pathEnd askIn repair afterSuffix failureRule failureWalk readBoth failureWindows failureStepsWith failureSteps
+    wordAlone slotted layFailures layArrows failureTableFrom failureTable
     groups spellNumber refuses see seeNumber numberAt edition stepsFrom spellSteps ownSteps body spell
     frontWithin twoAt arrowsAt ending verdict loadWithin saveSays
-    is isNone walked empty has gives isRefused isRefusedAt loadInRooms leaves refusesToSave shows isDoneWith takenInTurn
-    holds allHold word digit bytes table
+    is isNone walked empty has failsTo joined gives isRefused isRefusedAt loadInRooms leaves refusesToSave shows isDoneWith
+    takenInTurn holds allHold word digit bytes table
 examples-hold = tt

@@ -27,6 +27,9 @@ use Rattle.oracle.specs.FileOrder.{Extra, extra}
 use Rattle.backward.specs.Steps.{backward}
 use Rattle.turbo_steps.specs.Turbo.{turbo}
 use Rattle.table.specs.Table.{room, tableOf}
+use Rattle.failure.specs.FailureRule.{Fails, failureOf, symbols, askIn, failureRule, failureWalk}
+use Rattle.failure.specs.FailureSteps.{failureSteps}
+use Rattle.failure_table.specs.FailureTable.{failureRoom, failureTable}
 use Rattle.saved.specs.File.{spell}
 use Rattle.loaded.specs.Load.{Front, letters, stop, front}
 use Rattle.answers.specs.Answers.{Answer, done, refused, refusedAt}
@@ -34,6 +37,7 @@ use Rattle.mark_files.specs.Load.{Outcome, loadSays}
 use Rattle.mark_files.specs.Save.{saveSays}
 use Rattle.finds.specs.Finds.{filled}
 use Rattle.stream.specs.declared.Searcher.{Searcher}
+use Rattle.stream.specs.Pieces.{joined}
 use Rattle.stream.specs.Opening.{openSays}
 use Rattle.stream.specs.Taking.{takeSays}
 
@@ -51,6 +55,16 @@ pub data Example : Type 0 where
   search : (word text : Word) (starts : List Place) (letters : ℕ) → Example
   -- the same of the Turbo search
   turboSearch : (word text : Word) (starts : List Place) (letters : ℕ) → Example
+  -- a word's failure oracle: how many symbol arrows it has, and its failure arrows
+  failureArrowsOf : (word : Word) (symbolArrows : ℕ) (failures : List Extra) → Example
+  -- where it walks another word to, and the failure arrows taken
+  failureWalks : (word walked : Word) (end : State) (taken : ℕ) → Example
+  -- a state of it to which symbol arrows lead back, and the letters on the way
+  symbolCycle : (word : Word) (state : State) (round : Word) → Example
+  -- the first rows of its table, those behind them being zero
+  failureRows : (word : Word) (rows : List (List ℕ)) → Example
+  -- a word and a text, the starts of the occurrences, the letters read and the failure arrows taken
+  failureSearch : (word text : Word) (starts : List Place) (letters failures : ℕ) → Example
   -- a word and its whole file
   fileOf : (word : Word) (file : List ℕ) → Example
   -- a word that saving refuses, and the number, in no room and in rooms for its table and for any file; it leaves them as they were
@@ -88,6 +102,11 @@ empty (s ∷ l) = false
 unfoldable pub has : Delta → Word → List Extra → Bool
 has δ p [] = true
 has δ p (a ∷ l) = is (δ (a .source) (letter p (pred (a .to)))) (a .to) && has δ p l
+
+-- each of the failure arrows is one of φ
+unfoldable pub failsTo : Fails → List Extra → Bool
+failsTo φ [] = true
+failsTo φ (f ∷ l) = is (φ (f .source)) (f .to) && failsTo φ l
 
 -- S gives these states to i, i + 1, ..
 unfoldable pub gives : (State → Option State) → State → List State → Bool
@@ -158,6 +177,19 @@ holds (search w t starts n) =
 holds (turboSearch w t starts n) =
     let r = turbo w t in
     same (r .starts) starts && (eqb (r .letters) n && same (occurrences w t) starts)
+holds (failureArrowsOf p n l) =
+    let A = failureRule p in
+    eqb (length (symbols p A)) n && (eqb (length (A .failures)) (length l) && failsTo (failureOf (A .failures)) l)
+holds (failureWalks p v y n) =
+    let r = failureWalk (askIn p (failureRule p)) 0 v in
+    is (r .to) y && eqb (r .taken) n
+holds (symbolCycle p x v) = is (walk (target (symbols p (failureRule p))) x v) x
+holds (failureRows p rows) =
+    let front = joined rows in
+    same (failureTable p) (front ++ replicate (failureRoom (length p) - length front) 0)
+holds (failureSearch w t starts n f) =
+    let r = failureSteps w t in
+    same (r .starts) starts && (eqb (r .letters) n && (eqb (r .failures) f && same (occurrences w t) starts))
 holds (fileOf p f) = same (spell p) f
 holds (saveRefused p n) = refusesToSave p n 0 0 && refusesToSave p n (room (length p)) greatestFile
 holds (loads f p) =
@@ -227,6 +259,28 @@ table =
     ∷ turboSearch (word "abaab") (word "abaababaabaababaababa") (0 ∷ 5 ∷ 8 ∷ 13 ∷ []) 38
     ∷ turboSearch (word "abc") (word "xxxxxx") [] 2
     ∷ turboSearch (word "abc") (word "ab") [] 0
+    ∷ failureArrowsOf (word "a") 1 []
+    ∷ failureArrowsOf (word "abcacdace") 9 (0 to 1 ∷ 1 to 2 ∷ 2 to 5 ∷ 3 to 5 ∷ 5 to 8 ∷ [])
+    ∷ failureWalks (word "abcacdace") (word "cace") 9 3
+    ∷ failureArrowsOf (word "abcaabaababc") 12 (0 to 1 ∷ 1 to 2 ∷ 2 to 4 ∷ 5 to 7 ∷ 6 to 11 ∷ 7 to 10 ∷ [])
+    ∷ failureArrowsOf (word "ababcdbaacbabacab") 18
+    (0 to 1 ∷ 1 to 4 ∷ 2 to 4 ∷ 3 to 8 ∷ 4 to 5 ∷ 5 to 8 ∷ 8 to 10 ∷ 9 to 16 ∷ 10 to 15 ∷ [])
+    ∷ symbolCycle (word "ababcdbaacbabacab") 15 (word "c")
+    ∷ failureArrowsOf (word "abadbcaabdbaba") 15 (0 to 1 ∷ 1 to 3 ∷ 2 to 5 ∷ 3 to 5 ∷ 5 to 7 ∷ 7 to 9 ∷ 9 to 13 ∷ [])
+    ∷ symbolCycle (word "abadbcaabdbaba") 13 (word "b")
+    ∷ failureRows (word "abadbcaabdbaba") (
+    (0 ∷ word "abadbcaabdbaba")
+    ∷ (1 ∷ 3 ∷ 5 ∷ 5 ∷ 0 ∷ 7 ∷ 0 ∷ 9 ∷ 0 ∷ 13 ∷ 0 ∷ 0 ∷ 0 ∷ 0 ∷ 0 ∷ [])
+    ∷ (0 ∷ 0 ∷ 0 ∷ 0 ∷ 0 ∷ 0 ∷ 0 ∷ 0 ∷ 0 ∷ 0 ∷ 0 ∷ 0 ∷ 0 ∷ 1 ∷ 0 ∷ [])
+    ∷ (0 ∷ 0 ∷ 0 ∷ 0 ∷ 0 ∷ 0 ∷ 0 ∷ 0 ∷ 0 ∷ 0 ∷ 0 ∷ 0 ∷ 0 ∷ 0 ∷ 0 ∷ [])
+    ∷ (0 ∷ 13 ∷ 0 ∷ 0 ∷ 0 ∷ 0 ∷ 0 ∷ 0 ∷ 0 ∷ 0 ∷ 0 ∷ 0 ∷ 0 ∷ 0 ∷ 0 ∷ [])
+    ∷ [])
+    ∷ failureSearch (word "ab") (word "ac") [] 1 1
+    ∷ failureSearch (word "ababdbaacbdaba") (word "abbbbbbbabdbaa") [] 14 3
+    ∷ failureSearch (word "aba") (word "ababa") (0 ∷ 2 ∷ []) 6 0
+    ∷ failureSearch (word "ab") (word "abxa") (0 ∷ []) 4 1
+    ∷ failureSearch (word "abc") (word "xxxxxx") [] 2 4
+    ∷ failureSearch (word "abc") (word "ab") [] 0 0
     ∷ saveRefused (word "") 1
     ∷ saveRefused (word "a") 17
     ∷ saveRefused (replicate 4097 97) 2

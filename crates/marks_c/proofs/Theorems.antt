@@ -14,6 +14,10 @@ use Rattle.answers.proofs.Answers.{done-not-refused, done-not-placed}
 use Rattle.marks.specs.Build.{buildSays}
 use Rattle.marks.specs.Search.{searchSays}
 use Rattle.linear.specs.Turbo.{turboSays}
+use Rattle.failure_entries.specs.FailureBuild.{failureBuildSays}
+use Rattle.failure_entries.specs.FailureSearch.{failureSearchSays}
+use Rattle.failure_entries.proofs.BuildSays.{failure-build-numbers}
+use Rattle.failure_entries.proofs.SearchSays.{failure-search-numbers}
 use Rattle.mark_files.specs.Save.{saveSays}
 use Rattle.mark_files.specs.Load.{loadSays}
 use Rattle.mark_files.specs.SearchFile.{searchFileSays}
@@ -25,6 +29,7 @@ use Rattle.searcher_bytes.specs.TakeBytes.{takeBytesSays}
 use Rattle.searcher_bytes.proofs.OpenBytesSays.{open-numbers}
 use Rattle.searcher_bytes.proofs.TakeBytesSays.{take-numbers}
 use Rattle.marks_c.specs.Streams.{openCallSays, takeCallSays}
+use Rattle.marks_c.specs.FailureCalls.{failureBuildCallSays, failureSearchCallSays}
 use Rattle.marks_c.specs.Calls.{resultOf, offsetGiven}
 use Rattle.marks_c.specs.Calls.{buildCallSays, saveCallSays, loadCallSays, searchCallSays, turboCallSays, searchFileCallSays}
 
@@ -67,6 +72,16 @@ pub turbo-done : (word text : Word) (T : List ℕ) (F : List Place) (c l : ℕ)
     → (turboCallSays word text T F c l .result ≡ 0) ↔ Succeeds (turboSays word text T F .answer)
 unfolding oneOf
 turbo-done word text T F c l = done-exactly (1 ∷ 2 ∷ 4 ∷ 3 ∷ []) [] refl refl _ (turbo-numbers word text T F)
+
+pub failure-build-done : (word : Word) (T : List ℕ) (m : ℕ)
+    → (failureBuildCallSays word T m .result ≡ 0) ↔ Succeeds (failureBuildSays word T .answer)
+unfolding oneOf
+failure-build-done word T m = done-exactly (1 ∷ 2 ∷ 3 ∷ []) [] refl refl _ (failure-build-numbers word T)
+
+pub failure-search-done : (word text : Word) (T : List ℕ) (F : List Place) (c l f : ℕ)
+    → (failureSearchCallSays word text T F c l f .result ≡ 0) ↔ Succeeds (failureSearchSays word text T F .answer)
+unfolding oneOf
+failure-search-done word text T F c l f = done-exactly (1 ∷ 2 ∷ 4 ∷ 3 ∷ []) [] refl refl _ (failure-search-numbers word text T F)
 
 pub search-file-done : (file : List ℕ) (text : Word) (R T : List ℕ) (F : List Place) (c l : ℕ) (p : Place)
     → (searchFileCallSays file text R T F c l p .result ≡ 0) ↔ Succeeds (searchFileSays file text R T F .answer)

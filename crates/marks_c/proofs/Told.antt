@@ -11,6 +11,11 @@ use Rattle.answers.specs.declared.SizeAnswer.the-variants.{Refused as SizeRefus
 use Rattle.answers.specs.declared.TallyAnswer.{TallyAnswer}
 use Rattle.answers.specs.declared.TallyAnswer.the-variants.{Refused as TallyRefused}
 use Rattle.answers.specs.Answers.{numberOf, refusedAs, sizeAnswer, tallyAnswer}
+use Rattle.failure_search.specs.declared.FailureTally.{FailureTally}
+use Rattle.failure_entries.specs.declared.FailureAnswer.{FailureAnswer}
+use Rattle.failure_entries.specs.declared.FailureAnswer.the-variants.{Refused as FailuresRefused}
+use Rattle.failure_entries.specs.FailureSearch.{failureAnswer}
+use Rattle.marks_c.specs.FailureCalls.{failureCountGiven, failureLettersGiven, failuresGiven}
 use Rattle.marks_c.specs.Calls.{resultOf, given, sizeGiven, countGiven, lettersGiven, offsetGiven, placeGiven}
 
 refusal-number : (A : Type 0) (r : Refusal) → numberOf r ≡ resultOf {A = A} (refusedAs r)
@@ -33,6 +38,17 @@ pub tally-refused : {answer : TallyAnswer} {why : Refusal} {n v w : ℕ} → ans
     → (n ≡ resultOf (tallyAnswer answer)) × (v ≡ countGiven v (tallyAnswer answer)) × (w ≡ lettersGiven w (tallyAnswer answer))
 tally-refused {why = why} {v = v} {w = w} e q =
     rw e (q ∙ refusal-number Tally why, refusal-gives v (λ t. t .count) why, refusal-gives w (λ t. t .letters) why)
+
+pub failures-refused : {answer : FailureAnswer} {why : Refusal} {n v w f : ℕ} → answer ≡ FailuresRefused why → n ≡ numberOf why
+    → (n ≡ resultOf (failureAnswer answer)) × (v ≡ failureCountGiven v (failureAnswer answer))
+    × (w ≡ failureLettersGiven w (failureAnswer answer)) × (f ≡ failuresGiven f (failureAnswer answer))
+failures-refused {why = why} {v = v} {w = w} {f = f} e q =
+    rw e (
+      q ∙ refusal-number FailureTally why,
+      refusal-gives v (λ t. t .count) why,
+      refusal-gives w (λ t. t .letters) why,
+      refusal-gives f (λ t. t .failures) why,
+    )
 
 -- with an offset besides
 pub load-refused : (p : Place) {answer : SizeAnswer} {why : Refusal} {n v : ℕ} {q : Place} → answer ≡ SizeRefused why → n ≡ numberOf why

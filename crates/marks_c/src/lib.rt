@@ -6,6 +6,9 @@ ghost use Rattle.answers.specs.Answers.{numberOf, sizeAnswer, tallyAnswer};
 ghost use Rattle.marks_c.specs.Calls.{resultOf, sizeGiven, countGiven, lettersGiven, offsetGiven, placeGiven};
 ghost use Rattle.marks_c.specs.Calls.{buildCall, buildCallSays, saveCall, saveCallSays, loadCall, loadCallSays};
 ghost use Rattle.marks_c.specs.Calls.{searchCall, searchCallSays, turboCallSays, searchFileCall, searchFileCallSays};
+ghost use Rattle.failure_entries.specs.FailureSearch.{failureAnswer};
+ghost use Rattle.marks_c.specs.FailureCalls.{failureBuildCallSays, failureCountGiven, failureLettersGiven, failuresGiven};
+ghost use Rattle.marks_c.specs.FailureCalls.{failureSearchCall, failureSearchCallSays};
 ghost use Rattle.marks_c.specs.Streams.{openCall, openCallSays, takeCall, takeCallSays};
 
 // What C is told of an answer: the number that is returned, and the size where the entry is done.
@@ -44,6 +47,29 @@ fn tell_tally(answer: answers::TallyAnswer, count: &mut u64, letters: &mut u64) 
             0
         }
         answers::TallyAnswer::Refused(why) => answers::number(why) as u32,
+    }
+}
+
+// The same of a search with a failure oracle: the failure arrows taken besides.
+fn tell_failures(
+    answer: failure_entries::FailureAnswer,
+    count: &mut u64,
+    letters: &mut u64,
+    failures: &mut u64,
+) -> u32
+    ensures { λ r. ⌜ (r ≡ resultOf (failureAnswer answer))
+        × (now (count .exit) ≡ failureCountGiven (now (count .entry)) (failureAnswer answer))
+        × (now (letters .exit) ≡ failureLettersGiven (now (letters .entry)) (failureAnswer answer))
+        × (now (failures .exit) ≡ failuresGiven (now (failures .entry)) (failureAnswer answer)) ⌝ }
+{
+    match answer {
+        failure_entries::FailureAnswer::Done(counts) => {
+            *count = counts.count as u64;
+            *letters = counts.letters;
+            *failures = counts.failures;
+            0
+        }
+        failure_entries::FailureAnswer::Refused(why) => answers::number(why) as u32,
     }
 }
 
@@ -164,6 +190,34 @@ pub extern "C" fn marks_turbo(
 {
     let searched = linear::turbo(word, text, tables, finds);
     tell_tally(searched, count, letters)
+}
+
+#[no_mangle]
+pub extern "C" fn marks_failure_build(word: &[u8], tables: &mut [u16], m: &mut u64) -> u32
+    ensures { λ r. ⌜ buildCall r (now (tables .exit)) (now (m .exit))
+        ≡ failureBuildCallSays (now (word .entry)) (now (tables .entry)) (now (m .entry)) ⌝ }
+{
+    let built = failure_entries::failure_build(word, tables);
+    tell_size(built, m)
+}
+
+#[no_mangle]
+pub extern "C" fn marks_failure_search(
+    word: &[u8],
+    text: &[u8],
+    tables: &mut [u16],
+    finds: &mut [u32],
+    count: &mut u64,
+    letters: &mut u64,
+    failures: &mut u64,
+) -> u32
+    ensures { λ r. ⌜ failureSearchCall r (now (tables .exit)) (now (finds .exit)) (now (count .exit)) (now (letters .exit))
+        (now (failures .exit))
+        ≡ failureSearchCallSays (now (word .entry)) (now (text .entry)) (now (tables .entry)) (now (finds .entry))
+        (now (count .entry)) (now (letters .entry)) (now (failures .entry)) ⌝ }
+{
+    let searched = failure_entries::failure_search(word, text, tables, finds);
+    tell_failures(searched, count, letters, failures)
 }
 
 #[no_mangle]

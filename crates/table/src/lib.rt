@@ -22,7 +22,8 @@ pub fn clear(entries: &mut [u16])
     }
 }
 
-fn put_word(word: &[u8], row: &mut [u16])
+// The letters of a word.
+pub fn put_word(word: &[u8], row: &mut [u16])
     requires { do ⌜ (← ⟦row.len()⟧) ≡ (← ⟦word.len()⟧) ⌝ }
     ensures { λ _. ⌜ now (row .exit) ≡ now (word .entry) ⌝ }
 {
@@ -34,7 +35,8 @@ fn put_word(word: &[u8], row: &mut [u16])
     }
 }
 
-fn put_mirror(word: &[u8], row: &mut [u16])
+// The same from last to first.
+pub fn put_mirror(word: &[u8], row: &mut [u16])
     requires { do ⌜ (← ⟦row.len()⟧) ≡ (← ⟦word.len()⟧) ⌝ }
     ensures { λ _. ⌜ now (row .exit) ≡ mirror (now (word .entry)) ⌝ }
 {

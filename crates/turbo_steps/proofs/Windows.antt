@@ -129,7 +129,7 @@ module _ {w : Word} {δ : Delta} (W : Walker w δ) (t : Word) (some-letter : 1 �
           let b = M .longer in
           let fresh : f + 1 - keptAt w t (f + 1) (f + 1) ≡ f + 1 = omega (arith, kept-fresh w t (f + 1) some-letter (omega arith)) in
           rw (e, fresh) (since-later w t (c - keptAt w t low c) (f + 1) (omega (arith, p .not-before))
-          (λ j a d g. reading-loses-none W t c k (omega arith) f e j (omega arith) (omega arith) g))
+          (λ j a d g. reading-loses-none (W .parts) t c k (omega arith) f e j (omega arith) (omega arith) g))
 
   -- the windows from c on list the occurrences from c - h on
   windows-list : (k : ℕ) (low c : Place) → length t < k + c → low ≤ c → c ≤ length t

@@ -85,7 +85,7 @@ fn hostile_line(word: &[u8], text: &[u8], with_search: bool) -> (String, f64) {
 }
 
 /// The first n letters of the Fibonacci words, each of which is the two before it in a row.
-fn fibonacci(n: usize) -> Vec<u8> {
+pub fn fibonacci(n: usize) -> Vec<u8> {
     let (mut before, mut word) = (b"b".to_vec(), b"a".to_vec());
     while word.len() < n {
         let next = [&word[..], &before].concat();
@@ -98,19 +98,27 @@ fn fibonacci(n: usize) -> Vec<u8> {
 /// What a hostile search is called, its text, and the word that is made of the text's first letters.
 type Hostile<'a> = (&'static str, &'a [u8], fn(&[u8]) -> Vec<u8>);
 
+/// Texts of n letters that hostile words are looked for in: a's, ab over and over, and Fibonacci letters.
+pub fn hostile_texts(n: usize) -> [Vec<u8>; 3] {
+    [vec![b'a'; n], b"ab".repeat(n / 2), fibonacci(n)]
+}
+
+pub fn hostile_searches([a, ab, fibonacci]: &[Vec<u8>; 3]) -> [Hostile<'_>; 5] {
+    [
+        ("a, m times", a, |start| start.to_vec()),
+        ("b, then a", a, |start| [b"b", &start[1..]].concat()),
+        ("a, then b", a, |start| [&start[1..], b"b"].concat()),
+        ("ab over and over", ab, |start| start.to_vec()),
+        ("Fibonacci", fibonacci, |start| start.to_vec()),
+    ]
+}
+
 /// Words in a text of n letters. With Fibonacci words the search reads a few letters for each of the text, with the others up to m.
 pub fn hostile_times(n: usize) {
     println!("| Word | m | {HOSTILE}\n|{}", "---|".repeat(10));
-    let (a, ab, fibonacci) = (vec![b'a'; n], b"ab".repeat(n / 2), fibonacci(n));
-    let searches: [Hostile; 5] = [
-        ("a, m times", &a, |start| start.to_vec()),
-        ("b, then a", &a, |start| [b"b", &start[1..]].concat()),
-        ("a, then b", &a, |start| [&start[1..], b"b"].concat()),
-        ("ab over and over", &ab, |start| start.to_vec()),
-        ("Fibonacci", &fibonacci, |start| start.to_vec()),
-    ];
+    let texts = hostile_texts(n);
     let (mut most, mut at) = (0.0, String::new());
-    for (name, text, word_of) in searches {
+    for (name, text, word_of) in hostile_searches(&texts) {
         for m in LENGTHS {
             let (line, ratio) = hostile_line(&word_of(&text[..m]), text, m * n <= MOST_READ || name == "Fibonacci");
             println!("| {name} | {m} | {line}");

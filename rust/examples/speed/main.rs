@@ -1,8 +1,10 @@
-//! speed [TABLE..]: measures `build`, `load`, `search`, `turbo` and `take` on this machine, and prints the tables of docs/SPEED.md, or those that are named,
-//! each between two lines that name it. Run it by `tools/speed`.
+//! speed [TABLE..]: measures `build`, `load`, `search`, `turbo`, `take` and the failure oracle on this machine, and prints the tables of docs/SPEED.md, or
+//! those that are named, each between two lines that name it. Run it by `tools/speed`.
 
+mod arrows;
 mod clock;
 mod faces;
+mod failure;
 mod linear;
 #[cfg(with_older)]
 mod lookup;
@@ -236,6 +238,11 @@ const TABLES: &[(&str, fn())] = &[
     ("periodic", periodic_times),
     ("pieces", pieces::piece_times),
     ("faces", faces::face_times),
+    ("failure", failure::random_times),
+    ("failure_hostile", failure::hostile_times),
+    ("failure_build", failure::build_times),
+    ("arrows", arrows::of_random_words),
+    ("arrows_all", arrows::of_all_words),
 ];
 
 fn main() -> Result<(), String> {

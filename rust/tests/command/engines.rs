@@ -2,7 +2,7 @@
 
 use crate::{Folder, Said};
 
-const ENGINES: [&str; 3] = ["auto", "backward", "turbo"];
+const ENGINES: [&str; 4] = ["auto", "backward", "turbo", "failure"];
 
 /// The letters that were read in all, as `--stats` tells them of one file.
 #[track_caller]
@@ -57,6 +57,28 @@ marks: ride: found 2 in 5 bytes; 6 letters read, 1.20 a byte
 marks: short: found 0 in 1 byte; 0 letters read, 0.00 a byte
 ",
     );
+}
+
+#[test]
+fn the_failure_arrows_that_were_taken_are_told_by_the_engine_that_has_them() {
+    let here = Folder::new("failures").with("ride", "ababa").with("ac", "ac").with("short", "a");
+    let by = |word, files: &[&str]| here.marks(&[&["find", "--stats", "--engine", "failure", word], files].concat());
+    by("aba", &["ride"]).is_with(0, "0\n2\n", "marks: ride: found 2 in 5 bytes; 6 letters read, 1.20 a byte; 0 failure arrows taken\n");
+    by("ab", &["ac", "short"]).is_with(
+        1,
+        "",
+        "\
+marks: ac: found 0 in 2 bytes; 1 letter read, 0.50 a byte; 1 failure arrow taken
+marks: short: found 0 in 1 byte; 0 letters read, 0.00 a byte; 0 failure arrows taken
+",
+    );
+    let object = r#"{"file":"ride","found":2,"bytes":5,"letters":6,"failures":0}"#;
+    let count = r#"{"file":"ride","count":2}"#;
+    here.marks(&["find", "-c", "--json", "--stats", "--engine=failure", "aba", "ride"]).is(0, &format!("{count}\n{object}\n"));
+    for engine in &ENGINES[..3] {
+        let said = here.marks(&["find", "--stats", "--json", "--engine", engine, "ab", "ac"]);
+        assert!(!said.out.contains("failures") && said.out.contains("letters"), "{}", said.out);
+    }
 }
 
 #[test]

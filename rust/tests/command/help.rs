@@ -4,7 +4,7 @@ use crate::{told, Folder, Said};
 use marks::LONGEST_WORD;
 
 const COMMANDS: [&str; 5] = ["find", "save", "check", "show", "help"];
-const OPTIONS: [&str; 20] = [
+const OPTIONS: [&str; 21] = [
     "hex",
     "mark",
     "hex-offsets",
@@ -22,6 +22,7 @@ const OPTIONS: [&str; 20] = [
     "stats",
     "force",
     "dot",
+    "failure",
     "help",
     "version",
     "generate",
@@ -55,7 +56,7 @@ fn help_has_all_there_is() {
     for option in OPTIONS {
         assert!(whole.contains(&format!(" --{option} ")), "{option}");
     }
-    for word in ["mirror", "auto", "backward", "turbo", "file_hex", "Status:", "Examples:", "Mark files:", "$'..'"] {
+    for word in ["mirror", "auto", "backward", "turbo", "failure", "m*m/2", "file_hex", "Status:", "Examples:", "Mark files:", "$'..'"] {
         assert!(whole.contains(word) || good(here.marks(&["help", "find"])).contains(word), "{word}");
     }
     assert!(whole.contains(&format!("WORD has 1 to {} bytes", told(LONGEST_WORD))));
@@ -131,12 +132,13 @@ fn bash_completes_the_line() {
         lines.retain(|line| !line.is_empty());
         lines
     };
-    let engines = ["auto", "backward", "turbo"];
+    let engines = ["auto", "backward", "turbo", "failure"];
     assert_eq!(offered(&["marks", ""]), COMMANDS);
     assert_eq!(offered(&["marks", "s"]), ["save", "show"]);
     assert_eq!(offered(&["marks", "help", "c"]), ["check"]);
     assert_eq!(offered(&["marks", "save", "-"]), ["-x", "--hex", "-f", "--force", "-h", "--help", "-V", "--version"]);
     assert_eq!(offered(&["marks", "find", "--st"]), ["--stats"]);
+    assert_eq!(offered(&["marks", "show", "--f"]), ["--failure"]);
     assert_eq!(offered(&["marks", "-c", "find", "--engine", "=", "turbo", "--max"]), ["--max-count"]);
     assert_eq!(offered(&["marks", "find", "--engine", ""]), engines);
     assert_eq!(offered(&["marks", "find", "--engine", "="]), engines);

@@ -1,7 +1,7 @@
 //! `marks check` and `marks show`: mark files good and bad.
 
 use crate::{Folder, GOOD};
-use marks::Refusal;
+use marks::{Mark, Refusal};
 use std::fs;
 
 #[test]
@@ -49,7 +49,7 @@ fn every_refusal_of_a_file_is_told_with_its_number_and_offset() {
         let good = "good: good, finds \"baabbba\" (7 letters; it holds the mirror, \"abbbaab\")";
         assert_eq!(unindented, [&format!("bad: refused: {told}"), good]);
         assert_eq!((said.err.as_str(), said.status), ("", Some(1)));
-        for words in [&["find", "-m", "bad", "ride"][..], &["show", "bad"], &["show", "--dot", "bad"]] {
+        for words in [&["find", "-m", "bad", "ride"][..], &["show", "bad"], &["show", "--dot", "bad"], &["show", "--failure", "bad"]] {
             here.marks(words).is_with(2, "", &format!("marks: bad: {told}\n"));
         }
     }
@@ -100,6 +100,53 @@ state  letter  supply  arrows out: letter>state, the spine's first
     );
 }
 
+/// The file that finds the mirror of this word.
+fn holding(word: &str) -> Vec<u8> {
+    let finds: String = word.chars().rev().collect();
+    Mark::new(finds).unwrap().to_file().unwrap()
+}
+
+#[test]
+fn show_prints_the_failure_oracle_as_a_table() {
+    let here = Folder::new("show-failure").with("nine", holding("abcacdace")).with("circle", holding("abadbcaabdbaba"));
+    here.marks(&["show", "--failure", "nine"]).is(
+        0,
+        "\
+finds  \"ecadcacba\"
+holds  \"abcacdace\", its mirror, because the search reads backward
+size   9 letters, 9 symbol arrows, 5 failure arrows
+
+state  letter  failure  arrows out: letter>state, the spine's first
+    0                1  a>1
+    1  a             2  b>2
+    2  b             5  c>3
+    3  c             5  a>4
+    4  a                c>5
+    5  c             8  d>6
+    6  d                a>7
+    7  a                c>8
+    8  c                e>9
+    9  e
+",
+    );
+    let said = here.marks(&["show", "circle", "--failure"]);
+    assert!(said.out.contains("size   14 letters, 15 symbol arrows, 7 failure arrows\n"), "{}", said.out);
+    assert!(said.out.contains("\n   13  b                a>14  b>13\n"), "{}", said.out);
+    here.marks_reading(&["show", "--failure", "-"], b"\x01\x02aa\0").is(
+        0,
+        "\
+finds  \"aa\"
+holds  \"aa\", its mirror, because the search reads backward
+size   2 letters, 2 symbol arrows, 0 failure arrows
+
+state  letter  failure  arrows out: letter>state, the spine's first
+    0                   a>1
+    1  a                a>2
+    2  a
+",
+    );
+}
+
 #[test]
 fn a_table_fits_the_screen_however_many_arrows_there_are() {
     let here = Folder::new("wide");
@@ -129,6 +176,15 @@ fn show_prints_graphviz_text() {
 }
 "#,
     );
+    let here = here.with("circle", holding("abadbcaabdbaba"));
+    let said = here.marks(&["show", "--dot", "--failure", "circle"]);
+    let title = r#"  label="finds \"ababdbaacbdaba\": the failure oracle of its mirror, \"abadbcaabdbaba\"";"#;
+    let lines: Vec<&str> = said.out.lines().collect();
+    assert_eq!((lines.len(), lines[1], said.status), (4 + 14 + 1 + 7 + 1, title, Some(0)));
+    for line in [r#"  0 -> 1 [label="a"];"#, "  0 -> 1 [style=dashed, constraint=false];", r#"  13 -> 13 [label="b", constraint=false];"#] {
+        assert_eq!(lines.iter().filter(|other| **other == line).count(), 1, "{line}: {}", said.out);
+    }
+    assert_eq!(lines.iter().filter(|line| line.contains("dashed")).count(), 7);
     // where Graphviz is at hand, it takes the text of every letter
     let every: String = (0..=255u8).map(|byte| format!("{byte:02x}")).collect();
     let said =

@@ -6,6 +6,7 @@ use crate::{
     manual::{self, listed, COMMANDS},
     names,
     options::Words,
+    oracle::Kind,
     trouble::Trouble,
     word::Word,
 };
@@ -30,6 +31,7 @@ pub enum Command {
     },
     Show {
         file: OsString,
+        kind: Kind,
         dot: bool,
     },
 }
@@ -103,9 +105,9 @@ fn check(words: Words) -> Result<Command, Trouble> {
 }
 
 fn show(words: Words) -> Result<Command, Trouble> {
-    let dot = words.has("dot");
+    let (dot, kind) = (words.has("dot"), if words.has("failure") { Kind::Failure } else { Kind::Factor });
     let Ok([file]) = <[OsString; 1]>::try_from(words.rest) else {
         return Err(Trouble::new("show", "it takes one MARKFILE", "name one that marks save wrote, or - for standard input"));
     };
-    Ok(Command::Show { file, dot })
+    Ok(Command::Show { file, kind, dot })
 }

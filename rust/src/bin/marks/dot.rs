@@ -1,14 +1,18 @@
-//! An oracle as Graphviz text: the spine as a straight line of states, the extra arrows dashed. They do not decide where a state stands, or
-//! a word of a hundred letters would take minutes to draw.
+//! An oracle as Graphviz text: the spine as a straight line of states, the extra arrows dashed. Of a failure oracle the failure arrows are
+//! dashed, and have no letter. Only the spine decides where a state stands, or a word of a hundred letters would take minutes to draw.
 
 use crate::{
-    oracle::Oracle,
+    oracle::{Kind, Oracle},
     word::{letter, mirror, quoted},
 };
 
 pub fn lines(oracle: &Oracle) -> Vec<String> {
     let held = oracle.word();
-    let title = format!("finds {}: the oracle of its mirror, {}", quoted(&mirror(&held)), quoted(&held));
+    let (name, extra) = match oracle.kind {
+        Kind::Factor => ("oracle", "style=dashed, constraint=false"),
+        Kind::Failure => ("failure oracle", "constraint=false"),
+    };
+    let title = format!("finds {}: the {name} of its mirror, {}", quoted(&mirror(&held)), quoted(&held));
     let mut lines = vec![
         "digraph oracle {".to_string(),
         format!("  label={};", text(&title)),
@@ -20,7 +24,10 @@ pub fn lines(oracle: &Oracle) -> Vec<String> {
             lines.push(format!("  {state} -> {next} [label={}];", carried(oracle, next)));
         }
         for target in oracle.extra(state) {
-            lines.push(format!("  {state} -> {target} [label={}, style=dashed, constraint=false];", carried(oracle, target)));
+            lines.push(format!("  {state} -> {target} [label={}, {extra}];", carried(oracle, target)));
+        }
+        if let Some(target) = oracle.failure(state) {
+            lines.push(format!("  {state} -> {target} [style=dashed, constraint=false];"));
         }
     }
     lines.push("}".to_string());

@@ -61,7 +61,7 @@ fn run(command: Command, output: &mut Output) -> Result<Answer, Trouble> {
         Command::Find(asked) => return find::find(asked, output).map(answer),
         Command::Save { word, out, force } => save::save(&word, &out, force, output)?,
         Command::Check { files } => return Ok(answer(check::check(&files, output))),
-        Command::Show { file, dot } => show::show(&file, dot, output)?,
+        Command::Show { file, kind, dot } => show::show(&file, kind, dot, output)?,
     }
     Ok(Answer::Yes)
 }

@@ -1,19 +1,32 @@
 //! An oracle, read from its table by the rule of docs/TABLE.md: entries are looked up, and nothing is worked out.
 
-use marks::{entries, table_room, LoadError, LONGEST_WORD};
+use marks::{entries, failure_table_room, table_room, LoadError, LONGEST_WORD};
+use std::iter;
+
+/// Which oracle of a word.
+#[derive(Clone, Copy, PartialEq)]
+pub enum Kind {
+    Factor,
+    Failure,
+}
 
 pub struct Oracle {
-    /// Six rows of m+1 entries.
+    /// Rows of m+1 entries: six, or ten of a failure oracle. The first has the letters in both.
     table: Vec<u16>,
     m: usize,
+    pub kind: Kind,
 }
 
 impl Oracle {
-    /// The oracle in a mark file.
-    pub fn of_file(file: &[u8]) -> Result<Oracle, LoadError> {
+    /// The oracle in a mark file, or the failure oracle of the same word.
+    pub fn of_file(file: &[u8], kind: Kind) -> Result<Oracle, LoadError> {
         let (mut word, mut table) = (vec![0; LONGEST_WORD], vec![0; table_room(LONGEST_WORD)]);
-        let m = entries::load(file, &mut word, &mut table)? as usize;
-        Ok(Oracle { table, m })
+        let m = entries::load(file, &mut word, &mut table)?;
+        if kind == Kind::Failure {
+            table = vec![0; failure_table_room(m)];
+            entries::failure_build(&word[..m], &mut table).expect("a file's word is within the limits");
+        }
+        Ok(Oracle { table, m, kind })
     }
 
     fn entry(&self, row: usize, place: usize) -> usize {
@@ -34,9 +47,14 @@ impl Oracle {
         (state > 0).then(|| self.entry(0, state) as u8)
     }
 
-    /// State 0 has none.
+    /// State 0 has none, and no state of a failure oracle.
     pub fn supply(&self, state: usize) -> Option<usize> {
-        (state > 0).then(|| self.entry(1, state))
+        (self.kind == Kind::Factor && state > 0).then(|| self.entry(1, state))
+    }
+
+    /// Where the failure arrow leads, which only states of a failure oracle have. None leads to state 0.
+    pub fn failure(&self, state: usize) -> Option<usize> {
+        Some(self.entry(1, state)).filter(|target| self.kind == Kind::Failure && *target > 0)
     }
 
     /// Where the arrow of the spine leads.
@@ -44,22 +62,33 @@ impl Oracle {
         (state < self.m).then_some(state + 1)
     }
 
-    /// Where the extra arrows lead, rising.
+    /// Where the arrows on letters beside the spine lead: rising, in a failure oracle in the order in which they were added.
     pub fn extra(&self, state: usize) -> Vec<usize> {
-        match self.spine(state) {
-            Some(next) => (self.entry(2, state)..self.entry(2, next)).map(|slot| self.entry(3, slot)).collect(),
-            None => Vec::new(),
+        match (self.kind, self.spine(state)) {
+            (Kind::Factor, Some(next)) => (self.entry(2, state)..self.entry(2, next)).map(|slot| self.entry(3, slot)).collect(),
+            (Kind::Factor, None) => Vec::new(),
+            (Kind::Failure, _) => self.chain(state),
         }
+    }
+
+    /// The targets in the slots of a state, which lead from the newest to the oldest, turned round.
+    fn chain(&self, state: usize) -> Vec<usize> {
+        let slot = |number: usize| (number > 0).then_some(number);
+        let slots = iter::successors(slot(self.entry(2, state)), |newer| slot(self.entry(3, *newer)));
+        let mut targets: Vec<usize> = slots.map(|number| self.entry(4, number)).collect();
+        targets.reverse();
+        targets
     }
 }
 
 #[cfg(test)]
 mod tests {
-    use super::Oracle;
+    use super::{Kind, Oracle};
+    use marks::Mark;
 
     #[test]
     fn the_worked_example_is_read_as_it_is_published() {
-        let oracle = Oracle::of_file(b"\x01\x07abbbaab\x04\0\0\x01\x03\x01\x01\x01\0").unwrap();
+        let oracle = Oracle::of_file(b"\x01\x07abbbaab\x04\0\0\x01\x03\x01\x01\x01\0", Kind::Factor).unwrap();
         assert_eq!(oracle.word(), b"abbbaab");
         assert_eq!(
             oracle.states().map(|x| oracle.extra(x)).collect::<Vec<_>>(),
@@ -69,5 +98,32 @@ mod tests {
             oracle.states().map(|x| oracle.supply(x)).collect::<Vec<_>>(),
             [None, Some(0), Some(0), Some(2), Some(3), Some(1), Some(1), Some(2)]
         );
+    }
+
+    /// The failure oracle of a word.
+    fn failure_oracle(word: &[u8]) -> Oracle {
+        let finds: Vec<u8> = word.iter().rev().copied().collect();
+        Oracle::of_file(&Mark::new(finds).unwrap().to_file().unwrap(), Kind::Failure).unwrap()
+    }
+
+    #[test]
+    fn so_are_those_of_the_failure_oracle() {
+        let oracle = failure_oracle(b"abcacdace");
+        assert_eq!(oracle.word(), b"abcacdace");
+        assert!(oracle.states().all(|x| oracle.extra(x).is_empty() && oracle.supply(x).is_none()));
+        let failures = oracle.states().filter_map(|x| oracle.failure(x).map(|to| (x, to)));
+        assert_eq!(failures.collect::<Vec<_>>(), [(0, 1), (1, 2), (2, 5), (3, 5), (5, 8)]);
+        let with_a_circle = failure_oracle(b"abadbcaabdbaba");
+        let extra = with_a_circle.states().flat_map(|x| with_a_circle.extra(x).into_iter().map(move |to| (x, to)));
+        assert_eq!(extra.collect::<Vec<_>>(), [(13, 13)]);
+    }
+
+    #[test]
+    fn slots_are_followed_from_the_newest_to_the_oldest() {
+        let mut table = vec![0; 10 * 3];
+        // state 1 has slots 2 and 1, which lead to 2 and 1
+        (table[2 * 3 + 1], table[3 * 3 + 2], table[4 * 3 + 2], table[4 * 3 + 1]) = (2, 1, 2, 1);
+        let oracle = Oracle { table, m: 2, kind: Kind::Failure };
+        assert_eq!(oracle.states().map(|x| oracle.extra(x)).collect::<Vec<_>>(), [vec![], vec![1, 2], vec![]]);
     }
 }

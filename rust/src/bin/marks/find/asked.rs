@@ -74,6 +74,7 @@ fn engine(words: &Words) -> Engine {
     match words.value_of("engine").and_then(OsStr::to_str) {
         Some("backward") => Engine::Backward,
         Some("turbo") => Engine::Turbo,
+        Some("failure") => Engine::Failure,
         _ => Engine::Auto,
     }
 }

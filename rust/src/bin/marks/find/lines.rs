@@ -54,6 +54,8 @@ pub struct Stats {
     pub found: u64,
     pub bytes: u64,
     pub letters: u64,
+    /// The failure arrows that were taken, by the engine that has them.
+    pub failures: Option<u64>,
 }
 
 /// The answers about one file, as lines.
@@ -94,9 +96,10 @@ impl<'a> Lines<'a> {
 
     /// What the search took, as an object.
     pub fn stats(&self, stats: Stats, out: &mut Vec<u8>) {
-        let Stats { found, bytes, letters } = stats;
+        let Stats { found, bytes, letters, failures } = stats;
+        let failures = failures.map(|failures| format!(",\"failures\":{failures}")).unwrap_or_default();
         out.extend(&self.front);
-        out.extend(format!("\"found\":{found},\"bytes\":{bytes},\"letters\":{letters}}}\n").bytes());
+        out.extend(format!("\"found\":{found},\"bytes\":{bytes},\"letters\":{letters}{failures}}}\n").bytes());
     }
 
     /// A number on a line, in an object under its name.
@@ -120,8 +123,9 @@ fn named(name: &OsStr, style: &Style, end: u8) -> Vec<u8> {
 
 /// What a search took, for a person: letters that were read again count again.
 pub fn told(name: &OsStr, stats: Stats) -> String {
-    let Stats { found, bytes, letters } = stats;
+    let Stats { found, bytes, letters, failures } = stats;
     let each = letters as f64 / bytes.max(1) as f64;
     let (name, bytes, letters) = (names::shown(name), counted(bytes, "byte"), counted(letters, "letter"));
-    format!("{name}: found {found} in {bytes}; {letters} read, {each:.2} a byte")
+    let failures = failures.map(|failures| format!("; {} taken", counted(failures, "failure arrow"))).unwrap_or_default();
+    format!("{name}: found {found} in {bytes}; {letters} read, {each:.2} a byte{failures}")
 }

@@ -2,7 +2,7 @@
 
 use super::lines::{told, Lines, Stats, Style};
 use crate::{input, names, output::Output, trouble::Trouble};
-use marks::{FindsIn, Mark};
+use marks::{Engine, FindsIn, Mark};
 use std::{
     ffi::OsStr,
     io::{self, ErrorKind, Read},
@@ -105,7 +105,8 @@ impl Answers<'_> {
             return Err(trouble(name, &error, finds.read()));
         }
         self.lines.end(self.found, &mut self.waiting);
-        let stats = Stats { found: self.found, bytes: finds.read(), letters: finds.letters() };
+        let failures = (finds.engine() == Engine::Failure).then(|| finds.failures());
+        let stats = Stats { found: self.found, bytes: finds.read(), letters: finds.letters(), failures };
         if self.style.stats && self.style.json {
             self.lines.stats(stats, &mut self.waiting);
         }

@@ -11,7 +11,7 @@ const ALL: &[&str] = &["find", "save", "check", "show", "help"];
 /// What an option has where nothing is said of it.
 const PLAIN: Known = Known { short: None, long: "", value: None, commands: &[], line: "", more: "" };
 
-pub static OPTIONS: [Known; 20] = [
+pub static OPTIONS: [Known; 21] = [
     Known {
         short: Some(b'x'),
         long: "hex",
@@ -80,8 +80,9 @@ pub static OPTIONS: [Known; 20] = [
         commands: FIND,
         line: "print each answer as a JSON object on a line",
         more: "A find is {\"file\":NAME,\"at\":OFFSET}, with -c a file {\"file\":NAME,\"count\":N}, with -l {\"file\":NAME}. With --stats \
-               there is for each file also {\"file\":NAME,\"found\":N,\"bytes\":N,\"letters\":N}, behind its answers. A name that is not \
-               UTF-8 is given in hex digits, as \"file_hex\" in the place of \"file\". Standard input is -.",
+               there is for each file also {\"file\":NAME,\"found\":N,\"bytes\":N,\"letters\":N}, behind its answers, with --engine \
+               failure \"failures\":N in it too. A name that is not UTF-8 is given in hex digits, as \"file_hex\" in the place of \
+               \"file\". Standard input is -.",
         ..PLAIN
     },
     Known {
@@ -91,14 +92,18 @@ pub static OPTIONS: [Known; 20] = [
         line: "how to search; without it, auto",
         more: "The finds are the same with each. Backward leaves most bytes of most files unread. Turbo reads some two letters for each \
                byte at most, however hostile the file is, and 18 where a pipe gives a few bytes at a time. Auto goes backward as long as \
-               that is fair, then over to turbo; for a word of more than 64 bytes it is turbo from the start.",
+               that is fair, then over to turbo; for a word of more than 64 bytes it is turbo from the start. Failure is there for its \
+               small automaton, the failure oracle, and for comparing: for a word of m bytes that repeats itself, making its table \
+               walks up to m*m/2 letters, 8.4 million for 4,096 bytes, for each part of a file again, and it may read m letters for each \
+               byte of a hostile file, as backward may.",
         ..PLAIN
     },
     Known {
         long: "stats",
         commands: FIND,
         line: "tell on standard error how many letters were read",
-        more: "Letters that were read again count again. With --json it is told on standard output.",
+        more: "Letters that were read again count again. With --engine failure the failure arrows that were taken are told too, \
+               which read no letter. With --json it is told on standard output.",
         ..PLAIN
     },
     Known {
@@ -111,6 +116,14 @@ pub static OPTIONS: [Known; 20] = [
         ..PLAIN
     },
     Known { long: "dot", commands: &["show"], line: "as Graphviz text: marks show --dot F | dot -Tsvg", ..PLAIN },
+    Known {
+        long: "failure",
+        commands: &["show"],
+        line: "the failure oracle of the same word",
+        more: "It is the automaton that find --engine failure walks. A state may have one failure arrow, taken only where no arrow on the \
+               letter leaves the state, and reading none. --dot draws these arrows dashed. It is not in the file: it is made of the word.",
+        ..PLAIN
+    },
     Known { short: Some(b'h'), long: "help", commands: ALL, line: "this help; -h is shorter than --help", ..PLAIN },
     Known { short: Some(b'V'), long: "version", commands: ALL, line: "print the version", ..PLAIN },
     Known {

@@ -12,7 +12,7 @@ pub const MARKFILE: Value = Value {
 
 pub const ENGINE: Value = Value {
     name: "NAME",
-    kind: Kind::OneOf(&["auto", "backward", "turbo"]),
+    kind: Kind::OneOf(&["auto", "backward", "turbo", "failure"]),
     missing: "no name follows it",
     advice: "",
     advice_of_two: "choose one",

@@ -1,0 +1,3 @@
+pub mod FailureBuild
+pub mod FailureSearch
+pub mod Cases

@@ -1,0 +1,5 @@
+pub mod States
+pub mod Readings
+pub mod Memory
+pub mod SoFar
+pub mod Theorems

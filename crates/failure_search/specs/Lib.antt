@@ -1,0 +1,2 @@
+pub mod Tallies
+pub mod Memory

@@ -1,0 +1,13 @@
+pub mod Lookups
+pub mod Slots
+pub mod LaidOut
+pub mod FailureLaid
+pub mod SymbolLaid
+pub mod ReadBack
+pub mod FailureFreedom
+pub mod Theorems
+pub mod Seeking
+pub mod Asking
+pub mod Repairs
+pub mod Suffixes
+pub mod Filling

@@ -1,0 +1,118 @@
+-- `failure_table::add_suffix` meets its contract: before each letter the table is as it was, and `Walking` holds; the four ways out of the
+-- walk are those of `Suffixes`. The measure is how many letters are left.
+use mathlib.Core.Path.{_≡_, refl, ap, _∙_}
+use Prim.Native.Nat.{_-_}
+use native.Mathlib.Omega.{arith}
+use lib.ListN.{length}
+use borrow.Author.Needs.{needs}
+use Rattle.failure_table.specs.Building.{wordIn}
+use Rattle.failure_table.proofs.Suffixes.{stage-formed, stage-size, stage-slots, last-state}
+use Rattle.failure_table.proofs.Suffixes.{Walking, walking-start, walking-goes, walking-lacks, walking-done, walking-spine}
+use Rattle.failure_table.proofs.add_suffix.Statement.{statement}
+use Rattle.failure_table.proofs.add_suffix.Tie as tie
+
+abbrev Inv-loop : tie.InvT-loop
+Inv-loop table₀ m used i k₀ x₀ table k x = (table ≡ table₀) × (Walking (wordIn table₀ m) i k (x .0))
+
+abbrev μ-loop : tie.MeasureT-loop
+μ-loop table₀ m used i k₀ x₀ table k x = m - k
+
+same-length : tie.Need-same-length Inv-loop μ-loop
+same-length c = ap length (c .before .before .before .loop .inv .0)
+
+returns : tie.Need-returns Inv-loop μ-loop
+returns c =
+    let at-loop-test = c .before .before in
+    let at-loop = at-loop-test .before in
+    let at-start = at-loop .before .before in
+    let same = at-loop .loop .inv .0 in
+    let more = at-loop-test .loop-test .taken in
+    rw same (walking-spine (at-start .pre .0) (at-loop .loop .inv .1) more (c .if1 .taken) (at-start .pre .1))
+
+slice-read-t16 : tie.Need-slice-read-t16 Inv-loop μ-loop
+slice-read-t16 c =
+    let at-loop-test = c .before .before .before in
+    let at-loop = at-loop-test .before in
+    let at-start = at-loop .before .before in
+    omega (arith, ap length (at-loop .loop .inv .0), stage-size (at-start .pre .0), at-loop-test .loop-test .taken)
+
+ask-requires : tie.Need-ask-requires Inv-loop μ-loop
+ask-requires c κs =
+    let at-loop = c .before .before .before .before .before in
+    let at-start = at-loop .before .before in
+    (rw (at-loop .loop .inv .0) (stage-formed (at-start .pre .0)), omega (arith, at-loop .loop .inv .1 .state, at-start .pre .0 .long))
+
+add-arrow-requires : tie.Need-add-arrow-requires Inv-loop μ-loop
+add-arrow-requires c κs =
+    let at-enum-told = c .before .before in
+    let at-ask = at-enum-told .before .before in
+    let at-loop-test = at-ask .before .before .before .before .before in
+    let at-loop = at-loop-test .before in
+    let at-start = at-loop .before .before in
+    let S = at-start .pre .0 in
+    let same = at-loop .loop .inv .0 in
+    let more = at-loop-test .loop-test .taken in
+    let says = rw same at (at-ask .ask .ensures) in
+    let state = last-state S (at-loop .loop .inv .1) more _ says (at-enum-told .enum-told .given .1) in
+    (S .small, state, more, stage-slots S, ap length same ∙ stage-size S)
+
+same-length-2 : tie.Need-same-length-2 Inv-loop μ-loop
+same-length-2 c =
+    let at-add-arrow = c .before .before in
+    let at-loop = at-add-arrow .before .before .before .before .before .before .before .before .before .before .before in
+    at-add-arrow .add-arrow .kept .0 ∙ ap length (at-loop .loop .inv .0)
+
+returns-2 : tie.Need-returns-2 Inv-loop μ-loop
+returns-2 c =
+    let at-add-arrow = c .before .before in
+    let at-enum-told = at-add-arrow .before .before .before in
+    let at-ask = at-enum-told .before .before in
+    let at-loop-test = at-ask .before .before .before .before .before in
+    let at-loop = at-loop-test .before in
+    let at-start = at-loop .before .before in
+    let same = at-loop .loop .inv .0 in
+    let more = at-loop-test .loop-test .taken in
+    let says = rw same at (at-ask .ask .ensures) in
+    let written = rw same at (at-add-arrow .add-arrow .ensures .1) in
+    walking-lacks (at-start .pre .0) (at-loop .loop .inv .1) more _ says (at-enum-told .enum-told .given .1) _ _ (at-start .pre .1)
+    (at-add-arrow .add-arrow .ensures .0) written
+
+loop-again : tie.Need-loop-again Inv-loop μ-loop
+loop-again c =
+    let at-found = c .before in
+    let at-ask = at-found .before .before in
+    let at-loop-test = at-ask .before .before .before .before .before in
+    let at-loop = at-loop-test .before in
+    let at-start = at-loop .before .before in
+    let same = at-loop .loop .inv .0 in
+    let more = at-loop-test .loop-test .taken in
+    let says = rw same at (at-ask .ask .ensures) in
+    (same, walking-goes (at-start .pre .0) (at-loop .loop .inv .1) more _ says _ (at-found .found .given .1))
+
+returns-3 : tie.Need-returns-3 Inv-loop μ-loop
+returns-3 c =
+    let at-loop = c .before in
+    let at-start = at-loop .before .before in
+    rw (at-loop .loop .inv .0) (walking-done (at-start .pre .0) (at-loop .loop .inv .1) (c .loop-test .left) (at-start .pre .1))
+
+pub add-suffix-spec : {M : Type 1} → statement M
+add-suffix-spec = tie.close (tie.spec
+    Inv-loop
+    μ-loop
+    (λ c. search needs)
+    (λ c. (refl, walking-start (c .before .pre .0)))
+    (λ c. search needs)
+    same-length
+    returns
+    (λ c. search needs) (λ c. search needs)
+    slice-read-t16
+    (λ c. search needs)
+    ask-requires
+    (λ c. search needs) (λ c. search needs)
+    add-arrow-requires
+    same-length-2
+    returns-2
+    (λ c. search needs) (λ c. search needs)
+    loop-again
+    (λ c. ap length (c .before .loop .inv .0))
+    returns-3)

@@ -1,0 +1,4 @@
+pub mod FailureTable
+pub mod FailureFormed
+pub mod FailureFreedom
+pub mod Building
