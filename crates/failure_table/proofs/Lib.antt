@@ -8,6 +8,7 @@ pub mod FailureFreedom
 pub mod Theorems
 pub mod Seeking
 pub mod Asking
+pub mod Sharing
 pub mod Repairs
 pub mod Suffixes
 pub mod Filling

@@ -32,7 +32,7 @@ use Rattle.failure_table.specs.declared.Answered.{Answered}
 use Rattle.failure_table.specs.FailureTable.{failureRoom, failureTableFrom, failureTable, readAsk}
 use Rattle.failure_table.specs.FailureFormed.{FailureFormed}
 use Rattle.failure_table.specs.FailureFreedom.{FailureSet}
-use Rattle.failure_table.specs.Building.{answeredAs, wordIn, withArrow, slotsWith, Stage}
+use Rattle.failure_table.specs.Building.{answeredAs, wordIn, withArrow, slotsWith, Stage, Along}
 use Rattle.failure_table.proofs.LaidOut.{LaidOut, laid-word}
 use Rattle.failure_table.proofs.ReadBack.{laid, added-set, laid-formed, steps-read}
 use Rattle.failure_table.proofs.Repairs.{with-failure, with-symbol}
@@ -118,11 +118,11 @@ module _ {p : Word} {m : ℕ} {L : List ℕ} {u i : ℕ} (S : Stage p m L u i) w
   byteOf k = at L (k + 1) % 256
 
   -- its letters are the word's
+  stage-entry : (k : ℕ) → k < m → at L (k + 1) ≡ letter p k
+  stage-entry k h = let e : k + 1 ≡ suc k = omega arith in rw e (laid-here .letters (suc k) (omega arith))
+
   stage-letter : (k : ℕ) → k < m → byteOf k ≡ letter p k
-  stage-letter k h =
-      let e : k + 1 ≡ suc k = omega arith in
-      let q : at L (k + 1) ≡ letter p k = rw e (laid-here .letters (suc k) (omega arith)) in
-      rw q (mod-eq-of-lt (S .letters k))
+  stage-letter k h = rw (stage-entry k h) (mod-eq-of-lt (S .letters k))
 
   -- what is to be shown of the table behind suffix i + 1
   stage-next : (A′ : FailureArrows) {L′ : List ℕ} {u′ : ℕ} → i + 1 < m → afterSuffix p (suc i) ≡ A′
@@ -143,6 +143,33 @@ module _ {p : Word} {m : ℕ} {L : List ℕ} {u i : ℕ} (S : Stage p m L u i) w
   walking-start =
       let e : i + 1 ≡ suc i = omega arith in
       record { within = omega arith; state = omega arith; same = rw e refl }
+
+  -- ── Along the spine ──────────────────────────────────────────────────────
+
+  walking-on : {k : ℕ} {x : State} → Walking p i k x → (n : ℕ) → x + n ≤ m → k + n < m
+      → ((j : ℕ) → j < n → at L (x + 1 + j) ≡ at L (k + 1 + j)) → Walking p i (k + n) (x + n)
+  walking-on {k} {x} W zero h l alike =
+      let c : k + 0 ≡ k = omega arith in
+      let d : x + 0 ≡ x = omega arith in
+      rw (c, d) W
+  walking-on {k} {x} W (suc n) h l alike =
+      let before = walking-on W n (omega arith) (omega arith) (λ j g. alike j (omega arith)) in
+      let a : x + 1 + n ≡ x + n + 1 = omega arith in
+      let b : k + 1 + n ≡ k + n + 1 = omega arith in
+      let one : letter p (x + n) ≡ letter p (k + n) =
+      sym (stage-entry (x + n) (omega arith)) ∙ (rw (a, b) at (alike n (omega arith))) ∙ stage-entry (k + n) (omega arith) in
+      let there = rw one at (both-spine p one-by-one (x + n) (omega arith)) in
+      let c : k + suc n ≡ suc (k + n) = omega arith in
+      let d : x + suc n ≡ suc (x + n) = omega arith in
+      record {
+        within = omega arith;
+        state = omega arith;
+        same = rw (c, d) (before .same ∙ far-goes δ p (x + n) (suc (x + n)) (k + n) (omega arith) there);
+      }
+
+  -- the letters that the spine has are walked along it
+  pub walking-along : {k n : ℕ} {x : State} → Walking p i k x → Along L m x k n → Walking p i (k + n) (x + n)
+  walking-along W a = walking-on W _ (a .state) (a .inside) (a .alike)
 
   -- ── A letter more ────────────────────────────────────────────────────────
 

@@ -3,11 +3,11 @@
 ghost use mathlib.Core.Path.{_≡_};
 ghost use Prim.Native.Nat.{_+_, _*_, _<_, _≤_};
 ghost use lib.ListN.{length};
-ghost use Rattle.words.specs.Words.{mirror};
+ghost use Rattle.words.specs.Words.{mirror, same};
 ghost use Rattle.words.specs.Answers.{arrowTo};
 ghost use Rattle.failure_table.specs.FailureTable.{wordAlone, failureTable, readSymbol, readAsk};
 ghost use Rattle.failure_table.specs.FailureFormed.{FailureFormed};
-ghost use Rattle.failure_table.specs.Building.{answeredAs, wordIn, withArrow, slotsWith, Stage};
+ghost use Rattle.failure_table.specs.Building.{answeredAs, wordIn, withArrow, slotsWith, Stage, Shared, Along};
 
 // Where a letter leads, the last state that was asked for it, and the failure arrows taken.
 pub struct Answered {
@@ -15,6 +15,9 @@ pub struct Answered {
     pub last: words::State,
     pub taken: usize,
 }
+
+// How many letters are compared at a time.
+const BLOCK: usize = 32;
 
 // The symbol arrow from x on c.
 fn symbol(table: &[u16], m: usize, x: words::State, c: words::Letter) -> words::Leads
@@ -90,6 +93,75 @@ fn add_arrow(table: &mut [u16], m: usize, used: usize, x: words::State, k: usize
     slot
 }
 
+// Whether two rows are the same. All entries are looked at, so that the compiler can take many at a time.
+fn same_row(a: &[u16], b: &[u16]) -> bool
+    requires { ⌜ (length (now a) ≡ length (now b)) × (length (now a) < 65536) ⌝ }
+    ensures { λ r. ⌜ r ≡ same (now (a .entry)) (now (b .entry)) ⌝ }
+{
+    let mut equal: u16 = 0;
+    let mut i = 0;
+    while i < a.len() {
+        let x = a[i];
+        let y = b[i];
+        if x == y {
+            equal += 1;
+        }
+        i += 1;
+    }
+    (equal as usize) == a.len()
+}
+
+// How many first entries two rows surely share: in blocks, and then one by one.
+fn shared_blocks(a: &[u16], b: &[u16]) -> usize
+    requires { ⌜ length (now a) ≡ length (now b) ⌝ }
+    ensures { λ r. ⌜ Shared (now (a .entry)) (now (b .entry)) r ⌝ }
+{
+    let mut n = 0;
+    while n + BLOCK <= a.len() {
+        let end = n + BLOCK;
+        if !same_row(&a[n..end], &b[n..end]) {
+            return n;
+        }
+        n = end;
+    }
+    n
+}
+
+fn shared(a: &[u16], b: &[u16]) -> usize
+    requires { ⌜ length (now a) ≡ length (now b) ⌝ }
+    ensures { λ r. ⌜ Shared (now (a .entry)) (now (b .entry)) r ⌝ }
+{
+    let mut n = shared_blocks(a, b);
+    while n < a.len() {
+        let x = a[n];
+        let y = b[n];
+        if x != y {
+            return n;
+        }
+        n += 1;
+    }
+    n
+}
+
+// The fewer of two numbers.
+fn fewer(a: usize, b: usize) -> usize
+    ensures { λ r. ⌜ (r ≤ a) × (r ≤ b) ⌝ }
+{
+    if a < b {
+        return a;
+    }
+    b
+}
+
+// How far a walk that is at x with the letters up to k spelled goes along the spine, the word's last letter left out.
+fn along(table: &[u16], m: usize, x: usize, k: usize) -> usize
+    requires { ⌜ (m < length (now table)) × (x ≤ m) × (k < m) ⌝ }
+    ensures { λ r. ⌜ Along (now (table .entry)) m x k r ⌝ }
+{
+    let most = fewer(m - x, m - 1 - k);
+    shared(&table[x + 1..x + 1 + most], &table[k + 1..k + 1 + most])
+}
+
 // Walks the suffix behind the first i + 1 letters, and adds the arrow that it lacks. In the state that has spelled as many letters as the
 // walk, the rest is the spine.
 fn add_suffix(table: &mut [u16], m: usize, used: usize, i: usize) -> usize
@@ -99,18 +171,21 @@ fn add_suffix(table: &mut [u16], m: usize, used: usize, i: usize) -> usize
     let mut k = i + 1;
     let mut x = words::State(0);
     while k < m {
-        if (x.0 as usize) == k {
+        let from = x.0 as usize;
+        if from == k {
             return used;
         }
-        let c = words::Letter((table[k + 1] % 256) as u8);
-        let s = ask(table, m, x, c);
+        let run = along(table, m, from, k);
+        let end = k + run;
+        let c = words::Letter((table[end + 1] % 256) as u8);
+        let s = ask(table, m, words::State((from + run) as u16), c);
         let found = s.leads;
         let words::Leads::To(y) = found else {
             let last = s.last;
-            return add_arrow(table, m, used, last, k);
+            return add_arrow(table, m, used, last, end);
         };
         x = y;
-        k += 1;
+        k = end + 1;
     }
     used
 }

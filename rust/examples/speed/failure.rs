@@ -93,6 +93,14 @@ fn thue_morse(m: usize) -> Vec<u8> {
     (0..m).map(|i| b'a' + (i.count_ones() % 2) as u8).collect()
 }
 
+/// A word that was found by changing letters at random, and keeping what took more steps: its ends leave the spine at almost every letter.
+fn chosen(m: usize) -> Vec<u8> {
+    let front = b"bcdaacaaccbacabadcacaccacaacacacaaccacaacac";
+    let mut word: Vec<u8> = front.iter().chain(b"ac".iter().cycle()).take(m - 1).copied().collect();
+    word.push(b'c');
+    word
+}
+
 fn random_words(m: usize, letters: u64) -> Vec<Vec<u8>> {
     (0..WORDS).map(|i| Random(88172645463325252 + i).bytes(m, letters)).collect()
 }
@@ -126,13 +134,14 @@ const RANDOM: [Kind; 3] = [
     ("random, 256 letters", |m| random_words(m, 256)),
 ];
 
-const REPEATING: [Kind; 6] = [
+const REPEATING: [Kind; 7] = [
     ("a, m times", |m| vec![vec![b'a'; m]]),
     ("a, then b", |m| vec![[&vec![b'a'; m - 1][..], b"b"].concat()]),
     ("b, then a, then c", |m| vec![[b"b", &vec![b'a'; m - 2][..], b"c"].concat()]),
     ("ab over and over", |m| vec![b"ab".repeat(m / 2)]),
     ("Fibonacci", |m| vec![fibonacci(m)]),
     ("Thue-Morse", |m| vec![thue_morse(m)]),
+    ("chosen", |m| vec![chosen(m)]),
 ];
 
 /// Prints the two lines of each kind of words. How often the time of 1,024 letters `failure_build` and `build` take for 4,096.

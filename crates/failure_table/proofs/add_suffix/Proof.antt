@@ -1,5 +1,5 @@
--- `failure_table::add_suffix` meets its contract: before each letter the table is as it was, and `Walking` holds; the four ways out of the
--- walk are those of `Suffixes`. The measure is how many letters are left.
+-- `failure_table::add_suffix` meets its contract: before each letter the table is as it was, and `Walking` holds; it holds too after the
+-- letters that are along the spine. The four ways out of the walk are those of `Suffixes`. The measure is how many letters are left.
 use mathlib.Core.Path.{_≡_, refl, ap, _∙_}
 use Prim.Native.Nat.{_-_}
 use native.Mathlib.Omega.{arith}
@@ -7,7 +7,7 @@ use lib.ListN.{length}
 use borrow.Author.Needs.{needs}
 use Rattle.failure_table.specs.Building.{wordIn}
 use Rattle.failure_table.proofs.Suffixes.{stage-formed, stage-size, stage-slots, last-state}
-use Rattle.failure_table.proofs.Suffixes.{Walking, walking-start, walking-goes, walking-lacks, walking-done, walking-spine}
+use Rattle.failure_table.proofs.Suffixes.{Walking, walking-start, walking-along, walking-goes, walking-lacks, walking-done, walking-spine}
 use Rattle.failure_table.proofs.add_suffix.Statement.{statement}
 use Rattle.failure_table.proofs.add_suffix.Tie as tie
 
@@ -22,44 +22,58 @@ same-length c = ap length (c .before .before .before .loop .inv .0)
 
 returns : tie.Need-returns Inv-loop μ-loop
 returns c =
-    let at-loop-test = c .before .before in
-    let at-loop = at-loop-test .before in
+    let at-in = c .before .before in
+    let at-loop = at-in .before in
     let at-start = at-loop .before .before in
     let same = at-loop .loop .inv .0 in
-    let more = at-loop-test .loop-test .taken in
-    rw same (walking-spine (at-start .pre .0) (at-loop .loop .inv .1) more (c .if1 .taken) (at-start .pre .1))
+    rw same (walking-spine (at-start .pre .0) (at-loop .loop .inv .1) (at-in .loop-test .taken) (c .if1 .taken) (at-start .pre .1))
 
-slice-read-t16 : tie.Need-slice-read-t16 Inv-loop μ-loop
-slice-read-t16 c =
-    let at-loop-test = c .before .before .before in
-    let at-loop = at-loop-test .before in
-    let at-start = at-loop .before .before in
-    omega (arith, ap length (at-loop .loop .inv .0), stage-size (at-start .pre .0), at-loop-test .loop-test .taken)
+along-requires : tie.Need-along-requires Inv-loop μ-loop
+along-requires c κs =
+    let at-in = c .before .before .before in
+    let at-loop = at-in .before in
+    let S = at-loop .before .before .pre .0 in
+    let size = ap length (at-loop .loop .inv .0) ∙ stage-size S in
+    (omega (arith, size), omega (arith, at-loop .loop .inv .1 .state, S .long), at-in .loop-test .taken)
+
+slice-read-t21 : tie.Need-slice-read-t21 Inv-loop μ-loop
+slice-read-t21 c =
+    let at-along = c .before in
+    let at-loop = at-along .before .before .before .before .before in
+    let size = ap length (at-loop .loop .inv .0) ∙ stage-size (at-loop .before .before .pre .0) in
+    omega (arith, size, at-along .along .ensures .inside)
+
+cast-t21 : tie.Need-cast-t21 Inv-loop μ-loop
+cast-t21 c =
+    let at-along = c .before .before in
+    let at-loop = at-along .before .before .before .before .before in
+    omega (arith, at-along .along .ensures .state, at-loop .before .before .pre .0 .small)
 
 ask-requires : tie.Need-ask-requires Inv-loop μ-loop
 ask-requires c κs =
-    let at-loop = c .before .before .before .before .before in
-    let at-start = at-loop .before .before in
-    (rw (at-loop .loop .inv .0) (stage-formed (at-start .pre .0)), omega (arith, at-loop .loop .inv .1 .state, at-start .pre .0 .long))
+    let at-along = c .before .before in
+    let at-loop = at-along .before .before .before .before .before in
+    let S = at-loop .before .before .pre .0 in
+    (rw (at-loop .loop .inv .0) (stage-formed S), at-along .along .ensures .state)
 
 add-arrow-requires : tie.Need-add-arrow-requires Inv-loop μ-loop
 add-arrow-requires c κs =
     let at-enum-told = c .before .before in
     let at-ask = at-enum-told .before .before in
-    let at-loop-test = at-ask .before .before .before .before .before in
-    let at-loop = at-loop-test .before in
-    let at-start = at-loop .before .before in
-    let S = at-start .pre .0 in
+    let at-along = at-ask .before .before .before in
+    let at-loop = at-along .before .before .before .before .before in
+    let S = at-loop .before .before .pre .0 in
     let same = at-loop .loop .inv .0 in
-    let more = at-loop-test .loop-test .taken in
+    let along = rw same at (at-along .along .ensures) in
     let says = rw same at (at-ask .ask .ensures) in
-    let state = last-state S (at-loop .loop .inv .1) more _ says (at-enum-told .enum-told .given .1) in
-    (S .small, state, more, stage-slots S, ap length same ∙ stage-size S)
+    let state = last-state S (walking-along S (at-loop .loop .inv .1) along) (along .inside) _ says (at-enum-told .enum-told .given .1) in
+    (S .small, state, along .inside, stage-slots S, ap length same ∙ stage-size S)
 
 same-length-2 : tie.Need-same-length-2 Inv-loop μ-loop
 same-length-2 c =
     let at-add-arrow = c .before .before in
-    let at-loop = at-add-arrow .before .before .before .before .before .before .before .before .before .before .before in
+    let at-ask = at-add-arrow .before .before .before .before .before in
+    let at-loop = at-ask .before .before .before .before .before .before .before .before in
     at-add-arrow .add-arrow .kept .0 ∙ ap length (at-loop .loop .inv .0)
 
 returns-2 : tie.Need-returns-2 Inv-loop μ-loop
@@ -67,27 +81,28 @@ returns-2 c =
     let at-add-arrow = c .before .before in
     let at-enum-told = at-add-arrow .before .before .before in
     let at-ask = at-enum-told .before .before in
-    let at-loop-test = at-ask .before .before .before .before .before in
-    let at-loop = at-loop-test .before in
+    let at-along = at-ask .before .before .before in
+    let at-loop = at-along .before .before .before .before .before in
     let at-start = at-loop .before .before in
+    let S = at-start .pre .0 in
     let same = at-loop .loop .inv .0 in
-    let more = at-loop-test .loop-test .taken in
+    let along = rw same at (at-along .along .ensures) in
     let says = rw same at (at-ask .ask .ensures) in
     let written = rw same at (at-add-arrow .add-arrow .ensures .1) in
-    walking-lacks (at-start .pre .0) (at-loop .loop .inv .1) more _ says (at-enum-told .enum-told .given .1) _ _ (at-start .pre .1)
-    (at-add-arrow .add-arrow .ensures .0) written
+    walking-lacks S (walking-along S (at-loop .loop .inv .1) along) (along .inside) _ says (at-enum-told .enum-told .given .1) _ _
+    (at-start .pre .1) (at-add-arrow .add-arrow .ensures .0) written
 
 loop-again : tie.Need-loop-again Inv-loop μ-loop
 loop-again c =
     let at-found = c .before in
     let at-ask = at-found .before .before in
-    let at-loop-test = at-ask .before .before .before .before .before in
-    let at-loop = at-loop-test .before in
-    let at-start = at-loop .before .before in
+    let at-along = at-ask .before .before .before in
+    let at-loop = at-along .before .before .before .before .before in
+    let S = at-loop .before .before .pre .0 in
     let same = at-loop .loop .inv .0 in
-    let more = at-loop-test .loop-test .taken in
+    let along = rw same at (at-along .along .ensures) in
     let says = rw same at (at-ask .ask .ensures) in
-    (same, walking-goes (at-start .pre .0) (at-loop .loop .inv .1) more _ says _ (at-found .found .given .1))
+    (same, walking-goes S (walking-along S (at-loop .loop .inv .1) along) (along .inside) _ says _ (at-found .found .given .1))
 
 returns-3 : tie.Need-returns-3 Inv-loop μ-loop
 returns-3 c =
@@ -104,9 +119,11 @@ add-suffix-spec = tie.close (tie.spec
     (λ c. search needs)
     same-length
     returns
+    along-requires
+    (λ c. search needs) (λ c. search needs) (λ c. search needs)
+    slice-read-t21
     (λ c. search needs) (λ c. search needs)
-    slice-read-t16
-    (λ c. search needs)
+    cast-t21
     ask-requires
     (λ c. search needs) (λ c. search needs)
     add-arrow-requires
