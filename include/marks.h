@@ -7,7 +7,7 @@
  *
  * Which search: marks_turbo where strangers choose the text or the mark, as it reads no more than two letters for each letter of the text. marks_search
  * where you know both, as it is quicker on most texts, where letters are many up to five and a half times, but may read m letters for each of a hostile one.
- * marks_failure_search is there for its small automaton and for comparing: never for strangers, as it may read m letters for each of a hostile text, too, and
+ * marks_failure_search is there for its fewer arrows and for comparing: never for strangers, as it may read m letters for each of a hostile text, too, and
  * its table alone takes up to m*m/2 letters to make, for a word that repeats itself.
  *
  * Any bytes and any lengths may be handed to every entry. It returns MARKS_OK and writes its answers through the last pointers; or it refuses: it returns
@@ -44,7 +44,7 @@ enum {
     MARKS_OK = 0,            /* done */
     MARKS_EMPTY_WORD = 1,    /* the word is empty */
     MARKS_LONG_WORD = 2,     /* the word is longer than 4,096 bytes, or for a stream than 64 */
-    MARKS_SHORT_ROOM = 3,    /* too little room is lent: 6(m+1) table entries, 10(m+1) for a failure oracle, m bytes too for a file, 134 for a stream */
+    MARKS_SHORT_ROOM = 3,    /* too little room lent: m letters need 6(m+1) table entries, a failure oracle 10(m+1), a file m bytes too, a stream 134 */
     MARKS_LONG_TEXT = 4,     /* the text is longer than 16,777,216 bytes, or the stream would be with this piece */
     MARKS_CUT_FILE = 5,      /* the file ends before or inside a number, or before the last of its letters */
     MARKS_BAD_NUMBER = 6,    /* a number in the file is misspelled: the last of its several groups is zero, or its fifth byte is above 15 */
@@ -65,7 +65,7 @@ static inline const char *marks_meaning(uint32_t said)
     case MARKS_OK: return "done";
     case MARKS_EMPTY_WORD: return "the word is empty";
     case MARKS_LONG_WORD: return "the word is longer than 4,096 bytes, or for a stream than 64";
-    case MARKS_SHORT_ROOM: return "too little room is lent: 6(m+1) table entries, 10(m+1) for a failure oracle, m bytes too for a file, 134 for a stream";
+    case MARKS_SHORT_ROOM: return "too little room lent: m letters need 6(m+1) table entries, a failure oracle 10(m+1), a file m bytes too, a stream 134";
     case MARKS_LONG_TEXT: return "the text is longer than 16,777,216 bytes, or the stream would be with this piece";
     case MARKS_CUT_FILE: return "the file ends before or inside a number, or before the last of its letters";
     case MARKS_BAD_NUMBER: return "a number in the file is misspelled: the last of its several groups is zero, or its fifth byte is above 15";
@@ -153,7 +153,7 @@ MARKS_CHECKED uint32_t marks_failure_build(const uint8_t *word, size_t word_len,
 /* As marks_search, with the failure oracle: the same places and the same list. The first MARKS_FAILURE_TABLES(m) entries of tables get the table of the
  * failure oracle of the word's mirror. The answers are how many places there are, how many letters were read, at most m(n-m+1) for a text of n, and how many
  * failure arrows were taken, which are counted apart, at most m for each letter read. It makes its table anew in each call, as marks_failure_build does, and
- * may read m letters for each place of a hostile text: it is there for its small automaton and for comparing.
+ * may read m letters for each place of a hostile text: it is there for its fewer arrows and for comparing.
  * Refusals: 1, 2, 4, 3 (fewer than MARKS_FAILURE_TABLES(m) entries). They change nothing. */
 MARKS_CHECKED uint32_t marks_failure_search(const uint8_t *word, size_t word_len, const uint8_t *text, size_t text_len, uint16_t *tables, size_t tables_len,
                                             uint32_t *finds, size_t finds_len, uint64_t *count, uint64_t *letters, uint64_t *failures);

@@ -166,7 +166,7 @@
      slip 179: the failure search counts finds as far as they fit
      slip 180: the failure search answers beside 4
      slip 181: the failure search exchanges its two counts
-   slip 31, slip 32, slip 67, slip 68, slip 69, slip 84, slip 85, slip 116 to slip 120, slip 140 to slip 144 and slip 182 to slip 189 stand in
+   slip 31, slip 32, slip 67, slip 68, slip 69, slip 84, slip 85, slip 116 to slip 120, slip 140 to slip 144 and slip 182 to slip 190 stand in
    compare.c, slip 33, slip 34 and slip 70 in fuzz.c. */
 #include "second.h"
 

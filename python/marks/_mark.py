@@ -26,8 +26,9 @@ class Mark:
     The time is linear whatever the text: a mark leaves most bytes of most texts unread, and where one turns out to be hostile goes over to
     a search that reads at most two letters for each. That is the engine "auto". "turbo" is for texts of which each has to be linear by
     itself, however short, "backward" for words and texts that you know. The finds are the same with each. "failure" walks the failure
-    oracle, and is there for its small automaton and for comparing: of a word of m bytes that repeats itself up to m*m/2 letters are
-    walked to make its table, 8.4 million for 4,096 bytes, for each part of a text again, and of a hostile text it may read m letters for each place.
+    oracle, and is there for its fewer arrows and for comparing: of a word of m bytes that repeats itself up to m*m/2 letters are walked
+    to make its table, 8.4 million for 4,096 bytes, for each part of a text again, and of a hostile text it may read m letters for each
+    place.
     """
 
     __slots__ = ("_word", "_engine")

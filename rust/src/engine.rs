@@ -11,7 +11,7 @@ const MOST_TRIED: usize = 4_194_304;
 
 /// How many places the first part of a text has for [`Engine::Auto`]: it tells whether the text is hostile, and how many finds the rest may have. For the
 /// other engines, and so for words that are not tried backward, so many for each letter of the word: then the table of a long word, which is made for each
-/// part, does not show.
+/// part, does not show, but for that of the failure oracle.
 const FIRST_TRIED: usize = 4_096;
 const FIRST_FOR_A_LETTER: usize = 16_384;
 
@@ -22,8 +22,8 @@ const FAIR: u64 = 2;
 /// repeat themselves as the word does, like zeros where the word is 4,096 zeros.
 ///
 /// Stay with [`Auto`](Engine::Auto), and nobody has to know. [`Turbo`](Engine::Turbo) is for strangers' texts and marks where each text has to be linear by
-/// itself, however short; [`Backward`](Engine::Backward) is for texts and marks that you know. [`Failure`](Engine::Failure) is there for its small
-/// automaton and for comparing.
+/// itself, however short; [`Backward`](Engine::Backward) is for texts and marks that you know. [`Failure`](Engine::Failure) is there for its fewer
+/// arrows and for comparing.
 ///
 /// ```
 /// use marks::{Engine, Mark};
@@ -51,7 +51,7 @@ pub enum Engine {
     /// most texts the backward search is quicker, where letters are many up to five and a half times.
     Turbo,
     /// Backward too, with the failure oracle of the word's mirror: in it a state may have one failure arrow, taken only where no arrow on the letter leaves the
-    /// state, and consuming no letter. It is there for its small automaton and for comparing, and not for texts or marks of strangers.
+    /// state, and consuming no letter. It is there for its fewer arrows and for comparing, and not for texts or marks of strangers.
     ///
     /// To make its table, up to m*m/2 letters are walked of a word of m letters that repeats itself, 8.4 million for 4,096 letters, and it is made again for
     /// each part of a text. Of a hostile text it may read m letters for each place, as the backward search. Failure arrows are counted apart from the letters:

@@ -11,7 +11,8 @@ use std::{
 ///
 /// What one read gives is searched at once, so that finds are known as soon as they are there, also where a source is slow; a mark of more than 8 letters
 /// waits for an eighth as many bytes as it has letters. So even one that gives a byte at a time, to do harm, makes [`Engine::Turbo`] read 18 letters for each
-/// byte at most; in reads of some length it is two, and those that two reads have in common again.
+/// byte at most; in reads of some length it is two, and those that two reads have in common again. [`Engine::Failure`] makes its
+/// table again for each of these reads.
 ///
 /// Memory is flat: some 320 KiB for a short word, 2.3 MiB for the longest, however much is read and found. Where a read fails, the finds before it come
 /// first, then the error, and then nothing more.

@@ -165,12 +165,15 @@ module _ (σ : Asking) (b : ℕ) (few : (x : State) (c : Letter) → σ x c .tak
       let here = few x (letter t (s + k)) in
       option-cases (σ x (letter t (s + k)) .to)
       (λ e. rw (both-fails σ t s k x e) (omega (arith, mul-one b)))
-      (λ y e. let rest = readBoth σ t s k y in rw (both-goes σ t s k x y e) (omega (arith, both-failures-most s k y, mul-suc b (rest .letters))))
+      (λ y e.
+      let rest = readBoth σ t s k y in
+      rw (both-goes σ t s k x y e) (omega (arith, both-failures-most s k y, mul-suc b (rest .letters))))
 
   -- and so do all windows
   pub steps-failures-most : (w : Word) → failureStepsWith σ w t .failures ≤ b * failureStepsWith σ w t .letters
   unfolding failureStepsWith
-  steps-failures-most w = windows-induction σ w t (λ s r. r .failures ≤ b * r .letters) (λ s l. omega arith) one (suc (length t)) 0 (omega arith)
+  steps-failures-most w =
+      windows-induction σ w t (λ s r. r .failures ≤ b * r .letters) (λ s l. omega arith) one (suc (length t)) 0 (omega arith)
     where
       one : (s : Place) (later : FailureSweep) → s + length w ≤ length t → later .failures ≤ b * later .letters
           → with-window σ w t s later .failures ≤ b * with-window σ w t s later .letters

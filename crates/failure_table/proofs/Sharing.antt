@@ -16,7 +16,7 @@ use borrow.Author.Tests.{eq-eqb, ne-eqb}
 use Rattle.words.specs.Lists.{at}
 use Rattle.words.specs.Words.{part, same}
 use Rattle.words.proofs.Words.{same-true, same-refl, part-at}
-use Rattle.failure_table.specs.Building.{Shared, Along}
+use Rattle.failure_table.specs.Building.{Shared, AlongSpine}
 
 -- of the first i entries n are the same
 pub record Counted (a b : List ℕ) (n i : ℕ) : Type 0 where
@@ -78,7 +78,7 @@ module _ {a b : List ℕ} {n : ℕ} (S : Shared a b n) where
 
 -- the letters behind the first k that are shared with those from state x on, where so many of each are within the word
 pub along-shared : (L : List ℕ) (m x k most : ℕ) {n : ℕ} → x + most ≤ m → k + most < m
-    → Shared (part L (x + 1) (x + 1 + most - (x + 1))) (part L (k + 1) (k + 1 + most - (k + 1))) n → Along L m x k n
+    → Shared (part L (x + 1) (x + 1 + most - (x + 1))) (part L (k + 1) (k + 1 + most - (k + 1))) n → AlongSpine L m x k n
 along-shared L m x k most {n} h l S =
     let few : n ≤ most = omega (arith, simp length-take at (S .inside)) in
     let a = x + 1 + most - (x + 1) in

@@ -32,7 +32,7 @@ use Rattle.failure_table.specs.declared.Answered.{Answered}
 use Rattle.failure_table.specs.FailureTable.{failureRoom, failureTableFrom, failureTable, readAsk}
 use Rattle.failure_table.specs.FailureFormed.{FailureFormed}
 use Rattle.failure_table.specs.FailureFreedom.{FailureSet}
-use Rattle.failure_table.specs.Building.{answeredAs, wordIn, withArrow, slotsWith, Stage, Along}
+use Rattle.failure_table.specs.Building.{answeredAs, wordIn, withArrow, slotsWith, Stage, AlongSpine}
 use Rattle.failure_table.proofs.LaidOut.{LaidOut, laid-word}
 use Rattle.failure_table.proofs.ReadBack.{laid, added-set, laid-formed, steps-read}
 use Rattle.failure_table.proofs.Repairs.{with-failure, with-symbol}
@@ -168,7 +168,7 @@ module _ {p : Word} {m : ℕ} {L : List ℕ} {u i : ℕ} (S : Stage p m L u i) w
       }
 
   -- the letters that the spine has are walked along it
-  pub walking-along : {k n : ℕ} {x : State} → Walking p i k x → Along L m x k n → Walking p i (k + n) (x + n)
+  pub walking-along : {k n : ℕ} {x : State} → Walking p i k x → AlongSpine L m x k n → Walking p i (k + n) (x + n)
   walking-along W a = walking-on W _ (a .state) (a .inside) (a .alike)
 
   -- ── A letter more ────────────────────────────────────────────────────────

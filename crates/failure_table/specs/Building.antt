@@ -5,7 +5,7 @@
 --   withArrow L n u x k  L with the arrow that a walk lacks which is stuck at x with the letters up to k spelled, u slots being used
 --   slotsWith u x k      how many slots are used then
 --   Shared a b n         the first n entries of a and b are the same
---   Along L m x k n      the n letters behind the first k are those of the spine from state x on, all below the word's last
+--   AlongSpine L m x k n the n letters behind the first k are those of the spine from state x on, all below the word's last
 --   Stage p m L u i      L is the table of the arrows of the suffixes 1 to i over p, which has m letters; u of them are in slots
 --
 -- 02, 'Failure oracle'.
@@ -39,7 +39,7 @@ pub record Shared (a b : List ℕ) (n : ℕ) : Type 0 where
   pub inside : n ≤ length a
   pub alike : (j : ℕ) → j < n → at a j ≡ at b j
 
-pub record Along (L : List ℕ) (m x k n : ℕ) : Type 0 where
+pub record AlongSpine (L : List ℕ) (m x k n : ℕ) : Type 0 where
   pub state : x + n ≤ m
   pub inside : k + n < m
   pub alike : (j : ℕ) → j < n → at L (x + 1 + j) ≡ at L (k + 1 + j)

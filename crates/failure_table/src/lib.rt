@@ -7,7 +7,7 @@ ghost use Rattle.words.specs.Words.{mirror, same};
 ghost use Rattle.words.specs.Answers.{arrowTo};
 ghost use Rattle.failure_table.specs.FailureTable.{wordAlone, failureTable, readSymbol, readAsk};
 ghost use Rattle.failure_table.specs.FailureFormed.{FailureFormed};
-ghost use Rattle.failure_table.specs.Building.{answeredAs, wordIn, withArrow, slotsWith, Stage, Shared, Along};
+ghost use Rattle.failure_table.specs.Building.{answeredAs, wordIn, withArrow, slotsWith, Stage, Shared, AlongSpine};
 
 // Where a letter leads, the last state that was asked for it, and the failure arrows taken.
 pub struct Answered {
@@ -154,16 +154,16 @@ fn fewer(a: usize, b: usize) -> usize
 }
 
 // How far a walk that is at x with the letters up to k spelled goes along the spine, the word's last letter left out.
-fn along(table: &[u16], m: usize, x: usize, k: usize) -> usize
+fn along_spine(table: &[u16], m: usize, x: usize, k: usize) -> usize
     requires { ⌜ (m < length (now table)) × (x ≤ m) × (k < m) ⌝ }
-    ensures { λ r. ⌜ Along (now (table .entry)) m x k r ⌝ }
+    ensures { λ r. ⌜ AlongSpine (now (table .entry)) m x k r ⌝ }
 {
     let most = fewer(m - x, m - 1 - k);
     shared(&table[x + 1..x + 1 + most], &table[k + 1..k + 1 + most])
 }
 
-// Walks the suffix behind the first i + 1 letters, and adds the arrow that it lacks. In the state that has spelled as many letters as the
-// walk, the rest is the spine.
+// Walks the suffix behind the first i + 1 letters, and adds the arrow that it lacks. In state k, with the letters up to k spelled, the rest
+// is the spine.
 fn add_suffix(table: &mut [u16], m: usize, used: usize, i: usize) -> usize
     requires { ⌜ Stage (wordIn (now table) m) m (now table) used i × (i + 1 < m) ⌝ }
     ensures { λ r. ⌜ Stage (wordIn (now (table .entry)) m) m (now (table .exit)) r (i + 1) ⌝ }
@@ -175,7 +175,7 @@ fn add_suffix(table: &mut [u16], m: usize, used: usize, i: usize) -> usize
         if from == k {
             return used;
         }
-        let run = along(table, m, from, k);
+        let run = along_spine(table, m, from, k);
         let end = k + run;
         let c = words::Letter((table[end + 1] % 256) as u8);
         let s = ask(table, m, words::State((from + run) as u16), c);

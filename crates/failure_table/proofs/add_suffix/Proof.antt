@@ -6,8 +6,8 @@ use native.Mathlib.Omega.{arith}
 use lib.ListN.{length}
 use borrow.Author.Needs.{needs}
 use Rattle.failure_table.specs.Building.{wordIn}
-use Rattle.failure_table.proofs.Suffixes.{stage-formed, stage-size, stage-slots, last-state}
-use Rattle.failure_table.proofs.Suffixes.{Walking, walking-start, walking-along, walking-goes, walking-lacks, walking-done, walking-spine}
+use Rattle.failure_table.proofs.Suffixes.{stage-formed, stage-size, stage-slots, last-state, Walking, walking-start}
+use Rattle.failure_table.proofs.Suffixes.{walking-along, walking-goes, walking-lacks, walking-done, walking-spine}
 use Rattle.failure_table.proofs.add_suffix.Statement.{statement}
 use Rattle.failure_table.proofs.add_suffix.Tie as tie
 
@@ -28,8 +28,8 @@ returns c =
     let same = at-loop .loop .inv .0 in
     rw same (walking-spine (at-start .pre .0) (at-loop .loop .inv .1) (at-in .loop-test .taken) (c .if1 .taken) (at-start .pre .1))
 
-along-requires : tie.Need-along-requires Inv-loop μ-loop
-along-requires c κs =
+along-spine-requires : tie.Need-along-spine-requires Inv-loop μ-loop
+along-spine-requires c κs =
     let at-in = c .before .before .before in
     let at-loop = at-in .before in
     let S = at-loop .before .before .pre .0 in
@@ -41,20 +41,20 @@ slice-read-t21 c =
     let at-along = c .before in
     let at-loop = at-along .before .before .before .before .before in
     let size = ap length (at-loop .loop .inv .0) ∙ stage-size (at-loop .before .before .pre .0) in
-    omega (arith, size, at-along .along .ensures .inside)
+    omega (arith, size, at-along .along-spine .ensures .inside)
 
 cast-t21 : tie.Need-cast-t21 Inv-loop μ-loop
 cast-t21 c =
     let at-along = c .before .before in
     let at-loop = at-along .before .before .before .before .before in
-    omega (arith, at-along .along .ensures .state, at-loop .before .before .pre .0 .small)
+    omega (arith, at-along .along-spine .ensures .state, at-loop .before .before .pre .0 .small)
 
 ask-requires : tie.Need-ask-requires Inv-loop μ-loop
 ask-requires c κs =
     let at-along = c .before .before in
     let at-loop = at-along .before .before .before .before .before in
     let S = at-loop .before .before .pre .0 in
-    (rw (at-loop .loop .inv .0) (stage-formed S), at-along .along .ensures .state)
+    (rw (at-loop .loop .inv .0) (stage-formed S), at-along .along-spine .ensures .state)
 
 add-arrow-requires : tie.Need-add-arrow-requires Inv-loop μ-loop
 add-arrow-requires c κs =
@@ -64,7 +64,7 @@ add-arrow-requires c κs =
     let at-loop = at-along .before .before .before .before .before in
     let S = at-loop .before .before .pre .0 in
     let same = at-loop .loop .inv .0 in
-    let along = rw same at (at-along .along .ensures) in
+    let along = rw same at (at-along .along-spine .ensures) in
     let says = rw same at (at-ask .ask .ensures) in
     let state = last-state S (walking-along S (at-loop .loop .inv .1) along) (along .inside) _ says (at-enum-told .enum-told .given .1) in
     (S .small, state, along .inside, stage-slots S, ap length same ∙ stage-size S)
@@ -86,7 +86,7 @@ returns-2 c =
     let at-start = at-loop .before .before in
     let S = at-start .pre .0 in
     let same = at-loop .loop .inv .0 in
-    let along = rw same at (at-along .along .ensures) in
+    let along = rw same at (at-along .along-spine .ensures) in
     let says = rw same at (at-ask .ask .ensures) in
     let written = rw same at (at-add-arrow .add-arrow .ensures .1) in
     walking-lacks S (walking-along S (at-loop .loop .inv .1) along) (along .inside) _ says (at-enum-told .enum-told .given .1) _ _
@@ -100,7 +100,7 @@ loop-again c =
     let at-loop = at-along .before .before .before .before .before in
     let S = at-loop .before .before .pre .0 in
     let same = at-loop .loop .inv .0 in
-    let along = rw same at (at-along .along .ensures) in
+    let along = rw same at (at-along .along-spine .ensures) in
     let says = rw same at (at-ask .ask .ensures) in
     (same, walking-goes S (walking-along S (at-loop .loop .inv .1) along) (along .inside) _ says _ (at-found .found .given .1))
 
@@ -119,7 +119,7 @@ add-suffix-spec = tie.close (tie.spec
     (λ c. search needs)
     same-length
     returns
-    along-requires
+    along-spine-requires
     (λ c. search needs) (λ c. search needs) (λ c. search needs)
     slice-read-t21
     (λ c. search needs) (λ c. search needs)

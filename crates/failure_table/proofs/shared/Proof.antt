@@ -1,5 +1,5 @@
--- `failure_table::shared` meets its contract: what the blocks share is shared, and so is each entry behind them that is the same. The measure
--- is how many entries are left.
+-- `failure_table::shared` meets its contract: what the blocks share is shared, and so is each entry behind them that is the same. The
+-- measure is how many entries are left.
 use Prim.Native.Nat.{_-_}
 use native.Mathlib.Omega.{arith}
 use lib.ListN.{length}

@@ -92,8 +92,8 @@ pub static OPTIONS: [Known; 21] = [
         line: "how to search; without it, auto",
         more: "The finds are the same with each. Backward leaves most bytes of most files unread. Turbo reads some two letters for each \
                byte at most, however hostile the file is, and 18 where a pipe gives a few bytes at a time. Auto goes backward as long as \
-               that is fair, then over to turbo; for a word of more than 64 bytes it is turbo from the start. Failure is there for its \
-               small automaton, the failure oracle, and for comparing: for a word of m bytes that repeats itself, making its table \
+               that is fair, then over to turbo; for a word of more than 64 bytes it is turbo from the start. Failure walks the failure \
+               oracle, and is there for its fewer arrows and for comparing: for a word of m bytes that repeats itself, making its table \
                walks up to m*m/2 letters, 8.4 million for 4,096 bytes, for each part of a file again, and it may read m letters for each \
                byte of a hostile file, as backward may.",
         ..PLAIN

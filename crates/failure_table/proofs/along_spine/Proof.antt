@@ -1,9 +1,9 @@
--- `failure_table::along` meets its contract: both parts are within the word, and what they share is along the spine.
+-- `failure_table::along_spine` meets its contract: both parts are within the word, and what they share is along the spine.
 use native.Mathlib.Omega.{arith}
 use borrow.Author.Needs.{needs}
 use Rattle.failure_table.proofs.Sharing.{along-shared}
-use Rattle.failure_table.proofs.along.Statement.{statement}
-use Rattle.failure_table.proofs.along.Tie as tie
+use Rattle.failure_table.proofs.along_spine.Statement.{statement}
+use Rattle.failure_table.proofs.along_spine.Tie as tie
 
 returns : tie.Need-returns
 returns c =
@@ -13,8 +13,8 @@ returns c =
     along-shared _ _ _ _ (at-fewer .fewer .result)
     (omega (arith, few .0, at-start .pre .1)) (omega (arith, few .1, at-start .pre .2)) (c .shared .ensures)
 
-pub along-spec : {M : Type 1} → statement M
-along-spec = tie.close (tie.spec
+pub along-spine-spec : {M : Type 1} → statement M
+along-spine-spec = tie.close (tie.spec
     (λ c. search needs) (λ c. search needs) (λ c. search needs) (λ c κs. search needs)
     (λ c. search needs) (λ c. search needs) (λ c. search needs) (λ c. search needs) (λ c. search needs)
     (λ c. search needs) (λ c. search needs) (λ c. search needs) (λ c. search needs) (λ c. search needs)
