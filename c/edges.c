@@ -1,7 +1,8 @@
 /* What only a caller in C can hand over, a null pointer with length 0 for each buffer; turbo and the failure oracle at their edges; one
- * letter, which has no file; and the deepest calls there are, every entry on eight threads at once. Each thread has a stack of 64 KiB, or
- * the least that the system gives where that is more, above a page that nobody may touch. It is painted before, and less than 64 KiB of it
- * may be touched, by the calls and by what a thread needs of its own. */
+ * letter, which has no file; files of edition 2, whose check is cut, wrong or not their last bytes; and the deepest calls there are, every
+ * entry on eight threads at once. Each thread has a stack of 64 KiB, or the least that the system gives where that is more, above a page
+ * that nobody may touch. It is painted before, and less than 64 KiB of it may be touched, by the calls and by what a thread needs of its
+ * own. */
 #define _DEFAULT_SOURCE
 #include <inttypes.h>
 #include <pthread.h>
@@ -15,21 +16,36 @@
 enum { THREADS = 8, MOST = 64 * 1024, GUARD = MOST, PAINT = 0xa5, TEXT = 65536 };
 
 static uint16_t tables[MARKS_FAILURE_TABLES(MARKS_LEAST_SAVED)], all_tables[MARKS_MOST_FAILURE_TABLES];
-static uint8_t room[MARKS_LEAST_SAVED], out[5], searcher[MARKS_SEARCHER], long_text[MARKS_LONGEST_TEXT + 1];
+static uint8_t room[MARKS_LEAST_SAVED], out[8], searcher[MARKS_SEARCHER], long_text[MARKS_LONGEST_TEXT + 1];
 static uint32_t finds[2];
-static uint64_t count, letters, failures, offset;
+static uint64_t count, letters, failures, offset, told;
 static const uint64_t nowhere = UINT64_MAX;
 
-/* what was said, and at which offset where one was written; the answers of a search */
-static void print_said(const char *what, uint32_t said)
+/* what was said, and at which offset where one was written */
+static void print_number(const char *what, uint32_t said)
 {
     printf("%s: %" PRIu32, what, said);
     if (offset != nowhere)
         printf(" at %" PRIu64, offset);
+    offset = nowhere;
+}
+
+/* the same, and the answers of a search */
+static void print_said(const char *what, uint32_t said)
+{
+    print_number(what, said);
     if (said == MARKS_OK)
         printf(", %" PRIu64 " places, %" PRIu64 " letters", count, letters);
     printf("\n");
-    offset = nowhere;
+}
+
+/* the same, and the answer of saving, in bytes, or of loading, in letters */
+static void print_size(const char *what, uint32_t said, const char *unit)
+{
+    print_number(what, said);
+    if (said == MARKS_OK)
+        printf(", %" PRIu64 " %s", told, unit);
+    printf("\n");
 }
 
 static void null_buffers(void)
@@ -42,6 +58,9 @@ static void null_buffers(void)
     print_said("save, no word", marks_save(NULL, 0, tables, 18, out, 5, &n));
     print_said("save, no tables", marks_save(aa, 2, NULL, 0, out, 5, &n));
     print_said("save, no output", marks_save(aa, 2, tables, 18, NULL, 0, &n));
+    print_said("save checked, no word", marks_save_checked(NULL, 0, tables, 18, out, 7, &n));
+    print_said("save checked, no tables", marks_save_checked(aa, 2, NULL, 0, out, 7, &n));
+    print_said("save checked, no output", marks_save_checked(aa, 2, tables, 18, NULL, 0, &n));
     print_said("load, no file", marks_load(NULL, 0, room, 2, tables, 18, &n, &offset));
     print_said("load, no room", marks_load(file, 5, NULL, 0, tables, 18, &n, &offset));
     print_said("load, no tables", marks_load(file, 5, room, 2, NULL, 0, &n, &offset));
@@ -157,16 +176,146 @@ static void failure_edges(void)
 /* refused before the rooms, so as well where there are none */
 static void one_letter(void)
 {
-    const uint8_t *a = (const uint8_t *)"a", *file = (const uint8_t *)"\1\1a";
+    const uint8_t *a = (const uint8_t *)"a", *file = (const uint8_t *)"\1\1a", *checked = (const uint8_t *)"\2\1a";
     uint64_t n;
     print_said("save, one letter, no tables", marks_save(a, 1, NULL, 0, out, 5, &n));
     print_said("save, one letter, no output", marks_save(a, 1, tables, 12, NULL, 0, &n));
     print_said("save, one letter, no tables and no output", marks_save(a, 1, NULL, 0, NULL, 0, &n));
+    print_said("save checked, one letter, no tables", marks_save_checked(a, 1, NULL, 0, out, 7, &n));
+    print_said("save checked, one letter, no output", marks_save_checked(a, 1, tables, 12, NULL, 0, &n));
+    print_said("save checked, one letter, no tables and no output", marks_save_checked(a, 1, NULL, 0, NULL, 0, &n));
     print_said("load, one letter, no room and no tables", marks_load(file, 4, NULL, 0, NULL, 0, &n, &offset));
+    print_said("load, one letter, edition 2, no room and no tables", marks_load(checked, 4, NULL, 0, NULL, 0, &n, &offset));
     print_said("with a file, one letter, no room, no tables and no list",
                marks_search_file(file, 4, a, 1, NULL, 0, NULL, 0, NULL, 0, &count, &letters, &offset));
     print_said("with a file, one letter, too long a text",
                marks_search_file(file, 4, long_text, sizeof long_text, room, 1, tables, 12, finds, 2, &count, &letters, &offset));
+}
+
+/* an output of so many bytes, of which all that are there are shown */
+static void save_checked_in(const char *what, size_t lent)
+{
+    memset(out, PAINT, sizeof out);
+    print_size(what, marks_save_checked((const uint8_t *)"aa", 2, tables, 18, out, lent, &told), "bytes");
+    printf("output:");
+    for (size_t i = 0; i < sizeof out; i++)
+        printf(" %02x", out[i]);
+    printf("\n");
+}
+
+/* each refusal where the later ones would be given too, but for that of one letter; the room that the least file needs */
+static void save_checked_edges(void)
+{
+    const uint8_t *aa = (const uint8_t *)"aa";
+    print_size("save checked, no word, no tables and no output", marks_save_checked(NULL, 0, NULL, 0, NULL, 0, &told), "bytes");
+    print_size("save checked, too long a word, no tables and no output",
+               marks_save_checked(long_text, MARKS_LONGEST_WORD + 1, NULL, 0, NULL, 0, &told), "bytes");
+    print_size("save checked, a table entry too few and no output", marks_save_checked(aa, 2, tables, 17, NULL, 0, &told), "bytes");
+    save_checked_in("save checked, output two bytes short", 5);
+    save_checked_in("save checked, output a byte short", 6);
+    save_checked_in("save checked, output just enough", 7);
+    save_checked_in("save checked, output a byte longer", 8);
+}
+
+/* what is lent of each file, which is that of aa where its name has no other word */
+static const struct {
+    const char *what;
+    size_t length;
+    uint8_t bytes[9];
+} checked_files[] = {
+    {"edition 2, good", 7, {2, 2, 'a', 'a', 0, 0x00, 0x36}},
+    {"edition 2, nothing behind its number", 1, {2}},
+    {"edition 2, none of its check left", 5, {2, 2, 'a', 'a', 0}},
+    {"edition 2, a byte of its check left", 6, {2, 2, 'a', 'a', 0, 0x00}},
+    {"edition 2, a wrong byte of its check left", 6, {2, 2, 'a', 'a', 0, 0x01}},
+    {"edition 2, bad check in its low byte", 7, {2, 2, 'a', 'a', 0, 0x01, 0x36}},
+    {"edition 2, bad check in its high byte", 7, {2, 2, 'a', 'a', 0, 0x00, 0xb6}},
+    {"edition 2, its check high byte first", 7, {2, 2, 'a', 'a', 0, 0x36, 0x00}},
+    {"edition 2, bad check and a byte behind", 8, {2, 2, 'a', 'a', 0, 0x01, 0x36, 0}},
+    {"edition 2, good check and a byte behind", 8, {2, 2, 'a', 'a', 0, 0x00, 0x36, 0}},
+    {"edition 2, ab", 9, {2, 2, 'a', 'b', 1, 0, 0, 0xd1, 0x92}},
+    {"edition 2, ab that became cb by a flipped bit", 9, {2, 2, 'c', 'b', 1, 0, 0, 0xd1, 0x92}},
+    {"edition 2, ab that became aa, an arrow too many before a bad check", 9, {2, 2, 'a', 'a', 1, 0, 0, 0xd1, 0x92}},
+    {"edition 1, a check behind it", 7, {1, 2, 'a', 'a', 0, 0x00, 0x36}},
+    {"edition 3, a check behind it", 7, {3, 2, 'a', 'a', 0, 0x00, 0x36}},
+    {"edition 2, its number misspelled", 8, {0x82, 0, 2, 'a', 'a', 0, 0x00, 0x36}},
+};
+
+static int all_are(const void *buffer, size_t length, uint8_t value)
+{
+    const uint8_t *bytes = buffer;
+    size_t at = 0;
+    while (at < length && bytes[at] == value)
+        at++;
+    return at == length;
+}
+
+/* each file is loaded and searched with, in rooms that are painted before loading */
+static void load_checked_edges(void)
+{
+    const uint8_t *text = (const uint8_t *)"baab";
+    const size_t table = MARKS_TABLES(2) * sizeof *tables;
+    for (size_t i = 0; i < sizeof checked_files / sizeof *checked_files; i++) {
+        const uint8_t *file = checked_files[i].bytes;
+        const size_t length = checked_files[i].length;
+        memset(room, PAINT, 2);
+        memset(tables, PAINT, table);
+        printf("load, ");
+        print_size(checked_files[i].what, marks_load(file, length, room, 2, tables, 18, &told, &offset), "letters");
+        if (all_are(room, 2, PAINT) && all_are(tables, table, PAINT))
+            printf("room and tables: as they were\n");
+        else if (all_are(room, 2, 0) && all_are(tables, table, 0))
+            printf("room and tables: zero\n");
+        else
+            printf("room: %.2s\n", (const char *)room);
+        printf("with a file, ");
+        print_said(checked_files[i].what,
+                   marks_search_file(file, length, text, 4, room, 2, tables, 18, finds, 2, &count, &letters, &offset));
+    }
+}
+
+/* the rooms are judged before the check, and the text before the file */
+static void checked_order(void)
+{
+    const uint8_t *file = (const uint8_t *)"\2\2aa\0\1\66";
+    print_size("load, edition 2, no room, bad check", marks_load(file, 7, NULL, 0, tables, 18, &told, &offset), "letters");
+    print_size("load, edition 2, no tables, bad check", marks_load(file, 7, room, 2, NULL, 0, &told, &offset), "letters");
+    print_size("load, edition 2, a byte of room too few, bad check", marks_load(file, 7, room, 1, tables, 18, &told, &offset), "letters");
+    print_size("load, edition 2, a table entry too few, bad check", marks_load(file, 7, room, 2, tables, 17, &told, &offset), "letters");
+    print_said("with a file, edition 2, too long a text, bad check",
+               marks_search_file(file, 7, long_text, sizeof long_text, room, 2, tables, 18, finds, 2, &count, &letters, &offset));
+}
+
+/* the longest word, zeros and a one, which has as many arrows as a word can have */
+static void longest_checked(void)
+{
+    static uint8_t word[MARKS_LONGEST_WORD], file[MARKS_MOST_FILE], again[MARKS_LONGEST_WORD];
+    const size_t m = MARKS_LONGEST_WORD, lent = MARKS_MOST_TABLES;
+    size_t length;
+    word[m - 1] = 1;
+    memset(file, PAINT, sizeof file);
+    print_size("save checked, the longest word", marks_save_checked(word, m, all_tables, lent, file, MARKS_MOST_FILE, &told), "bytes");
+    length = told;
+    printf("behind them: %s\n", all_are(file + length, sizeof file - length, PAINT) ? "as it was" : "written");
+    print_size("load, edition 2, the longest word", marks_load(file, length, again, m, all_tables, lent, &told, &offset), "letters");
+    printf("the word: %s\n", memcmp(word, again, m) == 0 ? "the same" : "another");
+    print_size("load, edition 2, the longest word, a byte of its check left",
+               marks_load(file, length - 1, again, m, all_tables, lent, &told, &offset), "letters");
+    file[length - 1] ^= 0x80;
+    print_size("load, edition 2, the longest word, its last bit flipped",
+               marks_load(file, length, again, m, all_tables, lent, &told, &offset), "letters");
+    print_size("save checked, the longest word, output a byte short",
+               marks_save_checked(word, m, all_tables, lent, file, length - 1, &told), "bytes");
+    print_size("save checked, the longest word, output just enough",
+               marks_save_checked(word, m, all_tables, lent, file, length, &told), "bytes");
+}
+
+static void checked_edges(void)
+{
+    save_checked_edges();
+    load_checked_edges();
+    checked_order();
+    longest_checked();
 }
 
 static void null_buffers_of_streams(void)
@@ -220,11 +369,13 @@ static void turbo_edges(void)
  * place of the thread's own; the first letters of the mirror, as many as a stream's word can have, are looked for in two pieces, cut inside of the find. In the
  * longest text, zeros, a search prepares arrows on the stack, as many as it ever does */
 struct work {
-    uint8_t word[MARKS_LONGEST_WORD], mirror[MARKS_LONGEST_WORD], text[TEXT], room[MARKS_LONGEST_WORD], file[MARKS_MOST_FILE];
+    uint8_t word[MARKS_LONGEST_WORD], mirror[MARKS_LONGEST_WORD], text[TEXT], room[MARKS_LONGEST_WORD];
+    uint8_t file[MARKS_MOST_FILE], checked[MARKS_MOST_FILE];
     uint16_t tables[MARKS_MOST_FAILURE_TABLES];
     uint8_t searcher[MARKS_SEARCHER];
-    uint32_t finds[2], turbo_finds[2], failure_finds[2], file_finds[2], stream_finds[2], said;
-    uint64_t m, length, count, turbo_count, failure_count, file_count, before_cut, stream_count, letters, failures, offset, in_zeros[4];
+    uint32_t finds[2], turbo_finds[2], failure_finds[2], file_finds[2], checked_finds[2], stream_finds[2], said;
+    uint64_t m, length, checked_length, count, turbo_count, failure_count, file_count, checked_count, before_cut, stream_count;
+    uint64_t letters, failures, offset, in_zeros[5];
     size_t cut;
     uint8_t *stack;
 };
@@ -257,6 +408,11 @@ static void *deepest(void *mine)
     w->said += marks_turbo(w->mirror, MARKS_LONGEST_WORD, w->text, TEXT, w->tables, MARKS_MOST_TABLES, w->turbo_finds, 2, &w->turbo_count, &w->letters);
     w->said += marks_search_file(w->file, w->length, w->text, TEXT, w->room, MARKS_LONGEST_WORD, w->tables, MARKS_MOST_TABLES, w->file_finds, 2,
                                  &w->file_count, &w->letters, &w->offset);
+    w->said += marks_save_checked(w->word, MARKS_LONGEST_WORD, w->tables, MARKS_MOST_TABLES, w->checked, MARKS_MOST_FILE,
+                                  &w->checked_length);
+    w->said += marks_load(w->checked, w->checked_length, w->room, MARKS_LONGEST_WORD, w->tables, MARKS_MOST_TABLES, &w->m, &w->offset);
+    w->said += marks_search_file(w->checked, w->checked_length, w->text, TEXT, w->room, MARKS_LONGEST_WORD, w->tables, MARKS_MOST_TABLES,
+                                 w->checked_finds, 2, &w->checked_count, &w->letters, &w->offset);
     w->said += marks_failure_build(w->word, MARKS_LONGEST_WORD, w->tables, failure_tables, &w->m);
     w->said += marks_failure_search(w->mirror, MARKS_LONGEST_WORD, w->text, TEXT / 4, w->tables, failure_tables, w->failure_finds, 2, &w->failure_count,
                                     &w->letters, &w->failures);
@@ -266,6 +422,8 @@ static void *deepest(void *mine)
                                  &w->in_zeros[2], &w->letters, &w->offset);
     w->said += marks_failure_search(w->mirror, MARKS_LONGEST_WORD, long_text, MARKS_LONGEST_TEXT, w->tables, failure_tables, NULL, 0, &w->in_zeros[3],
                                     &w->letters, &w->failures);
+    w->said += marks_search_file(w->checked, w->checked_length, long_text, MARKS_LONGEST_TEXT, w->room, MARKS_LONGEST_WORD, w->tables,
+                                 MARKS_MOST_TABLES, NULL, 0, &w->in_zeros[4], &w->letters, &w->offset);
     w->said += marks_open(w->mirror, MARKS_LONGEST_STREAMED, w->searcher, MARKS_SEARCHER);
     w->said += marks_take(w->searcher, MARKS_SEARCHER, w->text, w->cut, w->stream_finds, 2, &w->before_cut);
     w->said += marks_take(w->searcher, MARKS_SEARCHER, w->text + w->cut, TEXT - w->cut, w->stream_finds, 2, &w->stream_count);
@@ -283,6 +441,20 @@ static int start(pthread_t *thread, struct work *w)
     return pthread_attr_setstack(&painted, w->stack, stack_size()) != 0 || pthread_create(thread, &painted, deepest, w) != 0;
 }
 
+static void print_work(int i, const struct work *w)
+{
+    printf("thread %d: %" PRIu32 ", file of %" PRIu64 " bytes", i, w->said, w->length);
+    printf(", %" PRIu64 " place at %" PRIu32, w->count, w->finds[0]);
+    printf(", with the file %" PRIu64 " at %" PRIu32, w->file_count, w->file_finds[0]);
+    printf(", checked file of %" PRIu64 " bytes, with it %" PRIu64 " at %" PRIu32, w->checked_length, w->checked_count,
+           w->checked_finds[0]);
+    printf(", by turbo %" PRIu64 " at %" PRIu32, w->turbo_count, w->turbo_finds[0]);
+    printf(", by failures %" PRIu64 " at %" PRIu32, w->failure_count, w->failure_finds[0]);
+    printf(", in pieces %" PRIu64 " and %" PRIu64 " at %" PRIu32, w->before_cut, w->stream_count, w->stream_finds[0]);
+    printf(", in zeros %" PRIu64 ", %" PRIu64 ", %" PRIu64 ", %" PRIu64, w->in_zeros[0], w->in_zeros[1], w->in_zeros[2], w->in_zeros[3]);
+    printf(" and %" PRIu64 "\n", w->in_zeros[4]);
+}
+
 int main(void)
 {
     pthread_t threads[THREADS];
@@ -292,6 +464,7 @@ int main(void)
     turbo_edges();
     failure_edges();
     one_letter();
+    checked_edges();
     for (int i = 0; i < THREADS; i++) {
         memset(works[i].word, 'a', MARKS_LONGEST_WORD - 1);
         works[i].word[MARKS_LONGEST_WORD - 1] = 'b';
@@ -306,13 +479,7 @@ int main(void)
     for (int i = 0; i < THREADS; i++) {
         if (pthread_join(threads[i], NULL) != 0)
             return 1;
-        printf("thread %d: %" PRIu32 ", file of %" PRIu64 " bytes, %" PRIu64 " place at %" PRIu32 ", with the file %" PRIu64 " at %" PRIu32, i, works[i].said,
-               works[i].length, works[i].count, works[i].finds[0], works[i].file_count, works[i].file_finds[0]);
-        printf(", by turbo %" PRIu64 " at %" PRIu32, works[i].turbo_count, works[i].turbo_finds[0]);
-        printf(", by failures %" PRIu64 " at %" PRIu32, works[i].failure_count, works[i].failure_finds[0]);
-        printf(", in pieces %" PRIu64 " and %" PRIu64 " at %" PRIu32, works[i].before_cut, works[i].stream_count, works[i].stream_finds[0]);
-        printf(", in zeros %" PRIu64 ", %" PRIu64 ", %" PRIu64 " and %" PRIu64 "\n", works[i].in_zeros[0], works[i].in_zeros[1], works[i].in_zeros[2],
-               works[i].in_zeros[3]);
+        print_work(i, &works[i]);
         most = touched(works[i].stack) > most ? touched(works[i].stack) : most;
     }
     fprintf(stderr, "edges: a thread touched at most %zu of its %zu bytes of stack\n", most, stack_size());

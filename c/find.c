@@ -77,6 +77,8 @@ int main(void)
     if (file_refused("search with the file", search_with(file, length, &rooms, &offset), &offset))
         return 1;
 
+    /* The last byte, an arrow's number here, becomes another, and that shows. Where a letter does, a file of edition 1 may be that of another mark: to
+     * notice this too, save with marks_save_checked, where all who load the file know edition 2. */
     file[length - 1] ^= 1;
     return !file_refused("search with a damaged file", search_with(file, length, &rooms, &offset), &offset);
 }

@@ -1,8 +1,9 @@
 /* Finding marks in broken ride files, for C99 and C++.
  *
  * A mark is a word of 1 to 4,096 bytes. marks_search lists every place where it stands in a text; so does marks_turbo, in linear time whatever the text.
- * marks_save writes its index to a file of 5 to 20,481 bytes, but not that of a single letter, with which everybody would drown in finds; marks_load reads
- * such a file, and marks_search_file searches with one. For a text that comes in pieces there are marks_open and marks_take, for marks of 1 to 64 bytes.
+ * marks_save writes its index to a file of 5 to 20,481 bytes, but not that of a single letter, with which everybody would drown in finds; marks_save_checked
+ * to one of two bytes more, edition 2, which ends with a check of all bytes before it, so that bits which were lost are noticed. marks_load reads either
+ * edition, and marks_search_file searches with either. For a text that comes in pieces there are marks_open and marks_take, for marks of 1 to 64 bytes.
  * Programs to start from: c/find.c; c/parts.c, for more than 16 MiB and more finds than there is room for; c/pieces.c.
  *
  * Which search: marks_turbo where strangers choose the text or the mark, as it reads no more than two letters for each letter of the text. marks_search
@@ -34,9 +35,9 @@
 
 /* The version of the library: as numbers, and as text. */
 #define MARKS_VERSION_MAJOR 0
-#define MARKS_VERSION_MINOR 3
+#define MARKS_VERSION_MINOR 4
 #define MARKS_VERSION_PATCH 0
-#define MARKS_VERSION "0.3.0"
+#define MARKS_VERSION "0.4.0"
 
 /* What an entry returns: a number, and when exactly it is given. m is the number of letters of the word, for a file the one that it declares. */
 /* begin refusals: as tools/refusals writes them */
@@ -46,14 +47,15 @@ enum {
     MARKS_LONG_WORD = 2,     /* the word is longer than 4,096 bytes, or for a stream than 64 */
     MARKS_SHORT_ROOM = 3,    /* too little room lent: m letters need 6(m+1) table entries, a failure oracle 10(m+1), a file m bytes too, a stream 134 */
     MARKS_LONG_TEXT = 4,     /* the text is longer than 16,777,216 bytes, or the stream would be with this piece */
-    MARKS_CUT_FILE = 5,      /* the file ends before or inside a number, or before the last of its letters */
+    MARKS_CUT_FILE = 5,      /* the file ends before or inside a number, or before the last of its letters or of its check */
     MARKS_BAD_NUMBER = 6,    /* a number in the file is misspelled: the last of its several groups is zero, or its fifth byte is above 15 */
-    MARKS_OTHER_EDITION = 7, /* the file's edition is not 1 */
+    MARKS_OTHER_EDITION = 7, /* the file's edition is neither 1 nor 2 */
     MARKS_BAD_LENGTH = 8,    /* the file declares fewer than 2 letters, or more than 4,096 */
     MARKS_BAD_COUNT = 9,     /* the file declares more arrows than its letters less 1 */
     MARKS_WRONG_ARROW = 10,  /* an arrow in the file is not its word's own at that place, or arrows are missing */
-    MARKS_LEFTOVERS = 11,    /* bytes follow the file's last arrow */
+    MARKS_LEFTOVERS = 11,    /* bytes follow the file's last arrow, or in edition 2 its check */
     MARKS_SHORT_OUTPUT = 12, /* the room lent for the file is below its size */
+    MARKS_BAD_CHECK = 13,    /* the file's check is not that of the bytes before it */
     MARKS_UNMADE = 16,       /* opening and taking bytes could never have made the searcher */
     MARKS_SHORT_WORD = 17,   /* the word to be saved has one letter */
 };
@@ -67,14 +69,15 @@ static inline const char *marks_meaning(uint32_t said)
     case MARKS_LONG_WORD: return "the word is longer than 4,096 bytes, or for a stream than 64";
     case MARKS_SHORT_ROOM: return "too little room lent: m letters need 6(m+1) table entries, a failure oracle 10(m+1), a file m bytes too, a stream 134";
     case MARKS_LONG_TEXT: return "the text is longer than 16,777,216 bytes, or the stream would be with this piece";
-    case MARKS_CUT_FILE: return "the file ends before or inside a number, or before the last of its letters";
+    case MARKS_CUT_FILE: return "the file ends before or inside a number, or before the last of its letters or of its check";
     case MARKS_BAD_NUMBER: return "a number in the file is misspelled: the last of its several groups is zero, or its fifth byte is above 15";
-    case MARKS_OTHER_EDITION: return "the file's edition is not 1";
+    case MARKS_OTHER_EDITION: return "the file's edition is neither 1 nor 2";
     case MARKS_BAD_LENGTH: return "the file declares fewer than 2 letters, or more than 4,096";
     case MARKS_BAD_COUNT: return "the file declares more arrows than its letters less 1";
     case MARKS_WRONG_ARROW: return "an arrow in the file is not its word's own at that place, or arrows are missing";
-    case MARKS_LEFTOVERS: return "bytes follow the file's last arrow";
+    case MARKS_LEFTOVERS: return "bytes follow the file's last arrow, or in edition 2 its check";
     case MARKS_SHORT_OUTPUT: return "the room lent for the file is below its size";
+    case MARKS_BAD_CHECK: return "the file's check is not that of the bytes before it";
     case MARKS_UNMADE: return "opening and taking bytes could never have made the searcher";
     case MARKS_SHORT_WORD: return "the word to be saved has one letter";
     default: return "no number of the table";
@@ -90,7 +93,7 @@ static inline const char *marks_meaning(uint32_t said)
 #define MARKS_MOST_TABLES MARKS_TABLES(MARKS_LONGEST_WORD)                  /* table entries for every word */
 #define MARKS_FAILURE_TABLES(m) (10 * ((m) + 1))                            /* table entries for the failure oracle of a word of m letters */
 #define MARKS_MOST_FAILURE_TABLES MARKS_FAILURE_TABLES(MARKS_LONGEST_WORD)  /* and for that of every word */
-#define MARKS_MOST_FILE (5 * MARKS_LONGEST_WORD + 1)                        /* output for the file of every word */
+#define MARKS_MOST_FILE (5 * MARKS_LONGEST_WORD + 3)                        /* output for the file of every word, in either edition */
 #define MARKS_LONGEST_STREAMED 64                                           /* bytes of a word that a stream is opened for */
 #define MARKS_SEARCHER 134                                                  /* bytes of a searcher */
 
@@ -111,18 +114,23 @@ extern "C" {
  * Refusals: 1, 2, 3. They change nothing. */
 MARKS_CHECKED uint32_t marks_build(const uint8_t *word, size_t word_len, uint16_t *tables, size_t tables_len, uint64_t *m);
 
-/* The file of the word, at the start of out; tables are left as by marks_build. The answer is the file's length. docs/FILE.md has its layout.
+/* The file of the word in edition 1, at the start of out; tables are left as by marks_build. The answer is the file's length. docs/FILE.md has its layout.
  * Refusals: 1, 2, 17, 3, 12. 12 leaves the first MARKS_TABLES(m) entries of tables zero, and out as it was; the others change nothing. */
 MARKS_CHECKED uint32_t marks_save(const uint8_t *word, size_t word_len, uint16_t *tables, size_t tables_len, uint8_t *out, size_t out_len,
                                   uint64_t *length);
 
+/* The same in edition 2: two bytes more, and another first byte. A library from before edition 2 refuses it with 7.
+ * Refusals: 1, 2, 17, 3, 12, as marks_save. */
+MARKS_CHECKED uint32_t marks_save_checked(const uint8_t *word, size_t word_len, uint16_t *tables, size_t tables_len, uint8_t *out, size_t out_len,
+                                          uint64_t *length);
+
 /* The file's word in the first m bytes of room, and its table, as marks_build makes it, in the first MARKS_TABLES(m) entries of tables. The answer is m.
  * Refusals, field by field: the edition (5 or 6, then 7), m (5 or 6, then 8), the letters (5), the rooms (3), the number of arrows (5 or 6, then 9), each
- * arrow (5 or 6, then 10), missing arrows (10), bytes behind the last (11). Those up to 3 in this order leave room and tables as they were; the others
- * leave the first m bytes of room and the first MARKS_TABLES(m) entries of tables zero.
- * 5 to 11 also write to offset where in the file they show, counted from 0: the first byte of the faulty field, where an arrow's two numbers are one field;
- * for 5 the file's length; for 6 the byte that is refused; for missing arrows and for 11 the first byte behind the arrows. Nothing else writes it: 3 shows
- * nowhere in a file. docs/FILE.md has an example of each. */
+ * arrow (5 or 6, then 10), missing arrows (10), in edition 2 the check (5, then 13), bytes behind (11). Those up to 3 in this order leave room and tables as
+ * they were; the others leave the first m bytes of room and the first MARKS_TABLES(m) entries of tables zero.
+ * 5 to 11 and 13 also write to offset where in the file they show, counted from 0: the first byte of the faulty field, where an arrow's two numbers are one
+ * field, and so are the check's two bytes; for 5 the file's length; for 6 the byte that is refused; for missing arrows the first byte behind those that are
+ * there; for 11 the first byte too many. Nothing else writes it: 3 shows nowhere in a file. docs/FILE.md has an example of each. */
 MARKS_CHECKED uint32_t marks_load(const uint8_t *file, size_t file_len, uint8_t *room, size_t room_len, uint16_t *tables, size_t tables_len,
                                   uint64_t *m, uint64_t *offset);
 

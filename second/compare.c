@@ -1,7 +1,8 @@
 /* Asks the proved library and the second implementation the same things and compares whole outcomes: the number, the answers, the
    offset, every byte of every lent buffer, and the guard zones before and behind each. The first difference is printed with its input and
-   ends the run with status 1, and so does a refusal that an entry can give and that no case brought about, and so does a run where no
-   failure oracle had a symbol arrow beside the spine, none two at one state, or where every window that was read whole was a find.
+   ends the run with status 1, and so does a refusal that an entry can give and that no case brought about, for files of each edition by
+   itself, and so does a run where no failure oracle had a symbol arrow beside the spine, none two at one state, where every window that was
+   read whole was a find, or where a way in which a file of edition 2 can end was not met.
 
    compare [--seed N] [--seconds N] [--long]: the cases are the same for the same seed. --seconds goes on with mixed cases until so
    many seconds have passed; --long adds the costly ones.
@@ -32,7 +33,16 @@
      slip 187: past the worked examples, both sides lose the first symbol arrow beside the spine
      slip 188: past the worked examples, both sides leave a failure oracle's table with another letter
      slip 189: past the worked examples, the failure search reads a letter more than m at each place on both sides
-     slip 190: words whose failure oracle has a symbol arrow beside the spine are none of the cases */
+     slip 190: words whose failure oracle has a symbol arrow beside the spine are none of the cases
+     slip 231: past the worked examples, both sides take a file with a wrong check
+     slip 232: past the worked examples, both sides refuse a wrong check with bytes behind it with 11
+     slip 233: past the worked examples, both sides show a wrong check one byte late
+     slip 234: past the worked examples, both sides refuse a right check with 13
+     slip 235: past the worked examples, both sides take a file of edition 2 without its check
+     slip 236: past the worked examples, 13 leaves a letter in the word room on both sides
+     slip 237: past the worked examples, both sides save a wrong check
+     slip 238: past the worked examples, both sides show leftovers behind a check one byte late
+     slip 239: files of edition 2 that end inside the check are none of the cases */
 #define _DEFAULT_SOURCE
 #include "entries.h"
 
@@ -93,17 +103,23 @@ static size_t small_number(const uint8_t *file, size_t at)
     return file[at] < 128 ? file[at] : file[at] % 128 + (size_t)128 * file[at + 1];
 }
 
-/* whether a file of edition 1 declares fewer letters than any file has */
-static bool declares_too_few(const uint8_t *file, size_t len)
+/* the edition of a file; 0 for one that there is not */
+static unsigned edition_of(const uint8_t *file, size_t len)
 {
-    return len > 1 && file[0] == 1 && file[1] < LEAST_SAVED;
+    return len > 0 && (file[0] == 1 || file[0] == 2) ? file[0] : 0;
 }
 
-/* whether a file of edition 1 declares more letters than a word has: in three groups or more it always does */
+/* whether a file declares fewer letters than any file has */
+static bool declares_too_few(const uint8_t *file, size_t len)
+{
+    return len > 1 && edition_of(file, len) != 0 && file[1] < LEAST_SAVED;
+}
+
+/* whether a file declares more letters than a word has: in three groups or more it always does */
 static bool declares_too_many(const uint8_t *file, size_t len)
 {
     size_t groups = behind_number(file, len, 1) - 1;
-    return len > 1 && file[0] == 1 && (groups > 2 || small_number(file, 1) > MOST_LETTERS);
+    return len > 1 && edition_of(file, len) != 0 && (groups > 2 || small_number(file, 1) > MOST_LETTERS);
 }
 
 /* whether no number has the byte at its place: zero behind a group, or above 15 behind four */
@@ -130,16 +146,16 @@ static size_t other_arrow(const uint8_t *file, size_t len, size_t at, size_t dec
     return at;
 }
 
-/* where a file that is refused with 9, 10 or 11, so one that has its letters and a count, must show it */
+/* where a file that is refused with 9, 10, 11 or 13, so one that has its letters and a count, must show it */
 static size_t broken_at(const uint8_t *file, size_t len, uint32_t number)
 {
     static uint8_t own[MOST_FILE];
     size_t letters = behind_number(file, len, 1), m = small_number(file, 1), count = letters + m;
     if (number == 9)
         return count;
-    size_t own_len = file_of(file + letters, m, own);
-    return other_arrow(file, len, behind_number(file, len, count), small_number(file, count), own, own_len,
-                       behind_number(own, own_len, count));
+    size_t own_len = file_of(file + letters, m, own), check = number == 11 && file[0] == 2 ? CHECK_BYTES : 0;
+    return check + other_arrow(file, len, behind_number(file, len, count), small_number(file, count), own, own_len,
+                               behind_number(own, own_len, count));
 }
 
 /* whether a refusal may show at an offset, which is not behind the file's end */
@@ -148,9 +164,11 @@ static bool breaks_at(const uint8_t *file, size_t len, uint32_t number, size_t o
     switch (number) {
     case 5: return offset == len;
     case 6: return is_no_group(file, offset);
-    case 7: return offset == 0 && file[0] != 1;
+    case 7: return offset == 0 && edition_of(file, len) == 0;
     case 8: return offset == 1 && (declares_too_few(file, len) || declares_too_many(file, len));
-    default: return !declares_too_few(file, len) && !declares_too_many(file, len) && offset == broken_at(file, len, number);
+    default:
+        return edition_of(file, len) != 0 && !declares_too_few(file, len) && !declares_too_many(file, len) &&
+               offset == broken_at(file, len, number) && check_is_so(file, len, number, offset);
     }
 }
 
@@ -176,12 +194,47 @@ struct zone {
     size_t bytes; /* of the lent part */
 };
 
+/* What is counted apart: each entry, and those that read a file once more, for files of edition 2. */
+enum { LOAD_2 = ENTRIES, SEARCH_FILE_2, COLUMNS };
+
+static int column_of(enum entry entry, const uint8_t *input, size_t len)
+{
+    bool of_edition_2 = reads_file(entry) && edition_of(input, len) == 2;
+    return !of_edition_2 ? (int)entry : entry == LOAD ? LOAD_2 : SEARCH_FILE_2;
+}
+
 static struct zone zones[SLICES];
 static uint8_t noise[NOISE];
-static uint64_t seen[ENTRIES][NUMBERS];
+static uint64_t seen[COLUMNS][NUMBERS];
 static uint64_t with_slots[ENTRIES], with_chains[ENTRIES]; /* failure oracles with a symbol arrow beside the spine, and with two at a state */
 static uint64_t cases;
 static bool past_examples;
+
+/* How a file of edition 2 can end behind its arrows, or where these are missing; the last has a wrong arrow and a right check at its
+   end. How often each was loaded, and how often searched with. */
+enum ending {
+    NO_CHECK,
+    HALF_CHECK,
+    WRONG_CHECK,
+    WRONG_AND_MORE,
+    RIGHT_AND_MORE,
+    MISSING_AND_CUT,
+    MISSING_AND_WRONG,
+    MISSING_AND_RIGHT,
+    ARROW_AND_RIGHT,
+    ENDINGS
+};
+
+static const char *const ending_name[ENDINGS] = {"no check",
+                                                 "one byte of the check",
+                                                 "a wrong check",
+                                                 "a wrong check and more",
+                                                 "the check and more",
+                                                 "arrows missing, and no check or one byte",
+                                                 "arrows missing, and a wrong check",
+                                                 "arrows missing, and the check",
+                                                 "a wrong arrow, and the check at the end"};
+static uint64_t endings[ENDINGS][2];
 
 static uint8_t *reserve(uint8_t *old, size_t bytes)
 {
@@ -388,6 +441,34 @@ static void slip_one_letter(const struct asked *a, struct outcome *m, struct out
         say_both(3, 0, m, s);
 }
 
+/* files of edition 2, read or written */
+static void slip_checked(const struct asked *a, struct outcome *m, struct outcome *s)
+{
+    const struct zone *room = &zones[ROOM], *out = &zones[OUT];
+    size_t len = a->len[INPUT], saved = out->at + (size_t)m->answer[0] - 1;
+    if (SLIP == 231 && m->number == 13)
+        say_both(0, 2, m, s);
+    if (SLIP == 232 && m->number == 13 && m->offset + CHECK_BYTES < len) {
+        m->number = s->number = 11;
+        m->offset = s->offset += CHECK_BYTES;
+    }
+    if (SLIP == 233 && m->number == 13 && m->offset + CHECK_BYTES < len)
+        s->offset = ++m->offset;
+    if (SLIP == 234 && m->number == 0 && reads_file(a->entry)) {
+        m->number = s->number = 13;
+        m->offset = s->offset = len - CHECK_BYTES;
+        m->answer[0] = s->answer[0] = m->answer[1] = s->answer[1] = UNTOUCHED;
+    }
+    if (SLIP == 235 && m->number == 5 && len >= LEAST_FILE && len == (size_t)small_number(a->input, 1) + 3)
+        say_both(0, len - 3, m, s);
+    if (SLIP == 236 && m->number == 13)
+        room->second[room->at] = room->marks[room->at] = 1;
+    if (SLIP == 237 && m->number == 0 && a->entry == SAVE_CHECKED)
+        out->second[saved] = ++out->marks[saved];
+    if (SLIP == 238 && m->number == 11 && m->offset + 1 < len)
+        s->offset = ++m->offset;
+}
+
 /* the mistakes of this file that happen after the call */
 static void slip_after(enum entry entry, struct outcome *m, struct outcome *s)
 {
@@ -480,11 +561,84 @@ static void check_failure_table(const struct asked *a, const struct outcome *m)
     with_chains[a->entry] += chains > 0;
 }
 
+/* What the library says to so many bytes of a file of edition 2 that say they are of edition 1, lent on the second side. */
+static struct outcome ask_as_edition_1(const struct asked *a, struct lent *l, size_t len)
+{
+    uint8_t *edition = l->at[INPUT];
+    lend_again(a);
+    l->len[INPUT] = len;
+    *edition = 1;
+    struct outcome o = ask_marks(a->entry, l);
+    *edition = 2;
+    return o;
+}
+
+static void count_ending(const struct asked *a, enum ending ending)
+{
+    endings[ending][a->entry == SEARCH_FILE] += SLIP != 239 || ending != HALF_CHECK;
+}
+
+/* Counts what 10 was given for: cut at its offset, a file that says it is of edition 1 still misses arrows, or else there was a wrong
+   one. */
+static void count_wrong_arrows(const struct asked *a, struct lent l, size_t offset)
+{
+    size_t len = a->len[INPUT], behind = offset + CHECK_BYTES;
+    if (ask_as_edition_1(a, &l, offset).number == 10)
+        count_ending(a, behind > len ? MISSING_AND_CUT : ends_with_check(a->input, behind) ? MISSING_AND_RIGHT : MISSING_AND_WRONG);
+    else if (ends_with_check(a->input, len))
+        count_ending(a, ARROW_AND_RIGHT);
+}
+
+/* A file of edition 2 is held against what the library says to the same bytes of edition 1, where the check is leftovers: nothing else is
+   different up to there, and what comes then is told from the number of bytes left and by dividing. What takes too long is left out. */
+static void check_edition_2(const struct asked *a, struct lent l, const struct outcome *m)
+{
+    size_t len = a->len[INPUT];
+    struct outcome right = ask_as_edition_1(a, &l, len);
+    size_t at = right.number == 11 ? (size_t)right.offset : len, left = len - at;
+    if (right.number == 0 || (right.number == 11 && left < CHECK_BYTES)) {
+        count_ending(a, left == 0 ? NO_CHECK : HALF_CHECK);
+        right = ask_as_edition_1(a, &l, at - 1);
+        right.offset = len;
+    } else if (right.number == 11 && !ends_with_check(a->input, at + CHECK_BYTES)) {
+        count_ending(a, left == CHECK_BYTES ? WRONG_CHECK : WRONG_AND_MORE);
+        right.number = 13;
+    } else if (right.number == 11 && left > CHECK_BYTES) {
+        count_ending(a, RIGHT_AND_MORE);
+        right.offset += CHECK_BYTES;
+    } else if (right.number == 11) {
+        if (m->number == 0 && a->entry == SEARCH_FILE && !also_searched(a))
+            return;
+        right = ask_as_edition_1(a, &l, at);
+    }
+    if (!same_outcome(m, &right) || !left_alike(a))
+        fail(a, "a file of edition 2 and what edition 1 says of it, given here as second opinion", m, &right);
+    if (m->number == 10)
+        count_wrong_arrows(a, l, (size_t)m->offset);
+}
+
+/* What saving with a check is asked is asked of the library's saving without one, with as much less output. Nothing may differ but the
+   edition and the check. */
+static void check_saved(const struct asked *a, struct lent l, const struct outcome *m)
+{
+    uint8_t *out = l.at[OUT];
+    lend_again(a);
+    l.len[OUT] -= l.len[OUT] < CHECK_BYTES ? l.len[OUT] : CHECK_BYTES;
+    struct outcome right = ask_marks(SAVE, &l);
+    if (right.number == 0) {
+        out[0] = 2;
+        right.answer[0] = seal(out, (size_t)right.answer[0]);
+    }
+    if (!same_outcome(m, &right) || !left_alike(a))
+        fail(a, "more than edition and check between a file of edition 2 and one of edition 1, given here as second opinion", m, &right);
+}
+
 /* runs a case on both sides; ends the program at a difference. What the library left stays in zones[..].marks. */
 static struct outcome compare(const struct asked *a)
 {
     struct lent for_marks, for_second;
     char what[200];
+    bool of_edition_2 = column_of(a->entry, a->input, a->len[INPUT]) >= ENTRIES;
     cases++;
     lend(a, &for_marks, &for_second);
     struct outcome m = ask_marks(a->entry, &for_marks);
@@ -496,6 +650,8 @@ static struct outcome compare(const struct asked *a)
         slip_one_letter(a, &m, &s);
     if (past_examples && makes_failure_oracle(a->entry) && m.number == 0)
         slip_failure(a, &m, &s);
+    if (past_examples && (of_edition_2 || a->entry == SAVE_CHECKED))
+        slip_checked(a, &m, &s);
     if (!same_outcome(&m, &s))
         fail(a, "the number, the answers or the offset", &m, &s);
     for (int i = 0; i < SLICES; i++)
@@ -514,7 +670,11 @@ static struct outcome compare(const struct asked *a)
         check_failure_table(a, &m);
     if (a->entry == FAILURE_SEARCH)
         check_failure_finds(a, &for_second, &m);
-    seen[a->entry][m.number]++;
+    if (of_edition_2)
+        check_edition_2(a, for_second, &m);
+    if (a->entry == SAVE_CHECKED)
+        check_saved(a, for_second, &m);
+    seen[column_of(a->entry, a->input, a->len[INPUT])][m.number]++;
     return m;
 }
 
@@ -674,9 +834,9 @@ static struct outcome run_search(enum entry entry, const uint8_t *input, size_t 
     return compare(&a);
 }
 
-static struct outcome run_save(const uint8_t *word, size_t m, size_t out_len)
+static struct outcome run_save(unsigned edition, const uint8_t *word, size_t m, size_t out_len)
 {
-    struct asked a = ask(SAVE, word, m, m);
+    struct asked a = ask(edition == 2 ? SAVE_CHECKED : SAVE, word, m, m);
     a.len[OUT] = out_len;
     return compare(&a);
 }
@@ -721,23 +881,25 @@ static void set_taken(uint8_t *searcher, uint64_t taken)
         searcher[AT_TAKEN + i] = (uint8_t)(taken >> (8 * i));
 }
 
-/* build both oracles, save, load back; the last two are refused where it is one letter */
-static size_t there_and_back(const uint8_t *word, size_t m, uint8_t *file)
+/* build both oracles, save in each edition, load back; the last two are refused where it is one letter */
+static void there_and_back(const uint8_t *word, size_t m)
 {
-    size_t size = file_of(word, m, file);
+    static uint8_t file[MOST_FILE];
     run_plain(BUILD, word, m, m);
     run_plain(FAILURE_BUILD, word, m, m);
-    run_save(word, m, size);
-    run_plain(LOAD, file, size, m);
-    return size;
+    for (unsigned edition = 1; edition <= 2; edition++) {
+        size_t size = file_in(edition, word, m, file);
+        run_save(edition, word, m, size);
+        run_plain(LOAD, file, size, m);
+    }
 }
 
-/* each search for a word in a text, with a list of 0, fewer, exactly enough, or more entries */
+/* each search for a word in a text, with a list of 0, fewer, exactly enough, or more entries, and with a file of either edition */
 static void each_search(const uint8_t *word, size_t m, const uint8_t *text, size_t n)
 {
     uint8_t mirrored[MOST_LETTERS], file[MOST_FILE];
     mirror(word, m, mirrored);
-    size_t size = file_of(mirrored, m, file);
+    size_t size = file_in((unsigned)below(2) + 1, mirrored, m, file);
     size_t count = run_search(SEARCH, word, m, m, text, n, 0).answer[0];
     size_t lists[3] = {count > 0 ? below(count) : 0, count, count + 1 + below(4)};
     run_search(SEARCH, word, m, m, text, n, lists[below(3)]);
@@ -746,12 +908,12 @@ static void each_search(const uint8_t *word, size_t m, const uint8_t *text, size
     run_search(SEARCH_FILE, file, size, m, text, n, lists[below(3)]);
 }
 
-/* each search with lists of no entry, of one, one fewer than the finds, as many, one more */
+/* each search with lists of no entry, of one, one fewer than the finds, as many, one more, and with a file of either edition */
 static void every_list(const uint8_t *word, size_t m, const uint8_t *text, size_t n)
 {
     uint8_t mirrored[MOST_LETTERS], file[MOST_FILE];
     mirror(word, m, mirrored);
-    size_t size = file_of(mirrored, m, file);
+    size_t size = file_in((unsigned)below(2) + 1, mirrored, m, file);
     size_t count = run_search(SEARCH, word, m, m, text, n, 0).answer[0];
     size_t lists[] = {0, 1, count > 0 ? count - 1 : 0, count, count + 1};
     for (size_t i = 0; i < sizeof lists / sizeof *lists; i++) {
@@ -763,7 +925,7 @@ static void every_list(const uint8_t *word, size_t m, const uint8_t *text, size_
 }
 
 /* a file loaded, in rooms for m letters that are exact, sometimes in shorter or longer ones, and sometimes searched with */
-static void try_file(const uint8_t *file, size_t len, size_t m)
+static void try_as_it_is(const uint8_t *file, size_t len, size_t m)
 {
     static const uint8_t text[] = "abbaabbbaaabbaabbacdeacaacdacbaca";
     struct asked a = ask(LOAD, file, len, m);
@@ -779,6 +941,17 @@ static void try_file(const uint8_t *file, size_t len, size_t m)
     }
     if (below(2) == 0)
         run_search(SEARCH_FILE, file, len, m, text, sizeof text - 1, below(6));
+}
+
+/* the same, and if it is of edition 2 sometimes once more with its last two bytes made the check of those before */
+static void try_file(const uint8_t *file, size_t len, size_t m)
+{
+    static uint8_t sealed[2 * MOST_FILE];
+    try_as_it_is(file, len, m);
+    if (len <= CHECK_BYTES || file[0] != 2 || below(2) == 0)
+        return;
+    memcpy(sealed, file, len - CHECK_BYTES);
+    try_as_it_is(sealed, seal(sealed, len - CHECK_BYTES), m);
 }
 
 /* ---- the scope document's worked examples, whose values are written out ---- */
@@ -803,7 +976,7 @@ static void example_file(const char *word, const char *hex)
 {
     uint8_t file[64];
     size_t size = from_hex(hex, file), m = strlen(word);
-    struct outcome o = run_save((const uint8_t *)word, m, size);
+    struct outcome o = run_save(file[0], (const uint8_t *)word, m, size);
     expect(o.number == 0 && o.answer[0] == size && memcmp(zones[OUT].marks + zones[OUT].at, file, size) == 0, hex);
     o = run_plain(LOAD, file, size, m);
     expect(o.number == 0 && o.answer[0] == m && memcmp(zones[ROOM].marks + zones[ROOM].at, word, m) == 0, hex);
@@ -829,16 +1002,18 @@ static void expect_finds(struct outcome o, const char *word, uint64_t count, con
     expect(memcmp(zones[FINDS].marks + zones[FINDS].at, places, count * sizeof *places) == 0, word);
 }
 
-/* by the word, and by the file of its mirror */
+/* by the word, and by the file of its mirror in each edition */
 static void example_search(const char *word, const char *text, uint64_t count, const uint32_t *places, uint64_t letters)
 {
     uint8_t mirrored[MOST_LETTERS], file[MOST_FILE];
     const uint8_t *w = (const uint8_t *)word, *t = (const uint8_t *)text;
     size_t m = strlen(word), n = strlen(text);
     mirror(w, m, mirrored);
-    size_t size = file_of(mirrored, m, file);
     expect_finds(run_search(SEARCH, w, m, m, t, n, count), word, count, places, letters);
-    expect_finds(run_search(SEARCH_FILE, file, size, m, t, n, count), word, count, places, letters);
+    for (unsigned edition = 1; edition <= 2; edition++) {
+        size_t size = file_in(edition, mirrored, m, file);
+        expect_finds(run_search(SEARCH_FILE, file, size, m, t, n, count), word, count, places, letters);
+    }
 }
 
 static void example_turbo(const char *word, const char *text, uint64_t count, const uint32_t *places, uint64_t letters)
@@ -861,22 +1036,33 @@ static void example_arrows(const char *word, const uint16_t *pairs, size_t arrow
         expect(t[n + i] == supplies[i - 1], word);
 }
 
-/* saving so many a's, with every choice of tables and output: a refusal before the rooms, or else what the rooms say */
+/* saving so many a's in each edition, with every choice of tables and output: a refusal before the rooms, or else what the rooms say */
 static void example_saving(size_t m, uint32_t before_rooms)
 {
     static uint8_t word[MOST_LETTERS + 1];
     memset(word, 'a', sizeof word);
-    for (size_t c = 0; c < room_choices * room_choices; c++) {
-        size_t tables = c % room_choices, out = c / room_choices;
+    for (size_t c = 0; c < 2 * room_choices * room_choices; c++) {
+        size_t tables = c / 2 % room_choices, out = c / 2 / room_choices, size = c % 2 ? m + 5 : m + 3;
         bool short_tables = tables < 2, short_out = out < 2;
-        struct asked a = ask(SAVE, word, m, m);
+        struct asked a = ask(c % 2 ? SAVE_CHECKED : SAVE, word, m, m);
         a.len[TABLES] = room_choice(entries_for(SAVE, m), tables);
-        a.len[OUT] = room_choice(m + 3, out);
+        a.len[OUT] = room_choice(size, out);
         a.nulls = below(2);
         struct outcome o = compare(&a);
         expect(o.number == (before_rooms != 0 ? before_rooms : short_tables ? 3 : short_out ? 12 : 0), "saving a's in every room");
-        expect(o.number != 0 || o.answer[0] == m + 3, "saving a's in every room");
+        expect(o.number != 0 || o.answer[0] == size, "saving a's in every room");
     }
+}
+
+/* Saving in each edition with every length of output: 18 bytes are enough for the one, 20 for the other. */
+static void example_outputs(void)
+{
+    for (size_t out = 0; out <= 24; out++)
+        for (unsigned edition = 1; edition <= 2; edition++) {
+            size_t size = edition == 2 ? 20 : 18;
+            struct outcome o = run_save(edition, (const uint8_t *)"abbbaab", 7, out);
+            expect(o.number == (out < size ? 12 : 0) && (o.number != 0 || o.answer[0] == size), "saving in every length of output");
+        }
 }
 
 /* loading, and searching with, a file that is refused whatever word room and tables are lent */
@@ -892,17 +1078,29 @@ static void example_in_every_room(const uint8_t *file, size_t len, size_t m, uin
     }
 }
 
-/* One letter has no file, whichever it is. Twice the same letter has the least one. */
+static void example_least_file(const uint8_t *file, unsigned edition, size_t len)
+{
+    struct outcome saved = run_save(edition, file + 2, LEAST_SAVED, len);
+    expect(saved.number == 0 && memcmp(zones[OUT].marks + zones[OUT].at, file, len) == 0, "saving twice the same letter");
+    example_loading(file, len, LEAST_SAVED, 0, UNTOUCHED, "the file of twice the same letter");
+}
+
+/* One letter has no file, whichever it is. Twice the same letter has the least one, of 5 bytes in edition 1 and of 7 in edition 2. */
 static void examples_of_least_files(void)
 {
     for (unsigned letter = 0; letter < 256; letter++) {
-        const uint8_t one[] = {1, 1, (uint8_t)letter, 0, 0}, two[] = {1, 2, (uint8_t)letter, (uint8_t)letter, 0};
+        uint8_t one[LEAST_FILE + CHECK_BYTES] = {1, 1, (uint8_t)letter};
+        uint8_t two[LEAST_FILE + CHECK_BYTES] = {1, 2, (uint8_t)letter, (uint8_t)letter};
+        for (size_t len = 2; len <= LEAST_FILE; len++)
+            example_in_every_room(one, len, 1, 8, 1);
+        example_least_file(two, 1, LEAST_FILE);
+        one[0] = two[0] = 2;
+        seal(one, LEAST_FILE - 1);
         for (size_t len = 2; len <= sizeof one; len++)
             example_in_every_room(one, len, 1, 8, 1);
-        struct outcome saved = run_save(two + 2, 2, sizeof two);
-        expect(saved.number == 0 && memcmp(zones[OUT].marks + zones[OUT].at, two, sizeof two) == 0, "saving twice the same letter");
-        example_loading(two, sizeof two, 2, 0, UNTOUCHED, "the file of twice the same letter");
+        example_least_file(two, 2, seal(two, LEAST_FILE));
     }
+    example_outputs();
     example_saving(0, 1);
     example_saving(1, 17);
     example_saving(2, 0);
@@ -935,16 +1133,39 @@ static void example_goes_on(const char *front, size_t m)
     example_long(front, m + 1, "00", m, 5, m + 5);
 }
 
+/* the same in edition 2; the check is given, and stands behind the count of no arrows */
+static void example_goes_on_checked(const char *front, size_t m, const char *check)
+{
+    char right[16], more[16], wrong[16];
+    size_t at = m + 4;
+    snprintf(right, sizeof right, "00 %s", check);
+    snprintf(more, sizeof more, "00 %s 00", check);
+    snprintf(wrong, sizeof wrong, "00 %.2s 01", check);
+    example_long(front, 0, "", m, 5, 3);
+    example_long(front, m - 1, "", m - 1, 5, m + 2);
+    example_long(front, m, "", m - 1, 3, UNTOUCHED);
+    example_long(front, m, "", m, 5, m + 3);
+    example_long(front, m, "00", m, 5, at);
+    example_long(front, m, "00 61", m, 5, at + 1);
+    example_long(front, m, wrong, m, 13, at);
+    example_long(front, m, wrong, m - 1, 3, UNTOUCHED);
+    example_long(front, m, right, m, 0, UNTOUCHED);
+    example_long(front, m, more, m, 11, at + 2);
+    example_long(front, m, "01 00 00", m, 10, at);
+}
+
 /* a word of so many letters, each an a, built, saved and searched for */
 static void example_word(size_t m, uint32_t number)
 {
     static uint8_t text[MOST_LETTERS + 8];
     memset(text, 'a', sizeof text);
-    struct outcome built = run_plain(BUILD, text, m, m), saved = run_save(text, m, ALWAYS_ENOUGH);
+    struct outcome built = run_plain(BUILD, text, m, m), saved = run_save(1, text, m, ALWAYS_ENOUGH);
+    struct outcome checked = run_save(2, text, m, ALWAYS_ENOUGH + CHECK_BYTES);
     struct outcome sought = run_search(SEARCH, text, m, m, text, m + 2, 3), turbo = run_search(TURBO, text, m, m, text, m + 2, 3);
     struct outcome failing = run_plain(FAILURE_BUILD, text, m, m), by_failing = run_search(FAILURE_SEARCH, text, m, m, text, m + 2, 3);
     expect(built.number == number && saved.number == number && sought.number == number, "a word of many letters");
     expect(number != 0 || (built.answer[0] == m && saved.answer[0] == m + 4), "a word of many letters");
+    expect(checked.number == number && (number != 0 || checked.answer[0] == m + 6), "a word of many letters");
     expect(number != 0 || (sought.answer[0] == 3 && sought.answer[1] == 3 * m), "a word of many letters");
     expect(failing.number == number && by_failing.number == number, "a word of many letters");
     expect(number != 0 || (by_failing.answer[0] == 3 && by_failing.answer[1] == 3 * m && by_failing.answer[2] == 0), "a word of many letters");
@@ -958,6 +1179,12 @@ static void examples_at_the_limit(void)
     example_goes_on("01 81 08", 1025);
     example_goes_on("01 FF 1F", 4095);
     example_goes_on("01 80 20", 4096);
+    example_goes_on_checked("02 80 08", 1024, "58 A3");
+    example_goes_on_checked("02 81 08", 1025, "76 B7");
+    example_goes_on_checked("02 FF 1F", 4095, "ED 29");
+    example_goes_on_checked("02 80 20", 4096, "D0 C9");
+    example_long("02 81 20", 0, "", MOST_LETTERS + 1, 8, 1);
+    example_long("02 81 20", 4097, "00 00 00", MOST_LETTERS + 1, 8, 1);
     example_long("01 81 20", 0, "", MOST_LETTERS + 1, 8, 1);
     example_long("01 81 20", 4096, "", MOST_LETTERS, 8, 1);
     example_long("01 81 20", 4097, "00", MOST_LETTERS + 1, 8, 1);
@@ -987,7 +1214,7 @@ static void examples_refused(void)
 static void examples_of_fronts(void)
 {
     example_refused("00", 7, 0);
-    example_refused("02 03 61 61 61 00", 7, 0);
+    example_refused("03 03 61 61 61 00", 7, 0);
     example_refused("80 01", 7, 0);
     example_refused("80", 5, 1);
     example_refused("81 00", 6, 1);
@@ -1001,7 +1228,7 @@ static void examples_of_fronts(void)
     example_refused("01 01 61 01 00 00", 8, 1);
     example_refused("01 01 61 80 00", 8, 1);
     example_refused("01 81 00 61 00", 6, 2);
-    example_refused("02 01 61 00", 7, 0);
+    example_refused("03 01 61 00", 7, 0);
     example_refused("01 02", 5, 2);
     example_refused("01 02 61", 5, 3);
     example_refused("01 03", 5, 2);
@@ -1047,6 +1274,93 @@ static void examples_of_arrows(void)
     example_behind("04 00 00 01 03 01 01 01 00 61 62 63", 11, 18);
 }
 
+/* Files of edition 2. Up to the arrows all is as in edition 1. Behind them, 00 36 is the check of 02 02 61 61 00. */
+static void examples_of_checks(void)
+{
+    example_refused("02", 5, 1);
+    example_refused("82 00", 6, 1);
+    example_refused("82", 5, 1);
+    example_refused("82 01", 7, 0);
+    example_refused("02 00", 8, 1);
+    example_refused("02 01 61 00", 8, 1);
+    example_refused("02 01 61 00 79 E8", 8, 1);
+    example_refused("02 02 61", 5, 3);
+    example_refused("02 02 61 61", 5, 4);
+    example_refused("02 02 61 61 02 00 36", 9, 4);
+    example_refused("02 02 61 61 80 00 36", 6, 5);
+    example_refused("02 02 61 61 00", 5, 5);
+    example_refused("02 02 61 61 00 00", 5, 6);
+    example_refused("02 02 61 61 00 36", 5, 6);
+    example_refused("02 02 61 61 00 36 00", 13, 5);
+    example_refused("02 02 61 61 00 00 00", 13, 5);
+    example_refused("02 02 61 61 00 01 36", 13, 5);
+    example_refused("02 02 61 61 00 00 37", 13, 5);
+    example_refused("02 02 61 61 00 44 36", 13, 5);
+    example_refused("02 02 61 61 00 00 37 00", 13, 5);
+    example_refused("02 02 61 61 00 36 00 00 36", 13, 5);
+    example_refused("02 02 61 61 00 00 36 00", 11, 7);
+    example_refused("02 02 61 61 00 00 36 00 00", 11, 7);
+    example_refused("02 02 61 61 00 00 36 00 36", 11, 7);
+    example_refused("02 02 61 61 00 00 36 61 62 63", 11, 7);
+    example_refused("01 02 61 61 00 00 36", 11, 5);
+    example_refused("01 02 61 61 00 44 36", 11, 5);
+    example_refused("03 02 61 61 00 3D F6", 7, 0);
+    example_refused("00 02 61 61 00 79 F6", 7, 0);
+    example_refused("02 03 61 61 61 01 00 00 49 5C", 10, 6);
+}
+
+/* abbbaab in edition 2, whose check is FE 2F; arrows that are missing or wrong come before the check, right or not, and before its cut */
+static void example_behind_checked(const char *behind, uint32_t number, uint64_t offset)
+{
+    uint8_t file[64];
+    size_t len = from_hex("02 07 61 62 62 62 61 61 62", file);
+    len += from_hex(behind, file + len);
+    example_loading(file, len, 7, number, offset, behind);
+}
+
+static void examples_of_arrows_and_checks(void)
+{
+    example_refused("02 02 61 62 00", 10, 5);
+    example_refused("02 02 61 62 00 00", 10, 5);
+    example_refused("02 02 61 62 00 00 C6", 10, 5);
+    example_refused("02 02 61 62 00 00 C6 00", 10, 5);
+    example_refused("02 02 61 62 00 D1 92", 10, 5);
+    example_behind_checked("00", 10, 10);
+    example_behind_checked("00 95 10", 10, 10);
+    example_behind_checked("03 00 00 01 03 01 01", 10, 16);
+    example_behind_checked("03 00 00 01 03 01 01 DE", 10, 16);
+    example_behind_checked("03 00 00 01 03 01 01 DE 6A", 10, 16);
+    example_behind_checked("03 00 00 01 03 01 01 DE 6B", 10, 16);
+    example_behind_checked("03 00 00 01 03 01 01 DE 6A 00", 10, 16);
+    example_behind_checked("04 00 00 01 04 01 01 01 00 4B EF", 10, 12);
+    example_behind_checked("04 00 00 01 04 01 01 01 00 FE 2F", 10, 12);
+    example_behind_checked("04 00 00 01 03 01 01 01", 5, 17);
+    example_behind_checked("04 00 00 01 03 01 01 01 00", 5, 18);
+    example_behind_checked("04 00 00 01 03 01 01 01 00 FE", 5, 19);
+    example_behind_checked("04 00 00 01 03 01 01 01 00 FE 2E", 13, 18);
+    example_behind_checked("04 00 00 01 03 01 01 01 00 FE 2E 2F", 13, 18);
+    example_behind_checked("04 00 00 01 03 01 01 01 00 0E 6B", 13, 18);
+    example_behind_checked("04 00 00 01 03 01 01 01 00 FE 2F 00", 11, 20);
+    example_behind_checked("05 00 00 01 03 01 01 01 00 FE 2F", 5, 20);
+    example_behind_checked("05 00 00 01 03 01 01 01 00 FE 2F 00", 10, 18);
+}
+
+/* the catalogue's check of 123456789 is BB3D; the words of two letters are chosen for their checks */
+static void examples_of_dividing(void)
+{
+    uint8_t digits[] = "1234567890", file[16];
+    expect(seal(digits, 9) == 11 && digits[9] == 0x3D && digits[10] == 0xBB, "the check of 123456789");
+    expect(ends_with_check(digits, 11) && !ends_with_check(digits, 10), "the check of 123456789");
+    static const char *const files[] = {"02 02 83 E1 01 00 00 00 00", "02 02 C6 15 01 00 00 FF FF", "02 02 D0 F4 01 00 00 80 00",
+                                        "02 02 25 CB 01 00 00 00 01", "02 02 86 11 01 00 00 FF 00"};
+    for (size_t i = 0; i < sizeof files / sizeof *files; i++) {
+        size_t len = from_hex(files[i], file);
+        struct outcome o = run_save(2, file + 2, 2, len);
+        expect(o.number == 0 && memcmp(zones[OUT].marks + zones[OUT].at, file, len) == 0, files[i]);
+        example_loading(file, len, 2, 0, UNTOUCHED, files[i]);
+    }
+}
+
 /* 4,095 a's and a b: each of the first 4,095 states has an arrow to the last. 128 of the arrows have two bytes and the others three, so
    the file has 16,258 bytes. */
 static void example_last_arrow(void)
@@ -1066,6 +1380,15 @@ static void example_last_arrow(void)
     example_loading(file, len, 4096, 10, 16256, what);
     file[16257] = 0;
     example_loading(file, len, 4096, 10, 16256, what);
+    len = checked_file_of(word, 4096, file);
+    expect(len == 16260 && file[16258] == 0xF2 && file[16259] == 0x1D, what);
+    example_loading(file, len, 4096, 0, UNTOUCHED, what);
+    example_loading(file, len - 1, 4096, 5, 16259, what);
+    example_loading(file, len - 2, 4096, 5, 16258, what);
+    file[16259] ^= 0x80;
+    example_loading(file, len, 4096, 13, 16258, what);
+    file[16257] = 1;
+    example_loading(file, len, 4096, 10, 16256, what);
 }
 
 static void examples_of_loading(void)
@@ -1073,6 +1396,9 @@ static void examples_of_loading(void)
     examples_refused();
     examples_of_fronts();
     examples_of_arrows();
+    examples_of_checks();
+    examples_of_arrows_and_checks();
+    examples_of_dividing();
     example_last_arrow();
     examples_at_the_limit();
     examples_of_least_files();
@@ -1243,6 +1569,10 @@ static void examples(void)
     example_file("aaa", "01 03 61 61 61 00");
     example_file("ab", "01 02 61 62 01 00 00");
     example_file("abbbaab", "01 07 61 62 62 62 61 61 62 04 00 00 01 03 01 01 01 00");
+    example_file("aa", "02 02 61 61 00 00 36");
+    example_file("aaa", "02 03 61 61 61 00 22 50");
+    example_file("ab", "02 02 61 62 01 00 00 D1 92");
+    example_file("abbbaab", "02 07 61 62 62 62 61 61 62 04 00 00 01 03 01 01 01 00 FE 2F");
     example_arrows("a", NULL, 0, NULL);
     example_arrows("aaa", NULL, 0, NULL);
     example_arrows("abbbaab", first, 4, supplies);
@@ -1264,8 +1594,8 @@ static void examples(void)
 
 static void short_word(const uint8_t *word, size_t m)
 {
-    uint8_t file[MOST_FILE], text[48];
-    there_and_back(word, m, file);
+    uint8_t text[48];
+    there_and_back(word, m);
     each_search(word, m, word, m - below(2));
     for (size_t i = 0; i < 40; i++)
         text[i] = word[i % m];
@@ -1305,15 +1635,16 @@ static void spell_digits(size_t number, size_t len, uint8_t *out)
 
 static void every_text(const uint8_t *word, size_t m)
 {
-    uint8_t mirrored[6], file[MOST_FILE], text[10];
+    uint8_t mirrored[6], file[2][MOST_FILE], text[10];
     mirror(word, m, mirrored);
-    size_t size = file_of(mirrored, m, file);
+    size_t size[2] = {file_of(mirrored, m, file[0]), checked_file_of(mirrored, m, file[1])};
     for (size_t n = 0; n <= sizeof text; n++)
         for (size_t number = 0; number < (size_t)1 << n; number++) {
             spell_digits(number, n, text);
             run_search(SEARCH, word, m, m, text, n, n);
             run_search(FAILURE_SEARCH, word, m, m, text, n, below(4) ? n : below(3));
-            run_search(SEARCH_FILE, file, size, m, text, n, n);
+            size_t edition = below(2);
+            run_search(SEARCH_FILE, file[edition], size[edition], m, text, n, n);
         }
 }
 
@@ -1985,10 +2316,12 @@ static void longer_words(void)
                 size_t m = lengths[l], n = below(2) ? some_length(sizeof text) : m + below(sizeof text - m);
                 choose_palette(alphabets[a]);
                 make_word(word, m, (enum kind)kind);
-                size_t size = there_and_back(word, m, file);
-                run_save(word, m, ALWAYS_ENOUGH);
+                there_and_back(word, m);
+                run_save(1, word, m, ALWAYS_ENOUGH);
+                run_save(2, word, m, ALWAYS_ENOUGH + CHECK_BYTES);
                 make_text(text, n, word, m, (unsigned)chance());
                 each_search(word, m, text, n);
+                size_t size = file_in((unsigned)below(2) + 1, word, m, file);
                 for (size_t cut = 0; m > 1000 && cut < size; cut += 1 + size / 20)
                     try_file(file, cut, m);
             }
@@ -2074,6 +2407,24 @@ static void rooms_for(enum entry entry, const uint8_t *input, size_t input_len, 
     }
 }
 
+/* a file of edition 2 over all rooms: good, without a byte of its check or without all of it, with a byte too many, with a wrong check */
+static void rooms_of_checked_file(const uint8_t *word, size_t m)
+{
+    static uint8_t file[MOST_FILE], mirrored[MOST_LETTERS];
+    size_t size = checked_file_of(word, m, file);
+    mirror(word, m, mirrored);
+    rooms_for(LOAD, file, size, m, 0, NULL);
+    rooms_for(SEARCH_FILE, file, size, m, 0, mirrored);
+    rooms_for(LOAD, file, size - 1, m, 0, NULL);
+    rooms_for(SEARCH_FILE, file, size - CHECK_BYTES, m, 0, mirrored);
+    file[size] = 0;
+    rooms_for(LOAD, file, size + 1, m, 0, NULL);
+    file[size - 1] ^= 1;
+    rooms_for(LOAD, file, size, m, 0, NULL);
+    rooms_for(SEARCH_FILE, file, size, m, 0, mirrored);
+    rooms_for(SEARCH_FILE, file, size + 1, m, 0, mirrored);
+}
+
 /* a word at the limit or past it, or an empty one, over all rooms */
 static void rooms_of_word(const uint8_t *word, size_t m)
 {
@@ -2082,6 +2433,8 @@ static void rooms_of_word(const uint8_t *word, size_t m)
     size_t size = good ? file_of(word, m, file) : 40;
     rooms_for(BUILD, word, m, m, 0, NULL);
     rooms_for(SAVE, word, m, m, size, NULL);
+    rooms_for(SAVE_CHECKED, word, m, m, size + CHECK_BYTES, NULL);
+    rooms_for(SAVE_CHECKED, word, m, m, size, NULL);
     rooms_for(SEARCH, word, m, m, 0, word);
     rooms_for(TURBO, word, m, m, 0, word);
     rooms_for(FAILURE_SEARCH, word, m, m, 0, word);
@@ -2094,17 +2447,21 @@ static void rooms_of_word(const uint8_t *word, size_t m)
         file[size] = 0;
         rooms_for(LOAD, file, size + 1, m, 0, NULL);
         rooms_for(SEARCH_FILE, file, size + 1, m, 0, mirrored);
+        rooms_of_checked_file(word, m);
     }
 }
 
 /* a file that declares a word past the limit, and has it */
-static void rooms_of_long_file(const uint8_t *word, size_t m)
+static void rooms_of_long_file(unsigned edition, const uint8_t *word, size_t m)
 {
-    static uint8_t file[MOST_FILE] = {1};
+    static uint8_t file[MOST_FILE];
+    file[0] = (uint8_t)edition;
     size_t size = 1 + spell_in((uint32_t)m, groups_of((uint32_t)m), file + 1);
     memcpy(file + size, word, m);
     size += m;
     file[size++] = 0;
+    if (edition == 2)
+        size = seal(file, size);
     rooms_for(LOAD, file, size, m, 0, NULL);
     rooms_for(SEARCH_FILE, file, size, m, 0, NULL);
 }
@@ -2120,7 +2477,8 @@ static void rooms(void)
             make_word(word, lengths[l], turn < 2 ? RANDOM : BROKEN);
             rooms_of_word(word, lengths[l]);
             if (lengths[l] > MOST_LETTERS && lengths[l] < PAST_16_BITS)
-                rooms_of_long_file(word, lengths[l]);
+                for (unsigned edition = 1; edition <= 2; edition++)
+                    rooms_of_long_file(edition, word, lengths[l]);
         }
 }
 
@@ -2395,23 +2753,23 @@ static void replace_number(const uint8_t *file, size_t len, size_t m, size_t fro
 /* each number of a good file in turn; of many arrows only some */
 static void replace_numbers(const uint8_t *file, size_t len, size_t m)
 {
-    size_t at = 0, field = 0;
-    while (at < len) {
+    size_t at = 0, field = 0, behind = file[0] == 2 ? len - CHECK_BYTES : len;
+    while (at < behind) {
         size_t to = at;
         while (file[to] >= 128)
             to++;
         to++;
-        if (field < 8 || len - to < 6 || below(len / 16 + 1) == 0)
+        if (field < 8 || behind - to < 6 || below(len / 16 + 1) == 0)
             replace_number(file, len, m, at, to);
         at = field == 1 ? to + m : to;
         field++;
     }
 }
 
-static void damage(const uint8_t *word, size_t m, bool every_value, size_t letter_in, size_t byte_in)
+static void damage(unsigned edition, const uint8_t *word, size_t m, bool every_value, size_t letter_in, size_t byte_in)
 {
     static uint8_t file[MOST_FILE];
-    size_t len = file_of(word, m, file);
+    size_t len = file_in(edition, word, m, file);
     one_letter_in = letter_in;
     one_byte_in = byte_in;
     cut_file(file, len, m);
@@ -2421,10 +2779,10 @@ static void damage(const uint8_t *word, size_t m, bool every_value, size_t lette
 }
 
 /* every byte changed of a file with one byte too many */
-static void damage_longer(const uint8_t *word, size_t m)
+static void damage_longer(unsigned edition, const uint8_t *word, size_t m)
 {
     static uint8_t file[MOST_FILE];
-    size_t len = file_of(word, m, file);
+    size_t len = file_in(edition, word, m, file);
     file[len] = 0;
     change_bytes(file, len + 1, m, true);
 }
@@ -2447,14 +2805,16 @@ static void damaged_files(void)
                   {MOST_LETTERS - 1, 4096, 64},
                   {MOST_LETTERS, 2048, 64}};
     static uint8_t word[MOST_LETTERS];
-    for (size_t i = 0; i < sizeof short_ones / sizeof *short_ones; i++) {
-        damage((const uint8_t *)short_ones[i], strlen(short_ones[i]), true, 1, 1);
-        damage_longer((const uint8_t *)short_ones[i], strlen(short_ones[i]));
+    for (size_t i = 0; i < 2 * sizeof short_ones / sizeof *short_ones; i++) {
+        const char *own = short_ones[i / 2];
+        damage((unsigned)(i % 2 + 1), (const uint8_t *)own, strlen(own), true, 1, 1);
+        damage_longer((unsigned)(i % 2 + 1), (const uint8_t *)own, strlen(own));
     }
-    for (size_t i = 0; i < sizeof longer / sizeof *longer; i++) {
-        choose_palette(i % 2 ? 4 : 2);
-        make_word(word, longer[i].m, i == 4 ? PERIODIC : RANDOM);
-        damage(word, longer[i].m, false, longer[i].letter_in, longer[i].byte_in);
+    for (size_t i = 0; i < 2 * sizeof longer / sizeof *longer; i++) {
+        size_t l = i / 2, m = longer[l].m, fewer = i % 2 && m > 1000 ? 4 : 1;
+        choose_palette(l % 2 ? 4 : 2);
+        make_word(word, m, l == 4 ? PERIODIC : RANDOM);
+        damage((unsigned)(i % 2 + 1), word, m, false, fewer * longer[l].letter_in, fewer * longer[l].byte_in);
     }
 }
 
@@ -2475,14 +2835,305 @@ static void least_files(void)
         }
 }
 
+/* ---- files of edition 2: every ending of bodies that are right and wrong, every check, single bits ---- */
+
+static void flip_bit(uint8_t *bytes, size_t bit)
+{
+    bytes[bit / 8] ^= (uint8_t)(1 << bit % 8);
+}
+
+/* a body is a file of edition 2 up to its check, or is like one */
+static void try_ending(const uint8_t *body, size_t len, const uint8_t *end, size_t end_len, size_t m)
+{
+    static uint8_t file[2 * MOST_FILE];
+    memcpy(file, body, len);
+    memcpy(file + len, end, end_len);
+    try_as_it_is(file, len + end_len, m);
+}
+
+/* the check of other bytes than it should be of, or made otherwise: of those behind the edition, of all but the last, of the same as
+   edition 1; one that starts with FFFF; and behind a wrong one that of all before it */
+static void other_checks(const uint8_t *body, size_t len, size_t m)
+{
+    static uint8_t other[MOST_FILE + 8];
+    memcpy(other, body, len);
+    seal(other + 1, len - 1);
+    try_ending(body, len, other + len, CHECK_BYTES, m);
+    seal(other, len - 1);
+    try_ending(body, len, other + len - 1, CHECK_BYTES, m);
+    memcpy(other, body, len);
+    other[0] ^= 3;
+    seal(other, len);
+    try_ending(body, len, other + len, CHECK_BYTES, m);
+    memcpy(other, body, len);
+    other[0] ^= 0xFF;
+    other[1] ^= 0xFF;
+    seal(other, len);
+    try_ending(body, len, other + len, CHECK_BYTES, m);
+    memcpy(other, body, len);
+    seal(other, len);
+    flip_bit(other + len, below(8 * CHECK_BYTES));
+    seal(other, len + CHECK_BYTES);
+    try_ending(body, len, other + len, 2 * CHECK_BYTES, m);
+}
+
+/* nothing, one byte, the check, wrong ones, and bytes behind the check and behind wrong ones, also the whole again */
+static void every_ending(const uint8_t *body, size_t len, size_t m)
+{
+    static uint8_t whole[MOST_FILE], end[MOST_FILE + CHECK_BYTES];
+    memcpy(whole, body, len);
+    size_t size = seal(whole, len);
+    uint8_t low = whole[len], high = whole[len + 1], no_low = (uint8_t)~low, no_high = (uint8_t)~high;
+    const struct {
+        size_t len;
+        uint8_t bytes[4];
+    } ends[] = {{0, {0}},
+                {1, {low}},
+                {1, {high}},
+                {1, {no_low}},
+                {1, {0}},
+                {2, {low, high}},
+                {2, {high, low}},
+                {2, {low, no_high}},
+                {2, {no_low, high}},
+                {2, {no_low, no_high}},
+                {2, {0, 0}},
+                {3, {low, high, 0}},
+                {3, {low, high, low}},
+                {4, {low, high, 0, 0}},
+                {4, {low, high, low, high}},
+                {3, {low, no_high, 0}},
+                {3, {no_low, high, 0}},
+                {3, {high, low, high}},
+                {4, {no_low, no_high, low, high}},
+                {4, {0, 0, low, high}}};
+    for (size_t e = 0; e < sizeof ends / sizeof *ends; e++)
+        try_ending(body, len, ends[e].bytes, ends[e].len, m);
+    memcpy(end, whole + len, CHECK_BYTES);
+    for (size_t bit = 0; bit < 8 * CHECK_BYTES; bit++) {
+        flip_bit(end, bit);
+        try_ending(body, len, end, CHECK_BYTES, m);
+        flip_bit(end, bit);
+    }
+    memcpy(end + CHECK_BYTES, whole, size);
+    try_ending(body, len, end, CHECK_BYTES + size, m);
+    flip_bit(end, below(8 * CHECK_BYTES));
+    try_ending(body, len, end, CHECK_BYTES + size, m);
+    other_checks(body, len, m);
+}
+
+/* the body of a word's file with other editions, in one group and in two */
+static void other_editions(const uint8_t *body, size_t len, size_t m)
+{
+    static const char *const editions[] = {"00", "01", "03", "04", "12", "42", "7F", "80", "82", "FF", "82 00", "82 01", "81 00", "80 02",
+                                           "82 80 00", "FF FF FF FF 0F"};
+    static uint8_t other[MOST_FILE];
+    uint8_t put[8];
+    for (size_t e = 0; e < sizeof editions / sizeof *editions; e++) {
+        size_t put_len = from_hex(editions[e], put);
+        every_ending(other, spliced(body, len, 0, 1, put, put_len, other), m);
+    }
+}
+
+/* the body with fewer arrows than its word has, declared so and not, and with one more; of many arrows only some */
+static void other_counts(const uint8_t *body, size_t len, size_t m, size_t one_in)
+{
+    static uint8_t other[MOST_FILE];
+    size_t count_at = behind_number(body, len, 1) + m, at = behind_number(body, len, count_at), arrows = small_number(body, count_at);
+    for (size_t k = 0, to = at; k <= arrows; k++, to = to < len ? behind_number(body, len, behind_number(body, len, to)) : to) {
+        if (k > 1 && k + 2 < arrows && below(one_in) != 0)
+            continue;
+        memcpy(other, body, count_at);
+        size_t behind = count_at + spell_in((uint32_t)k, groups_of((uint32_t)k), other + count_at);
+        memcpy(other + behind, body + at, to - at);
+        every_ending(other, behind + to - at, m);
+        every_ending(body, to, m);
+    }
+    memcpy(other, body, count_at);
+    size_t behind = count_at + spell_in((uint32_t)arrows + 1, groups_of((uint32_t)arrows + 1), other + count_at);
+    memcpy(other + behind, body + at, len - at);
+    memset(other + behind + len - at, 0, 2);
+    every_ending(other, behind + len - at, m);
+    every_ending(other, behind + len - at + 2, m);
+}
+
+/* every byte of a body changed in some ways, the check made right */
+static void other_bytes(const uint8_t *body, size_t len, size_t m)
+{
+    static uint8_t other[MOST_FILE];
+    memcpy(other, body, len);
+    for (size_t at = 0; at < len; at++) {
+        uint8_t own = other[at];
+        for (int turn = 0; turn < 4; turn++) {
+            other[at] = turn == 0 ? (uint8_t)(own + 1) : turn == 1 ? (uint8_t)(own - 1) : turn == 2 ? own ^ 0x80 : (uint8_t)chance();
+            seal(other, len);
+            try_as_it_is(other, len + CHECK_BYTES, m);
+        }
+        other[at] = own;
+    }
+}
+
+/* A single bit that is changed is always seen. The check made right again, what is refused is refused for the body. */
+static void flip_bits(const uint8_t *word, size_t m)
+{
+    static uint8_t file[MOST_FILE];
+    size_t len = checked_file_of(word, m, file);
+    for (size_t bit = 0; bit < 8 * len; bit++) {
+        flip_bit(file, bit);
+        expect(run_plain(LOAD, file, len, m).number != 0, "a bit that is changed");
+        expect(run_search(SEARCH_FILE, file, len, m, word, m, 1).number != 0, "a bit that is changed");
+        flip_bit(file, bit);
+    }
+    for (size_t bit = 0; bit < 8 * (len - CHECK_BYTES); bit++) {
+        flip_bit(file, bit);
+        seal(file, len - CHECK_BYTES);
+        try_as_it_is(file, len, m);
+        flip_bit(file, bit);
+    }
+}
+
+/* Four bits as the check's polynomial has them, from each bit on, and twice: the check does not see it. Where no letter is there twice, the
+   changed letters are often another word's, and the file is that one's. */
+static void unseen_changes(const uint8_t *word, size_t m)
+{
+    static const size_t pattern[] = {0, 1, 14, 16};
+    static uint8_t file[MOST_FILE];
+    for (int turns = 1; turns <= 2; turns++) {
+        size_t len = checked_file_of(word, m, file), bits = 8 * len - 16;
+        for (size_t from = 0; from < bits; from++) {
+            size_t other = turns == 2 ? below(bits) : from;
+            for (int i = 0; i < 4 * turns; i++)
+                flip_bit(file, (i < 4 ? from : other) + pattern[i % 4]);
+            expect(ends_with_check(file, len), "a change that the check does not see");
+            try_as_it_is(file, len, m);
+            checked_file_of(word, m, file);
+        }
+    }
+}
+
+/* a file that is cut is refused with 5 at its end, in either edition; one that says it is of the other has no check, or one too many */
+static void cut_and_exchange(const uint8_t *word, size_t m)
+{
+    static uint8_t file[MOST_FILE];
+    for (unsigned edition = 1; edition <= 2; edition++) {
+        size_t len = file_in(edition, word, m, file);
+        for (size_t cut = 0; cut < len; cut++) {
+            struct outcome o = run_plain(LOAD, file, cut, m);
+            expect(o.number == 5 && o.offset == cut, "a file that is cut");
+        }
+    }
+    size_t len = file_of(word, m, file);
+    file[0] = 2;
+    example_loading(file, len, m, 5, len, "a file of edition 1 that says it is of edition 2");
+    example_loading(file, len + 1, m, 5, len + 1, "a file of edition 1 that says it is of edition 2");
+    seal(file, len);
+    example_loading(file, len + CHECK_BYTES, m, 0, UNTOUCHED, "a file of edition 2");
+    file[0] = 1;
+    example_loading(file, len + CHECK_BYTES, m, 11, len, "a file of edition 2 that says it is of edition 1");
+    example_loading(file, len, m, 0, UNTOUCHED, "a file of edition 1");
+    seal(file, len);
+    example_loading(file, len + CHECK_BYTES, m, 11, len, "a file of edition 1 with a check");
+    file[0] = 3;
+    seal(file, len);
+    example_loading(file, len + CHECK_BYTES, m, 7, 0, "a file of edition 3");
+}
+
+static void checked_word(const uint8_t *word, size_t m)
+{
+    static uint8_t body[MOST_FILE];
+    size_t len = file_of(word, m, body);
+    body[0] = 2;
+    every_ending(body, len, m);
+    other_editions(body, len, m);
+    other_counts(body, len, m, 1 + m / 20);
+    other_bytes(body, len, m);
+    flip_bits(word, m);
+    unseen_changes(word, m);
+    cut_and_exchange(word, m);
+}
+
+/* Every word of two letters, saved, loaded, and loaded with a wrong check. Two letters that differ have a check that no other two have, so
+   that nearly all checks are met. */
+static void two_letters(void)
+{
+    static uint8_t file[MOST_FILE];
+    for (unsigned number = 0; number < 65536; number++) {
+        const uint8_t word[] = {(uint8_t)number, (uint8_t)(number / 256)};
+        size_t len = checked_file_of(word, 2, file);
+        run_save(2, word, 2, len);
+        run_plain(LOAD, file, len, 2);
+        flip_bit(file + len - CHECK_BYTES, below(8 * CHECK_BYTES));
+        expect(run_plain(LOAD, file, len, 2).number == 13, "a wrong check of two letters");
+    }
+}
+
+/* Behind a body every two bytes: they are its check once. */
+static void every_check(const char *word)
+{
+    static uint8_t file[MOST_FILE];
+    size_t m = strlen(word), len = checked_file_of((const uint8_t *)word, m, file), taken = 0;
+    for (unsigned number = 0; number < 65536; number++) {
+        file[len - 2] = (uint8_t)number;
+        file[len - 1] = (uint8_t)(number / 256);
+        struct outcome o = run_plain(LOAD, file, len, m);
+        expect(o.number == 0 || (o.number == 13 && o.offset == len - CHECK_BYTES), "every check");
+        taken += o.number == 0;
+    }
+    expect(taken == 1, "every check");
+}
+
+/* Every body of up to 5 bytes over a few values, of edition 2, with its check whole, cut and wrong and with a byte behind it. Only the
+   least files are taken, of 7 bytes: twice the same letter, no arrow, and the check. */
+static void least_checked_files(void)
+{
+    static const uint8_t bytes[] = {0, 1, 2, 3, 'a', 0x80, 0x81, 0xFF}, text[] = "\1\1aaa\3\3";
+    uint8_t file[LEAST_FILE + CHECK_BYTES + 1];
+    for (size_t len = 1, many = 1; len <= LEAST_FILE; len++, many *= sizeof bytes)
+        for (size_t number = 0; number < 5 * many; number++) {
+            file[0] = 2;
+            for (size_t i = 1, rest = number / 5; i < len; i++, rest /= sizeof bytes)
+                file[i] = bytes[rest % sizeof bytes];
+            size_t end = number % 5, all = end == 4 ? len + CHECK_BYTES : len + end, m = LEAST_SAVED + below(2), list = below(3);
+            file[seal(file, len)] = 0;
+            if (end == 4)
+                flip_bit(file + len, below(8 * CHECK_BYTES));
+            bool least = all == sizeof file - 1 && file[1] == 2 && file[2] == file[3] && file[4] == 0 && ends_with_check(file, all);
+            struct outcome loaded = run_plain(LOAD, file, all, m);
+            struct outcome sought = run_search(SEARCH_FILE, file, all, m, text, sizeof text - 1, list);
+            expect((loaded.number == 0) == least && (sought.number == 0) == least, "a body of up to 5 bytes and its check");
+        }
+}
+
+static void checked_files(void)
+{
+    static const char *const short_ones[] = {"aa", "ab", "aaa", "aba", "abbbaab", "abcacdace", "abcdefghijklm", "\xFF\x80\x01\x7F\x81"};
+    static const size_t lengths[] = {12, 40, 127, 128, 200};
+    static uint8_t word[MOST_LETTERS], file[MOST_FILE];
+    for (size_t i = 0; i < sizeof short_ones / sizeof *short_ones; i++)
+        checked_word((const uint8_t *)short_ones[i], strlen(short_ones[i]));
+    for (size_t i = 0; i < sizeof lengths / sizeof *lengths; i++) {
+        choose_palette(i % 2 ? 4 : 256);
+        make_word(word, lengths[i], RANDOM);
+        checked_word(word, lengths[i]);
+    }
+    choose_palette(2);
+    make_word(word, MOST_LETTERS, RANDOM);
+    size_t len = file_of(word, MOST_LETTERS, file);
+    file[0] = 2;
+    every_ending(file, len, MOST_LETTERS);
+    two_letters();
+    every_check("abbbaab");
+    least_checked_files();
+}
+
 static void random_file(void)
 {
-    static uint8_t file[200];
+    static uint8_t file[200 + CHECK_BYTES];
     size_t len = some_length(199), kept = 0, least = below(8) ? LEAST_SAVED : 1, m = least + some_length(20);
     for (size_t i = 0; i < len; i++)
         file[i] = below(2) ? (uint8_t)chance() : (uint8_t)below(4);
     if (below(8) != 0)
-        kept += spell_in(1, 1, file);
+        kept += spell_in((uint32_t)below(2) + 1, 1, file);
     if (kept > 0 && below(8) != 0)
         kept += spell_in((uint32_t)m, 1, file + kept);
     if (kept > 1 && below(8) != 0) {
@@ -2491,7 +3142,9 @@ static void random_file(void)
         kept += m;
         kept += spell_in((uint32_t)below(m), 1, file + kept);
     }
-    try_file(file, len > kept ? len : kept, m);
+    if (kept > 0 && file[0] == 2 && below(2))
+        kept = seal(file, kept);
+    try_file(file, len > kept && below(4) ? len : kept, m);
 }
 
 static void random_files(void)
@@ -2686,10 +3339,10 @@ static void longest_texts(void)
 static void texts_at_the_limit(void)
 {
     static const uint8_t word[] = {7, 1, 1, 7, 1, 7, 7, 1, 7, 1, 1, 1};
-    uint8_t mirrored[sizeof word], file[MOST_FILE], one_letter[4], *text = reserve(NULL, MOST_TEXT + 1);
+    uint8_t mirrored[sizeof word], file[MOST_FILE], checked[MOST_FILE], one_letter[4], *text = reserve(NULL, MOST_TEXT + 1);
     size_t m = sizeof word, one_size = file_of(word, 1, one_letter);
     mirror(word, m, mirrored);
-    size_t size = file_of(mirrored, m, file);
+    size_t size = file_of(mirrored, m, file), checked_size = checked_file_of(mirrored, m, checked);
     for (size_t i = 0; i < MOST_TEXT + 1; i++)
         text[i] = noise[(i * 31 + i / NOISE) % NOISE] % 2 ? 7 : 1;
     memcpy(text, word, m);
@@ -2706,6 +3359,12 @@ static void texts_at_the_limit(void)
         run_search(SEARCH_FILE, file, size - 1, m, text, MOST_TEXT + past, 10);
         run_search(SEARCH_FILE, file, size, m - 1, text, MOST_TEXT + past, 10);
         run_search(SEARCH_FILE, one_letter, one_size, 1, text, MOST_TEXT + past, 10);
+        run_search(SEARCH_FILE, checked, checked_size, m, text, MOST_TEXT + past, 10000);
+        run_search(SEARCH_FILE, checked, checked_size - 1, m, text, MOST_TEXT + past, 10);
+        run_search(SEARCH_FILE, checked, checked_size, m - 1, text, MOST_TEXT + past, 10);
+        checked[checked_size - 1] ^= 1;
+        run_search(SEARCH_FILE, checked, checked_size, m, text, MOST_TEXT + past, 10);
+        checked[checked_size - 1] ^= 1;
     }
     each_search(text + MOST_TEXT - 1025, 1025, text, MOST_TEXT);
     each_search(text + MOST_TEXT - MOST_LETTERS, MOST_LETTERS, text, MOST_TEXT);
@@ -2748,13 +3407,13 @@ static void *vast(size_t bytes)
     return p;
 }
 
-/* one slice of the entry is past 2^32 elements long; the first 65,536 bytes of it are compared */
-static void vast_slice(enum entry entry, int slice, const uint8_t *input, size_t input_len, size_t m)
+/* one slice of the entry is 2^32 elements long and so many more; the first 65,536 bytes of it are compared */
+static void vast_slice(enum entry entry, int slice, size_t more, const uint8_t *input, size_t input_len, size_t m)
 {
     enum { LOOKED_AT = 65536 };
     static uint8_t room[2][LOOKED_AT * SLICES];
     struct asked a = ask(entry, input, input_len, m);
-    size_t len = (UINT64_C(1) << 32) + 8, bytes = len * slice_width[slice];
+    size_t len = (UINT64_C(1) << 32) + more, bytes = len * slice_width[slice];
     struct lent l[2];
     struct outcome o[2];
     a.len[TEXT] = a.len[FINDS] = 8;
@@ -2779,29 +3438,38 @@ static void vast_slice(enum entry entry, int slice, const uint8_t *input, size_t
             fail(&a, "a buffer, with a slice past 32 bits", &o[0], &o[1]);
     for (int side = 0; side < 2; side++)
         munmap(l[side].at[slice], bytes);
-    seen[entry][o[0].number]++;
+    seen[column_of(entry, input, input_len)][o[0].number]++;
 }
 
+/* Also files of edition 2 of which 0, 1 or 2 bytes would be left behind the arrows, where the check is wrong, or 0 behind the check, if
+   they were counted in 32 bits. */
 static void vast_slices(void)
 {
-    uint8_t file[MOST_FILE];
+    uint8_t file[MOST_FILE], checked[MOST_FILE];
     const uint8_t *word = (const uint8_t *)"abbbaab";
-    size_t m = 7, size = file_of(word, m, file);
-    for (int entry = 0; entry < ENTRIES; entry++)
+    size_t m = 7, size = file_of(word, m, file), checked_size = checked_file_of(word, m, checked);
+    for (int e = 0; e < ENTRIES; e++)
         for (int s = 0; s < SLICES; s++)
-            if (lent_slices[entry] & 1u << s) {
-                bool from_file = reads_file((enum entry)entry);
-                vast_slice((enum entry)entry, s, from_file ? file : word, from_file ? size : m, m);
+            if (lent_slices[e] & 1u << s) {
+                enum entry entry = (enum entry)e;
+                bool from_file = reads_file(entry);
+                vast_slice(entry, s, 8, from_file ? file : word, from_file ? size : m, m);
+                if (from_file)
+                    vast_slice(entry, s, 8, checked, checked_size, m);
             }
+    for (size_t more = size; more <= checked_size; more++) {
+        vast_slice(LOAD, INPUT, more, checked, size, m);
+        vast_slice(SEARCH_FILE, INPUT, more, checked, checked_size, m);
+    }
 }
 
 /* ---- null pointers with length 0 ---- */
 
-static void nulls_around(const uint8_t *word, size_t m)
+static void nulls_around(unsigned edition, const uint8_t *word, size_t m)
 {
     uint8_t file[MOST_FILE], searcher[SEARCHER_BYTES];
     const uint8_t *text = (const uint8_t *)"babbbaabbbaab";
-    size_t size = file_of(word, m, file);
+    size_t size = file_in(edition, word, m, file);
     second_open(word, m, searcher, sizeof searcher);
     for (int entry = 0; entry < ENTRIES; entry++)
         for (unsigned empty = 0; empty < 1u << SLICES; empty++) {
@@ -2822,8 +3490,10 @@ static void nulls_around(const uint8_t *word, size_t m)
 
 static void null_pointers(void)
 {
-    nulls_around((const uint8_t *)"abbbaab", 7);
-    nulls_around((const uint8_t *)"a", 1);
+    for (unsigned edition = 1; edition <= 2; edition++) {
+        nulls_around(edition, (const uint8_t *)"abbbaab", 7);
+        nulls_around(edition, (const uint8_t *)"a", 1);
+    }
 }
 
 /* ---- everything mixed ---- */
@@ -2903,7 +3573,8 @@ static void ask_mixed(enum entry entry, const uint8_t *word, size_t m, const uin
 {
     static uint8_t file[MOST_FILE];
     struct asked a = ask(entry, word, m, m);
-    size_t size = entry == SAVE || reads_file(entry) ? file_of(word, m, file) : 0;
+    unsigned edition = entry == SAVE ? 1 : entry == SAVE_CHECKED ? 2 : (unsigned)below(2) + 1;
+    size_t size = writes_file(entry) || reads_file(entry) ? file_in(edition, word, m, file) : 0;
     a.text = text;
     a.len[TEXT] = n;
     a.len[TABLES] = some_room(entries_for(entry, m));
@@ -2917,6 +3588,8 @@ static void ask_mixed(enum entry entry, const uint8_t *word, size_t m, const uin
     if (reads_file(entry)) {
         a.input = file;
         a.len[INPUT] = damage_some(file, size);
+        if (edition == 2 && a.len[INPUT] > CHECK_BYTES && below(3) == 0)
+            seal(file, a.len[INPUT] - CHECK_BYTES);
     }
     compare(&a);
 }
@@ -2926,7 +3599,7 @@ static void mixed_case(void)
     static uint8_t word[MOST_LETTERS + 8], mirrored[MOST_LETTERS], text[4 * MOST_LETTERS];
     static const unsigned alphabets[] = {2, 2, 3, 4, 256};
     enum entry entry = (enum entry)below(OPEN); /* the entries over whole texts */
-    size_t m = some_word_length(entry == SAVE || reads_file(entry)), n = some_length(below(8) ? 600 : sizeof text);
+    size_t m = some_word_length(writes_file(entry) || reads_file(entry)), n = some_length(below(8) ? 600 : sizeof text);
     if (m > 600 && below(2))
         n = m + some_length(sizeof text - m);
     bool walked = makes_failure_oracle(entry) && below(3) == 0;
@@ -3009,18 +3682,27 @@ static void long_damaged_files(void)
     static uint8_t word[MOST_LETTERS];
     choose_palette(2);
     make_word(word, MOST_LETTERS, RANDOM);
-    damage(word, MOST_LETTERS, false, 32, 1);
-    damage(word, 1025, false, 1, 1);
+    damage(1, word, MOST_LETTERS, false, 32, 1);
+    damage(1, word, 1025, false, 1, 1);
+    damage(2, word, 1025, false, 8, 2);
     choose_palette(4);
     make_word(word, MOST_LETTERS / 2, RANDOM);
-    damage(word, MOST_LETTERS / 2, false, 8, 1);
+    damage(1, word, MOST_LETTERS / 2, false, 8, 1);
+    damage(2, word, MOST_LETTERS, false, 128, 8);
+}
+
+/* 7 is not for files of edition 2, and 13 for no others */
+static bool can_be_seen(int column, unsigned number)
+{
+    enum entry entry = column == LOAD_2 ? LOAD : column == SEARCH_FILE_2 ? SEARCH_FILE : (enum entry)column;
+    return (can_give[entry] & 1u << number) && number != (column < ENTRIES ? 13 : 7);
 }
 
 static bool any_gives(unsigned number)
 {
     bool any = false;
-    for (int e = 0; e < ENTRIES; e++)
-        any = any || (can_give[e] & 1u << number);
+    for (int c = 0; c < COLUMNS; c++)
+        any = any || can_be_seen(c, number);
     return any;
 }
 
@@ -3029,20 +3711,33 @@ static bool print_seen(void)
 {
     bool missing = false;
     printf("%-10s", "number");
-    for (int e = 0; e < ENTRIES; e++)
-        printf(" %12s", entry_name[e]);
+    for (int c = 0; c < COLUMNS; c++)
+        printf(" %12s", c == LOAD_2 ? "load ed. 2" : c == SEARCH_FILE_2 ? "search ed. 2" : entry_name[c]);
     for (unsigned number = 0; number < NUMBERS; number++) {
         if (!any_gives(number))
             continue;
         printf("\n%-10u", number);
-        for (int e = 0; e < ENTRIES; e++)
-            if (!(can_give[e] & 1u << number))
+        for (int c = 0; c < COLUMNS; c++)
+            if (!can_be_seen(c, number))
                 printf(" %12s", "-");
-            else if (seen[e][number] == 0) {
+            else if (seen[c][number] == 0) {
                 printf(" %12s", "NEVER SEEN");
                 missing = true;
             } else
-                printf(" %12" PRIu64, seen[e][number]);
+                printf(" %12" PRIu64, seen[c][number]);
+    }
+    printf("\n");
+    return missing;
+}
+
+/* how many files of edition 2 had each of their endings; whether one was not met */
+static bool print_endings(void)
+{
+    bool missing = false;
+    printf("files of edition 2, loaded and searched with:");
+    for (int e = 0; e < ENDINGS; e++) {
+        printf("%s %s %" PRIu64 " and %" PRIu64, e == 0 ? "" : ";", ending_name[e], endings[e][0], endings[e][1]);
+        missing = missing || endings[e][0] == 0 || endings[e][1] == 0;
     }
     printf("\n");
     return missing;
@@ -3066,6 +3761,7 @@ static void all_parts(bool costly)
         return;
     past_examples = true;
     part("every word of 1 to 8 letters over 3: build, save, load back, search", short_words);
+    part("files of edition 2: every ending, every check, single bits, what a check does not see", checked_files);
     part("every word of 1 to 6 letters over 2 in every text of up to 10: search, with a file too, and failure search", short_texts);
     part("every word of 1 to 7 letters over 2 in every text of up to 12: turbo", short_texts_turbo);
     part("every word of 1 to 4 letters over 3 in every text of up to 8: turbo", short_texts_over_3);
@@ -3130,12 +3826,14 @@ int main(int argc, char **argv)
     for (size_t i = 0; i < NOISE; i++)
         noise[i] = (uint8_t)chance();
     all_parts(costly);
-    bool missing = print_seen(), rare = print_rare();
+    bool missing = print_seen(), unmet = print_endings(), rare = print_rare();
     if (missing)
         printf("DIFFERENT: a refusal that can be given was never seen\n");
+    else if (unmet)
+        printf("DIFFERENT: a way in which a file of edition 2 can end was never met\n");
     else if (rare)
         printf("DIFFERENT: no failure oracle was seen that few words have, or no window that is read whole without a find\n");
     else
         printf("second opinion: seed %" PRIu64 ", %" PRIu64 " cases, no difference, %.1f s\n", seed, cases, seconds() - begun);
-    return missing || rare ? 1 : 0;
+    return missing || unmet || rare ? 1 : 0;
 }

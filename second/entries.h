@@ -1,4 +1,4 @@
-/* The ten entries of both sides by number, so that the comparison and the attack can ask either side the same thing in one line.
+/* The eleven entries of both sides by number, so that the comparison and the attack can ask either side the same thing in one line.
    This is all that the two share with each other; neither implementation sees it. */
 #ifndef ENTRIES_H
 #define ENTRIES_H
@@ -12,10 +12,10 @@
 #include <stdlib.h>
 #include <string.h>
 
-enum entry { BUILD, SAVE, LOAD, SEARCH, TURBO, SEARCH_FILE, FAILURE_SEARCH, FAILURE_BUILD, OPEN, TAKE, ENTRIES };
+enum entry { BUILD, SAVE, SAVE_CHECKED, LOAD, SEARCH, TURBO, SEARCH_FILE, FAILURE_SEARCH, FAILURE_BUILD, OPEN, TAKE, ENTRIES };
 
-static const char *const entry_name[ENTRIES] = {"build",       "save",         "load",          "search", "turbo",
-                                                "search_file", "fail_search", "fail_build", "open",   "take"};
+static const char *const entry_name[ENTRIES] = {"build",       "save",        "save_checked", "load", "search", "turbo",
+                                                "search_file", "fail_search", "fail_build",   "open", "take"};
 
 /* the slices that an entry may be lent; input is the word, or the file of load and search_file; text is also the piece of take */
 enum slice { INPUT, TEXT, ROOM, OUT, TABLES, FINDS, SEARCHER, SLICES };
@@ -26,6 +26,7 @@ static const size_t slice_width[SLICES] = {1, 1, 1, 1, sizeof(uint16_t), sizeof(
 
 static const unsigned lent_slices[ENTRIES] = {
     1 << INPUT | 1 << TABLES,
+    1 << INPUT | 1 << OUT | 1 << TABLES,
     1 << INPUT | 1 << OUT | 1 << TABLES,
     1 << INPUT | 1 << ROOM | 1 << TABLES,
     1 << INPUT | 1 << TEXT | 1 << TABLES | 1 << FINDS,
@@ -43,11 +44,17 @@ static const unsigned read_slices = 1 << INPUT | 1 << TEXT;
 enum { NUMBERS = 18 };
 
 static const unsigned can_give[ENTRIES] = {
-    1 << 0 | 1 << 1 | 1 << 2 | 1 << 3,          1 << 0 | 1 << 1 | 1 << 2 | 1 << 3 | 1 << 12 | 1 << 17,
-    1 << 0 | 1 << 3 | 0xFE0,                    1 << 0 | 1 << 1 | 1 << 2 | 1 << 3 | 1 << 4,
-    1 << 0 | 1 << 1 | 1 << 2 | 1 << 3 | 1 << 4, 1 << 0 | 1 << 3 | 1 << 4 | 0xFE0,
-    1 << 0 | 1 << 1 | 1 << 2 | 1 << 3 | 1 << 4, 1 << 0 | 1 << 1 | 1 << 2 | 1 << 3,
-    1 << 0 | 1 << 1 | 1 << 2 | 1 << 3,          1 << 0 | 1 << 4 | 1 << 16,
+    1 << 0 | 1 << 1 | 1 << 2 | 1 << 3,
+    1 << 0 | 1 << 1 | 1 << 2 | 1 << 3 | 1 << 12 | 1 << 17,
+    1 << 0 | 1 << 1 | 1 << 2 | 1 << 3 | 1 << 12 | 1 << 17,
+    1 << 0 | 1 << 3 | 0xFE0 | 1 << 13,
+    1 << 0 | 1 << 1 | 1 << 2 | 1 << 3 | 1 << 4,
+    1 << 0 | 1 << 1 | 1 << 2 | 1 << 3 | 1 << 4,
+    1 << 0 | 1 << 3 | 1 << 4 | 0xFE0 | 1 << 13,
+    1 << 0 | 1 << 1 | 1 << 2 | 1 << 3 | 1 << 4,
+    1 << 0 | 1 << 1 | 1 << 2 | 1 << 3,
+    1 << 0 | 1 << 1 | 1 << 2 | 1 << 3,
+    1 << 0 | 1 << 4 | 1 << 16,
 };
 
 /* the refusals that change nothing, whichever entry gives them: they come before the rooms or are the rooms' own */
@@ -108,13 +115,15 @@ static void print_outcome(const char *side, const struct outcome *o)
 /* whether the refusal shows at a place in the file */
 static bool has_offset(uint32_t number)
 {
-    return number >= 5 && number <= 11;
+    return (number >= 5 && number <= 11) || number == 13;
 }
 
-/* 5 shows at the file's end and the others at a byte of it, but for 10, where arrows may be missing at its end. */
+/* 5 shows at the file's end and the others at a byte of it, 13 not at the last; but for 10, where arrows may be missing at its end. */
 static bool offset_can_be(uint32_t number, uint64_t offset, size_t file_len)
 {
-    return number == 5 ? offset == file_len : offset < file_len || (number == 10 && offset == file_len);
+    if (number == 5 || (number == 10 && offset == file_len))
+        return offset == file_len;
+    return offset + (number == 13 ? CHECK_BYTES : 1) <= file_len;
 }
 
 static bool reads_file(enum entry entry)
@@ -122,10 +131,18 @@ static bool reads_file(enum entry entry)
     return entry == LOAD || entry == SEARCH_FILE;
 }
 
-/* whether what an entry took or wrote, where it answers with success, is too short to be a file */
-static bool too_short_a_file(enum entry entry, const struct outcome *o, const size_t *len)
+static bool writes_file(enum entry entry)
 {
-    return (reads_file(entry) && len[INPUT] < LEAST_FILE) || (entry == SAVE && o->answer[0] < LEAST_FILE);
+    return entry == SAVE || entry == SAVE_CHECKED;
+}
+
+/* whether what an entry took or wrote, where it answers with success, has fewer bytes than any file; or more, or than were lent for it */
+static bool cannot_be_file(enum entry entry, const struct outcome *o, const size_t *len)
+{
+    size_t more = entry == SAVE_CHECKED ? CHECK_BYTES : 0;
+    if (writes_file(entry))
+        return o->answer[0] < LEAST_FILE + more || o->answer[0] > ALWAYS_ENOUGH + more || o->answer[0] > len[OUT];
+    return reads_file(entry) && (len[INPUT] < LEAST_FILE || len[INPUT] > ALWAYS_ENOUGH + CHECK_BYTES);
 }
 
 /* Whether the failure search can count so: at most m letters for each place where a window can be, nothing where there is none, and for each
@@ -147,10 +164,10 @@ static const char *wrong_in_itself(enum entry entry, const struct outcome *o, co
         return "both sides write an offset where there is none, or none where there is one";
     if (has_offset(o->number) && !offset_can_be(o->number, o->offset, len[INPUT]))
         return "both sides give an offset that the refusal cannot have";
-    if ((o->number == 17) != (entry == SAVE && len[INPUT] == 1))
+    if ((o->number == 17) != (writes_file(entry) && len[INPUT] == 1))
         return "both sides give 17 where no single letter is saved, or something else where one is";
-    if (o->number == 0 && too_short_a_file(entry, o, len))
-        return "both sides take or write a file that is shorter than any";
+    if (o->number == 0 && cannot_be_file(entry, o, len))
+        return "both sides take or write a file that is shorter than any, or longer, or than there is room for";
     if (entry == TURBO && o->number == 0 && o->answer[1] > 2 * (uint64_t)len[TEXT])
         return "both sides read more than two letters for each of the text";
     if (entry == FAILURE_SEARCH && o->number == 0 && !failure_counts_can_be(o->answer[1], o->answer[2], len[INPUT], len[TEXT]))
@@ -274,6 +291,7 @@ static const char *wrong_failure_table(const uint16_t *table, const uint8_t *wor
         switch (entry) {                                                                                                                   \
         case BUILD: o.number = SIDE##_build(input, input_len, tables, tables_len, a); break;                                               \
         case SAVE: o.number = SIDE##_save(input, input_len, tables, tables_len, l->at[OUT], l->len[OUT], a); break;                        \
+        case SAVE_CHECKED: o.number = SIDE##_save_checked(input, input_len, tables, tables_len, l->at[OUT], l->len[OUT], a); break;        \
         case LOAD: o.number = SIDE##_load(input, input_len, l->at[ROOM], room_len, tables, tables_len, a, &o.offset); break;               \
         case SEARCH:                                                                                                                       \
             o.number = SIDE##_search(input, input_len, text, text_len, tables, tables_len, l->at[FINDS], l->len[FINDS], a, b);             \
@@ -300,6 +318,47 @@ static const char *wrong_failure_table(const uint16_t *table, const uint8_t *wor
 ASK(marks)
 ASK(second)
 
+/* ---- the check of edition 2, another way than the second implementation's: by dividing ---- */
+
+/* What is left of the bytes' bits, each byte's lowest first, as coefficients of a polynomial, the highest first, divided by the
+   check's own one, x^16 + x^15 + x^2 + 1. Nothing is left exactly where the last two bytes are the check of those before. */
+static unsigned left_by_division(const uint8_t *bytes, size_t len)
+{
+    unsigned left = 0;
+    for (size_t bit = 0; bit < 8 * len; bit++) {
+        left = 2 * left + (bytes[bit / 8] >> bit % 8) % 2;
+        if (left >= 1u << 16)
+            left ^= 1u << 16 | 1u << 15 | 1u << 2 | 1u;
+    }
+    return left;
+}
+
+static bool ends_with_check(const uint8_t *file, size_t len)
+{
+    return len > CHECK_BYTES && left_by_division(file, len) == 0;
+}
+
+/* Whether the check of a file is as the answer to it says, where it says something of it: right in edition 2 for success and where there
+   are leftovers, wrong for 13, which edition 1 never has. */
+static bool check_is_so(const uint8_t *file, size_t len, uint32_t number, size_t offset)
+{
+    if (number == 13)
+        return file[0] == 2 && !ends_with_check(file, offset + CHECK_BYTES);
+    if (number != 0 && number != 11)
+        return true;
+    return file[0] != 2 || ends_with_check(file, number == 0 ? len : offset);
+}
+
+/* puts the check behind so many bytes; how many there are then */
+static size_t seal(uint8_t *file, size_t len)
+{
+    memset(file + len, 0, CHECK_BYTES);
+    unsigned left = left_by_division(file, len + CHECK_BYTES);
+    for (int bit = 0; bit < 8 * CHECK_BYTES; bit++)
+        file[len + bit / 8] |= (uint8_t)((left >> (15 - bit)) % 2 << bit % 8);
+    return len + CHECK_BYTES;
+}
+
 /* The file of a word, by the second implementation; its length. One letter has none: it is spelled as if it had, to be refused. */
 static size_t file_of(const uint8_t *word, size_t m, uint8_t *file)
 {
@@ -315,6 +374,19 @@ static size_t file_of(const uint8_t *word, size_t m, uint8_t *file)
         exit(2);
     }
     return length;
+}
+
+/* the same in edition 2: another edition in front, the check behind */
+static size_t checked_file_of(const uint8_t *word, size_t m, uint8_t *file)
+{
+    size_t len = file_of(word, m, file);
+    file[0] = 2;
+    return seal(file, len);
+}
+
+static size_t file_in(unsigned edition, const uint8_t *word, size_t m, uint8_t *file)
+{
+    return edition == 2 ? checked_file_of(word, m, file) : file_of(word, m, file);
 }
 
 #endif

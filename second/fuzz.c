@@ -1,4 +1,4 @@
-/* A target for a coverage-guided fuzzer (libFuzzer): its bytes become one call of one of the ten entries, which the proved library and
+/* A target for a coverage-guided fuzzer (libFuzzer): its bytes become one call of one of the eleven entries, which the proved library and
    the second implementation both answer; whole outcomes must agree.
 
    What sees a stray access: the second implementation and this file are compiled with AddressSanitizer and UndefinedBehaviorSanitizer,
@@ -166,6 +166,16 @@ static const char *wrong_with_failure(const struct asked *a, const struct lent *
     return wrong_failure_table(l->at[TABLES], l->at[INPUT], l->len[INPUT], a->entry == FAILURE_SEARCH);
 }
 
+/* whether the check of edition 2 is as it should be in a file that was written, or as the answer to one that was read says; found by
+   dividing */
+static bool check_agrees(enum entry entry, const struct lent *l, const struct outcome *o)
+{
+    const uint8_t *out = l->at[OUT];
+    if (entry == SAVE_CHECKED && o->number == 0)
+        return out[0] == 2 && ends_with_check(out, (size_t)o->answer[0]);
+    return !reads_file(entry) || l->len[INPUT] == 0 || check_is_so(l->at[INPUT], l->len[INPUT], o->number, (size_t)o->offset);
+}
+
 static void call_both(const struct asked *a)
 {
     struct lent library = {0}, second = {0};
@@ -186,6 +196,8 @@ static void call_both(const struct asked *a)
         stop(a, wrong, -1, &m, &o);
     if (a->entry == TURBO && m.number == 0 && !turbo_agrees(&second, &o))
         stop(a, "other places than those where the word stands, or another outcome where h is carried", -1, &m, &o);
+    if (!check_agrees(a->entry, &second, &o))
+        stop(a, "the check of a file of edition 2 is not as both sides say", -1, &m, &o);
     for (int s = 0; s < SLICES; s++)
         if (is_lent(a, s))
             check_slice(a, s, &second, &m, &o);
@@ -202,12 +214,31 @@ static void call_both(const struct asked *a)
    searcher, two bytes */
 enum { WHICH, FLAGS, TABLES_CHOICE, ROOM_CHOICE, OUT_CHOICE, LIST, INPUT_LOW, INPUT_HIGH, HEAD };
 
-/* the calls: ten entries on what is there; two on the file of a word, and one on the searcher of a word, changed at a few places */
-enum { LOAD_CHANGED = ENTRIES, SEARCH_FILE_CHANGED, TAKE_CHANGED, CALLS };
+/* the calls: eleven entries on what is there; two on the file of a word in either edition, and one on the searcher of a word, changed at a
+   few places; two on a file that is there but for its check */
+enum {
+    LOAD_CHANGED = ENTRIES,
+    SEARCH_FILE_CHANGED,
+    LOAD_CHANGED_2,
+    SEARCH_FILE_CHANGED_2,
+    LOAD_SEALED,
+    SEARCH_FILE_SEALED,
+    TAKE_CHANGED,
+    CALLS
+};
 
 static enum entry entry_of(unsigned call)
 {
-    return call == LOAD_CHANGED ? LOAD : call == SEARCH_FILE_CHANGED ? SEARCH_FILE : call == TAKE_CHANGED ? TAKE : (enum entry)call;
+    switch (call) {
+    case LOAD_CHANGED:
+    case LOAD_CHANGED_2:
+    case LOAD_SEALED: return LOAD;
+    case SEARCH_FILE_CHANGED:
+    case SEARCH_FILE_CHANGED_2:
+    case SEARCH_FILE_SEALED: return SEARCH_FILE;
+    case TAKE_CHANGED: return TAKE;
+    default: return (enum entry)call;
+    }
 }
 
 enum { EXACT, ONE_SHORT, LONGER, SO_MANY, CHOICES };
@@ -231,6 +262,9 @@ static size_t declared(const uint8_t *file, size_t len)
     return m <= MOST_LETTERS + 1 ? m : 3;
 }
 
+/* in the number of changes: the last two bytes are made the check of those before when all are done */
+enum { SEALED_AFTER = 0x80 };
+
 /* the changes: how many, then for each what is done, where (two bytes), and a value; says how many bytes they took */
 static size_t change(uint8_t *file, size_t *len, const uint8_t *rest, size_t rest_len)
 {
@@ -250,6 +284,8 @@ static size_t change(uint8_t *file, size_t *len, const uint8_t *rest, size_t res
         } else if (rest[took] % 4 == 3)
             *len = at;
     }
+    if (rest_len > 0 && (rest[0] & SEALED_AFTER) && *len > CHECK_BYTES)
+        seal(file, *len - CHECK_BYTES);
     return took;
 }
 
@@ -310,12 +346,18 @@ static size_t understand_input(const uint8_t *data, size_t size, unsigned call, 
     size_t rest = size - HEAD, input = (data[INPUT_LOW] + 256u * data[INPUT_HIGH]) % (rest + 1), took = 0, m = input;
     a->content[INPUT] = data + HEAD;
     a->len[INPUT] = input;
-    if (call >= LOAD_CHANGED && input >= 1 && input <= MOST_LETTERS) {
-        a->len[INPUT] = file_of(data + HEAD, input, file);
+    bool sealed = call == LOAD_SEALED || call == SEARCH_FILE_SEALED;
+    if (call >= LOAD_CHANGED && !sealed && input >= 1 && input <= MOST_LETTERS) {
+        a->len[INPUT] = file_in(call >= LOAD_CHANGED_2 ? 2 : 1, data + HEAD, input, file);
         a->content[INPUT] = file;
         took = change(file, &a->len[INPUT], data + HEAD + input, rest - input);
-    } else if (a->entry == LOAD || a->entry == SEARCH_FILE)
+    } else if (reads_file(a->entry))
         m = declared(data + HEAD, input);
+    if (sealed) {
+        memcpy(file, data + HEAD, input);
+        a->len[INPUT] = seal(file, input);
+        a->content[INPUT] = file;
+    }
     a->content[TEXT] = data + HEAD + input + took;
     a->len[TEXT] = rest - input - took;
     return m;
@@ -351,7 +393,8 @@ static void understand(const uint8_t *data, size_t size, struct asked *a)
         m = understand_input(data, size, call, a);
     a->len[TABLES] = chosen(entries_for(a->entry, m), data[TABLES_CHOICE]) % (ROOM_BYTES / 2);
     a->len[ROOM] = chosen(m, data[ROOM_CHOICE]);
-    a->len[OUT] = chosen(a->entry == SAVE && m >= 1 && m <= MOST_LETTERS ? file_of(data + HEAD, m, file) : 12, data[OUT_CHOICE]);
+    bool has_file = writes_file(a->entry) && m >= 1 && m <= MOST_LETTERS;
+    a->len[OUT] = chosen(has_file ? file_in(a->entry == SAVE ? 1 : 2, data + HEAD, m, file) : 12, data[OUT_CHOICE]);
     a->len[FINDS] = data[LIST];
     a->fill = data[FLAGS];
     a->front = data[FLAGS] & 1;
@@ -463,13 +506,39 @@ static void seed_stream(const uint8_t *word, size_t m)
     seed_left(made, half, (uint16_t)(m - half), text + half, m - half);
 }
 
+/* A word's file in edition 2: good, with a wrong check, without its last byte; of a word that is not long also without its check, with
+   bytes behind either check, with the other edition, and the body alone, to be sealed. */
+static void seed_endings(const uint8_t *word, size_t m, const uint8_t *text, size_t n)
+{
+    uint8_t file[MOST_FILE];
+    size_t size = checked_file_of(word, m, file), body = size - CHECK_BYTES;
+    seed(SEARCH_FILE, 1, file, size, text, n);
+    seed(LOAD, 1, file, size - 1, text, 0);
+    file[size - 1] ^= 0x80;
+    seed(LOAD, 0, file, size, text, 0);
+    file[size] = 0;
+    if (m > 300)
+        return;
+    seed(SEARCH_FILE, 0, file, size + 1, text, n);
+    file[size - 1] ^= 0x80;
+    seed(LOAD, 0, file, size + 1, text, 0);
+    seed(LOAD, 0, file, size, text, 0);
+    seed(SEARCH_FILE, 0xF1, file, size, text, 0);
+    seed(SEARCH_FILE, 0, file, body, text, n);
+    seed(LOAD_SEALED, 0, file, body, text, 0);
+    seed(SEARCH_FILE_SEALED, 1, file, body, text, n);
+    file[0] = 1;
+    seed(LOAD, 0, file, size, text, 0);
+}
+
 static void seed_word(const uint8_t *word, size_t m)
 {
-    uint8_t file[MOST_FILE], text[2 * (MOST_LETTERS + 1)];
+    uint8_t file[MOST_FILE], text[2 * (MOST_LETTERS + 1)] = {0};
     size_t size = m >= 1 && m <= MOST_LETTERS ? file_of(word, m, file) : 0, n = seed_text(word, m, text);
     static const uint8_t changes[] = {2, 0, 0, 3, 'b', 1, 255, 255, 0};
     seed(BUILD, 0, word, m, text, 0);
     seed(SAVE, 1, word, m, text, 0);
+    seed(SAVE_CHECKED, 0, word, m, text, 0);
     seed(OPEN, 1, word, m, text, 0);
     seed(SEARCH, 0, word, m, text, n);
     seed(SEARCH, 0xF0, word, m, text, 0);
@@ -486,16 +555,22 @@ static void seed_word(const uint8_t *word, size_t m)
     seed(SEARCH_FILE, 1, file, size, text, n);
     seed(SEARCH_FILE, 0xF1, file, size, text, 0);
     seed(LOAD_CHANGED, 0, word, m, changes, sizeof changes);
+    seed(LOAD_CHANGED_2, 0, word, m, changes, sizeof changes);
     text[0] = 0;
     seed(SEARCH_FILE_CHANGED, 0, word, m, text, n);
+    seed(SEARCH_FILE_CHANGED_2, 1, word, m, text, n);
+    seed_text(word, m, text);
+    seed_endings(word, m, text, n);
 }
 
-/* one change of a word's file, as change() understands it */
+/* one change of a word's file, as change() understands it; in edition 2 the check is made right */
 static void seed_change(const uint8_t *word, size_t m, uint8_t what, size_t at, uint8_t value)
 {
     uint8_t tail[5 + 2 * MOST_LETTERS] = {1, what, (uint8_t)(at / 256), (uint8_t)(at % 256), value};
     seed(LOAD_CHANGED, 1, word, m, tail, 5);
     seed(SEARCH_FILE_CHANGED, 0, word, m, tail, 5 + seed_text(word, m, tail + 5));
+    tail[0] |= SEALED_AFTER;
+    seed(LOAD_CHANGED_2, 0, word, m, tail, 5);
 }
 
 /* a file that declares m letters in two groups, has them, and no arrow behind; and the same with one letter fewer */
@@ -507,6 +582,8 @@ static void seed_declared(const uint8_t *word, size_t m)
     seed(LOAD, 0, file, behind + 1, text, 0);
     seed(SEARCH_FILE, 0, file, behind + 1, text, n);
     seed(LOAD, 1, file, behind - 1, text, 0);
+    file[0] = 2;
+    seed(LOAD_SEALED, 1, file, behind + 1, text, 0);
 }
 
 /* a word of 128 letters or more, and with arrows: its file, cut before, inside and behind each field, and each field changed */
@@ -547,6 +624,7 @@ static void seed_periodic(size_t m, size_t period)
     seed(TURBO, 1, text, m, text, n);
     seed(FAILURE_SEARCH, 0, text, m, text, n);
     seed(SEARCH_FILE, 1, file, file_of(mirrored, m, file), text, n);
+    seed(SEARCH_FILE, 0, file, checked_file_of(mirrored, m, file), text, n);
 }
 
 /* a's, with a b in the first place, or the last, or every second one, or where a Fibonacci word has it */
@@ -602,6 +680,7 @@ static void seed_stretched(size_t m)
         seed(TURBO, STRETCHED + 1, word, m, text, 8 * m);
         seed(FAILURE_SEARCH, STRETCHED, word, m, text, 8 * m);
         seed(SEARCH_FILE, STRETCHED, file, file_of(mirrored, m, file), text, 8 * m);
+        seed(SEARCH_FILE, STRETCHED + 1, file, checked_file_of(mirrored, m, file), text, 8 * m);
         seed(SEARCH, STRETCHED + 1, word, m, word, m);
         seed(TURBO, STRETCHED, word, m, word, m);
     }
@@ -641,22 +720,28 @@ static void seed_hex(const char *hex)
    rooms, where no room is a null pointer; their files also cut and with a byte too many. */
 static void seed_least(void)
 {
-    static const uint8_t aa[] = "aa", one[] = {1, 1, 'a', 0}, two[] = {1, 2, 'a', 'a', 0};
-    static const char *const broken[] = {"010161", "0101610000", "0102", "01026161", "010261610000"};
+    static const uint8_t aa[] = "aa", one[] = {1, 1, 'a', 0}, two[] = {1, 2, 'a', 'a', 0}, checked[] = {2, 2, 'a', 'a', 0, 0, 0x36};
+    static const char *const broken[] = {"010161",       "0101610000", "0102",       "01026161",
+                                         "010261610000", "02016100",   "0202616100", "020261610000"};
     for (uint8_t c = 0; c < CHOICES * CHOICES; c++) {
         uint8_t tables = c % CHOICES, room = c / CHOICES, flags = 2 + c % 2;
         seed_in(tables, room, SAVE, flags, aa, 1, aa, 0);
         seed_in(tables, room, SAVE, flags, aa, 2, aa, 0);
+        seed_in(tables, room, SAVE_CHECKED, flags, aa, 1, aa, 0);
+        seed_in(tables, room, SAVE_CHECKED, flags, aa, 2, aa, 0);
         seed_in(tables, room, LOAD, flags, one, sizeof one, aa, 0);
         seed_in(tables, room, LOAD, flags, two, sizeof two, aa, 0);
         seed_in(tables, room, SEARCH_FILE, flags, one, sizeof one, aa, 2);
         seed_in(tables, room, SEARCH_FILE, flags, two, sizeof two, aa, 2);
+        seed_in(tables, room, LOAD, flags, checked, sizeof checked, aa, 0);
+        seed_in(tables, room, SEARCH_FILE, flags, checked, sizeof checked, aa, 2);
     }
     for (size_t i = 0; i < sizeof broken / sizeof *broken; i++)
         seed_hex(broken[i]);
 }
 
-/* the file of a word with each of its numbers replaced by each of some spellings; the rest of the file behind it, or not */
+/* the file of a word with each of its numbers replaced by each of some spellings; the rest of the file behind it, or not; and as a body of
+   edition 2, or of another, to be sealed */
 static void seed_spellings(const uint8_t *word, size_t m)
 {
     static const uint8_t put[][6] = {{0x80, 0},
@@ -679,6 +764,9 @@ static void seed_spellings(const uint8_t *word, size_t m)
             memcpy(other + at + put_len[i], file + at + 1, len - at - 1);
             seed(LOAD, 0, other, len - 1 + put_len[i], other, 0);
             seed(LOAD, 1, other, at + put_len[i] - 1, other, 0);
+            if (at > 0)
+                other[0] = 2;
+            seed(LOAD_SEALED, 0, other, len - 1 + put_len[i], other, 0);
         }
         at += field == 1 ? 1 + m : 1; /* each number of a short word's file is one byte */
     }
@@ -711,7 +799,25 @@ static void write_seeds(void)
                                         "01026162010000",
                                         "010761626262616162040000010201010100",
                                         "010761626262616162030000010301010100",
-                                        "0107616262626161620500000103010101000000"};
+                                        "0107616262626161620500000103010101000000",
+                                        "03",
+                                        "8200",
+                                        "8201",
+                                        "0200",
+                                        "028120",
+                                        "02026161000036",
+                                        "02026161003600",
+                                        "0202616100003600",
+                                        "0202616100003700",
+                                        "02026162010000D192",
+                                        "02026162010000D1",
+                                        "0202616200",
+                                        "020261620000",
+                                        "020261620000C6",
+                                        "02076162626261616203000001030101",
+                                        "02076162626261616203000001030101DE6A",
+                                        "020761626262616162040000010401010100FE2F",
+                                        "0207616262626161620400000103010101004BEF"};
     static const char *const read_whole[][2] = {
         {"ababdbaacbdaba", "abbbbbbbabdbaa"},
         {"ababdbaacbdaba", "bbbbbbbbbbbabd"},

@@ -1,8 +1,8 @@
 /* The second implementation: what an oracle is by the suffix rule, a supply by 001's definition, an occurrence by comparing bytes at
    each place, a border by comparing the word's beginning with its end, the letters read by going through the published steps, what a
    stream, or a text read so far, ends with by comparing the word's beginnings, the longest first; a failure oracle is the list of the
-   arrows that its rule adds, in their order. Nothing here is clever, so that it can be held against the scope document and the requests
-   line by line.
+   arrows that its rule adds, in their order; a file's check goes through its bits. Nothing here is clever, so that it can be held against
+   the scope document and the requests line by line.
 
    Compiled with -DSLIP=n it has one mistake on purpose, to show that the comparison finds it (tools/second-opinion --slips). The mistakes:
      slip 1: the letters of a file are asked for after the rooms (5 and 3 exchanged)
@@ -166,8 +166,48 @@
      slip 179: the failure search counts finds as far as they fit
      slip 180: the failure search answers beside 4
      slip 181: the failure search exchanges its two counts
-   slip 31, slip 32, slip 67, slip 68, slip 69, slip 84, slip 85, slip 116 to slip 120, slip 140 to slip 144 and slip 182 to slip 190 stand in
-   compare.c, slip 33, slip 34 and slip 70 in fuzz.c. */
+     slip 191: the check stands high byte first
+     slip 192: the edition is left out of the check
+     slip 193: the last byte before the check is left out of it
+     slip 194: the check starts with FFFF
+     slip 195: the check's polynomial is taken as it is and not reflected
+     slip 196: the check covers 4,096 bytes at most
+     slip 197: the check is that of the file of edition 1
+     slip 198: saving with a check writes edition 1
+     slip 199: saving without a check writes one
+     slip 200: saving with a check judges 12 by the file of edition 1
+     slip 201: saving with a check refuses output that is just enough
+     slip 202: saving with a check answers the length without it
+     slip 203: saving with a check writes a byte behind it
+     slip 204: saving with a check judges 3 before 17
+     slip 205: saving with a check leaves the tables as they were where it refuses with 12
+     slip 206: saving with a check touches the output where it refuses with 12
+     slip 207: edition 2 is refused with 7
+     slip 208: searching with a file refuses edition 2 with 7
+     slip 209: edition 3 is read as edition 2
+     slip 210: edition 0 is read as edition 1
+     slip 211: a file of edition 1 with its check behind it is taken
+     slip 212: a file of edition 2 without its check is taken
+     slip 213: the check is not judged
+     slip 214: a check of which one byte is left is refused with 13
+     slip 215: a check that is cut shows at its first byte
+     slip 216: the check is judged before missing arrows (10)
+     slip 217: a check that is cut is judged before missing arrows (10)
+     slip 218: leftovers (11) are judged before the check
+     slip 219: bytes behind the check are let through
+     slip 220: leftovers behind the check show at the check
+     slip 221: 13 shows one byte late
+     slip 222: 13 writes no offset
+     slip 223: the check is looked for at the file's end
+     slip 224: of the check only the low byte is compared
+     slip 225: of the check only the high byte is compared
+     slip 226: a check of zeros is taken, whatever the bytes are
+     slip 227: 13 leaves the rooms as they were
+     slip 228: 13 leaves the file's word in the word room
+     slip 229: the file's last two bytes are judged as the check before the rooms
+     slip 230: the file's last two bytes are judged as the check before the arrows
+   slip 31, slip 32, slip 67, slip 68, slip 69, slip 84, slip 85, slip 116 to slip 120, slip 140 to slip 144, slip 182 to slip 190 and
+   slip 231 to slip 239 stand in compare.c, slip 33, slip 34 and slip 70 in fuzz.c. */
 #include "second.h"
 
 #include <stdbool.h>
@@ -439,10 +479,33 @@ static size_t spell_number(uint32_t number, uint8_t *out)
     return groups;
 }
 
-static size_t spell_file(const uint8_t *p, size_t m, uint8_t *out)
+/* The check of edition 2, the CRC-16 known as ARC: what is left of the bytes, bit by bit, each byte's lowest first. The reflected
+   polynomial takes the lowest bit out. */
+static unsigned check_of(const uint8_t *bytes, size_t len)
+{
+    unsigned left = SLIP == 194 ? 0xFFFF : 0;
+    size_t first = SLIP == 192 ? 1 : 0, behind = SLIP == 193 ? len - 1 : SLIP == 196 && len > 4096 ? 4096 : len;
+    for (size_t i = first; i < behind; i++) {
+        left ^= SLIP == 197 && i == 0 ? 1 : bytes[i];
+        for (int bit = 0; bit < 8; bit++)
+            left = left % 2 == 1 ? left / 2 ^ (SLIP == 195 ? 0x8005 : 0xA001) : left / 2;
+    }
+    return left;
+}
+
+/* the check of so many bytes of a file as it stands behind them */
+static void spell_check(const uint8_t *file, size_t len, uint8_t out[CHECK_BYTES])
+{
+    unsigned check = check_of(file, len);
+    out[SLIP == 191 ? 1 : 0] = (uint8_t)(check % 256);
+    out[SLIP == 191 ? 0 : 1] = (uint8_t)(check / 256);
+}
+
+/* edition 1 ends with the arrows, edition 2 with a check of all that is before it */
+static size_t spell_file(unsigned edition, const uint8_t *p, size_t m, uint8_t *out)
 {
     unsigned source = 0;
-    size_t at = spell_number(1, out);
+    size_t at = spell_number(SLIP == 198 ? 1 : edition, out);
     at += spell_number((uint32_t)m, out + at);
     memcpy(out + at, p, m);
     at += m;
@@ -451,6 +514,10 @@ static size_t spell_file(const uint8_t *p, size_t m, uint8_t *out)
         at += spell_number((uint32_t)(extra[e].source - source), out + at);
         at += spell_number((uint32_t)(extra[e].target - extra[e].source - 2), out + at);
         source = extra[e].source;
+    }
+    if (edition == 2 || SLIP == 199) {
+        spell_check(out, at, out + at);
+        at += CHECK_BYTES;
     }
     return at;
 }
@@ -482,15 +549,28 @@ static uint32_t read_number(const uint8_t *file, size_t file_len, size_t *at, ui
     }
 }
 
+/* whether the two bytes at a place are another check than that of the bytes before */
+static bool other_check(const uint8_t *file, size_t at)
+{
+    uint8_t right[CHECK_BYTES];
+    spell_check(file, at, right);
+    bool low = file[at] != right[0] && SLIP != 225, high = file[at + 1] != right[1] && SLIP != 224;
+    if (SLIP == 226 && file[at] == 0 && file[at + 1] == 0)
+        return false;
+    return (low || high) && SLIP != 213;
+}
+
 /* Reads edition, m and letters, and judges the rooms; on 0 *at is behind the letters. Only 3, the rooms' refusal, shows nowhere. */
-static uint32_t read_front(const uint8_t *file, size_t file_len, size_t room_len, size_t tables_len, size_t *at, size_t *m,
-                           uint64_t *offset)
+static uint32_t read_front(const uint8_t *file, size_t file_len, size_t room_len, size_t tables_len, size_t *at, uint32_t *edition,
+                           size_t *m, uint64_t *offset)
 {
     uint32_t no, number;
     *at = 0;
-    if ((no = read_number(file, file_len, at, &number, offset)) != 0)
+    if ((no = read_number(file, file_len, at, edition, offset)) != 0)
         return no;
-    if (number != 1 && SLIP != 27)
+    if ((SLIP == 209 && *edition == 3) || (SLIP == 210 && *edition == 0))
+        *edition = *edition == 3 ? 2 : 1;
+    if (*edition != 1 && (*edition != 2 || SLIP == 207) && SLIP != 27)
         return shows(7, 0, offset);
     size_t length_at = *at;
     if ((no = read_number(file, file_len, at, &number, offset)) != 0)
@@ -506,6 +586,8 @@ static uint32_t read_front(const uint8_t *file, size_t file_len, size_t room_len
         return shows(5, SLIP == 77 ? *at : file_len, offset);
     if (SLIP == 136 && too_few)
         return shows(8, length_at, offset);
+    if (SLIP == 229 && *edition == 2 && file_len - *at - *m > CHECK_BYTES && other_check(file, file_len - CHECK_BYTES))
+        return shows(13, file_len - CHECK_BYTES, offset);
     if (short_room)
         return SLIP == 80 ? shows(3, 0, offset) : 3;
     if (SLIP == 137 && too_few)
@@ -514,12 +596,35 @@ static uint32_t read_front(const uint8_t *file, size_t file_len, size_t room_len
     return 0;
 }
 
-/* Reads the count and the arrows from at on, against the oracle at hand. An arrow is one field, so it shows at its first number. */
-static uint32_t read_arrows(const uint8_t *file, size_t file_len, size_t at, size_t m, uint64_t *offset)
+/* Reads what stands behind the arrows: in edition 2 the check, in both then nothing. */
+static uint32_t read_end(const uint8_t *file, size_t file_len, size_t at, bool checked, uint64_t *offset)
+{
+    size_t left = file_len - at, check_at = SLIP == 223 && left > CHECK_BYTES ? file_len - CHECK_BYTES : at;
+    if (SLIP == 211 && !checked && left == CHECK_BYTES && !other_check(file, at))
+        return 0;
+    if (checked && !(SLIP == 212 && left == 0)) {
+        if (SLIP == 218 && left > CHECK_BYTES)
+            return shows(11, at + CHECK_BYTES, offset);
+        if (left < CHECK_BYTES)
+            return SLIP == 214 && left == 1 ? shows(13, at, offset) : shows(5, SLIP == 215 ? at : file_len, offset);
+        if (other_check(file, check_at))
+            return SLIP == 222 ? 13 : shows(13, SLIP == 221 ? check_at + 1 : check_at, offset);
+        at = check_at + CHECK_BYTES;
+    }
+    if (at == file_len || SLIP == 10 || (SLIP == 219 && checked))
+        return 0;
+    return shows(11, SLIP == 79 ? file_len : SLIP == 220 && checked ? check_at : at, offset);
+}
+
+/* Reads the count, the arrows and what stands behind them from at on, against the oracle at hand. An arrow is one field, so it shows at its
+   first number. */
+static uint32_t read_arrows(const uint8_t *file, size_t file_len, size_t at, bool checked, size_t m, uint64_t *offset)
 {
     uint32_t no, count, up, over;
     unsigned source = 0;
     size_t count_at = at;
+    if (SLIP == 230 && checked && file_len - at > CHECK_BYTES && other_check(file, file_len - CHECK_BYTES))
+        return shows(13, file_len - CHECK_BYTES, offset);
     if ((no = read_number(file, file_len, &at, &count, offset)) != 0)
         return no;
     if (count > m - 1)
@@ -539,11 +644,15 @@ static uint32_t read_arrows(const uint8_t *file, size_t file_len, size_t at, siz
             return shows(10, arrow_at, offset);
         source = extra[e].source;
     }
-    if (SLIP == 25 && at < file_len)
+    if (SLIP == 25 && at < file_len && !checked)
         return shows(11, at, offset);
+    if (SLIP == 216 && checked && file_len - at >= CHECK_BYTES && other_check(file, at))
+        return shows(13, at, offset);
+    if (SLIP == 217 && checked && file_len - at < CHECK_BYTES)
+        return shows(5, file_len, offset);
     if (count < extras && SLIP != 13)
         return shows(10, SLIP == 78 ? count_at : at, offset);
-    return at < file_len && SLIP != 10 ? shows(11, SLIP == 79 ? file_len : at, offset) : 0;
+    return read_end(file, file_len, at, checked, offset);
 }
 
 /* ---- the search ---- */
@@ -904,7 +1013,7 @@ static uint64_t take_piece(uint8_t *searcher, const uint8_t *piece, size_t piece
     return SLIP == 60 && count > finds_len ? finds_len : count;
 }
 
-/* ---- the ten entries ---- */
+/* ---- the eleven entries ---- */
 
 uint32_t second_build(const uint8_t *word, size_t word_len, uint16_t *tables, size_t tables_len, uint64_t *m)
 {
@@ -936,26 +1045,32 @@ static uint32_t refuse_saving(size_t word_len)
     return 0;
 }
 
-uint32_t second_save(const uint8_t *word, size_t word_len, uint16_t *tables, size_t tables_len, uint8_t *out, size_t out_len,
-                     uint64_t *length)
+static uint32_t save(unsigned edition, const uint8_t *word, size_t word_len, uint16_t *tables, size_t tables_len, uint8_t *out,
+                     size_t out_len, uint64_t *length)
 {
     uint8_t file[MOST_FILE];
+    bool checked = edition == 2;
     uint32_t no = refuse_saving(word_len);
     if (SLIP == 127 && no == 17 && tables_len >= entries(word_len))
         clear(tables, entries(word_len) * sizeof *tables);
     if (SLIP == 128 && no == 17 && out_len > 0)
         out[0] = 1;
-    if (no != 0 && !(no == 17 && (SLIP == 122 || SLIP == 123)))
+    if (no != 0 && !(no == 17 && (SLIP == 122 || SLIP == 123 || (SLIP == 204 && checked))))
         return no;
     if (tables_len < entries(word_len))
         return 3;
-    if (SLIP == 122 && no != 0)
+    if ((SLIP == 122 || SLIP == 204) && no != 0)
         return no;
     make_oracle(word, word_len);
-    size_t size = spell_file(word, word_len, file);
-    if (out_len < size) {
-        clear(tables, entries(word_len) * sizeof *tables);
-        if (SLIP == 22 && out_len > 0)
+    size_t size = spell_file(edition, word, word_len, file), need = size;
+    if (SLIP == 200 && checked)
+        need -= CHECK_BYTES;
+    if (SLIP == 201 && checked)
+        need++;
+    if (out_len < need) {
+        if (SLIP != 205 || !checked)
+            clear(tables, entries(word_len) * sizeof *tables);
+        if ((SLIP == 22 || (SLIP == 206 && checked)) && out_len > 0)
             out[0] = file[0];
         if (SLIP == 23)
             *length = size;
@@ -964,29 +1079,43 @@ uint32_t second_save(const uint8_t *word, size_t word_len, uint16_t *tables, siz
     if (SLIP == 123 && no != 0)
         return no;
     write_tables(word, word_len, tables);
-    memcpy(out, file, size);
-    if (SLIP == 19 && out_len > size)
+    memcpy(out, file, SLIP == 200 && out_len < size ? out_len : size);
+    if ((SLIP == 19 || (SLIP == 203 && checked)) && out_len > size)
         out[size] = 0;
-    *length = size;
+    *length = SLIP == 202 && checked ? size - CHECK_BYTES : size;
     return 0;
+}
+
+uint32_t second_save(const uint8_t *word, size_t word_len, uint16_t *tables, size_t tables_len, uint8_t *out, size_t out_len,
+                     uint64_t *length)
+{
+    return save(1, word, word_len, tables, tables_len, out, out_len, length);
+}
+
+uint32_t second_save_checked(const uint8_t *word, size_t word_len, uint16_t *tables, size_t tables_len, uint8_t *out, size_t out_len,
+                             uint64_t *length)
+{
+    return save(2, word, word_len, tables, tables_len, out, out_len, length);
 }
 
 uint32_t second_load(const uint8_t *file, size_t file_len, uint8_t *room, size_t room_len, uint16_t *tables, size_t tables_len,
                      uint64_t *m, uint64_t *offset)
 {
     size_t at, letters = 0;
-    uint32_t no = read_front(file, file_len, room_len, tables_len, &at, &letters, offset);
+    uint32_t edition, no = read_front(file, file_len, room_len, tables_len, &at, &edition, &letters, offset);
     if (SLIP == 138 && no == 8 && file[1] == 1)
         clear(room, room_len);
     if (no != 0)
         return no;
     const uint8_t *word = file + at - letters;
     make_oracle(word, letters);
-    no = read_arrows(file, file_len, at, letters, offset);
+    no = read_arrows(file, file_len, at, edition == 2, letters, offset);
+    if (SLIP == 228 && no == 13)
+        memcpy(room, word, letters);
     if (no != 0) {
-        if (SLIP != 14)
+        if (SLIP != 14 && !((SLIP == 227 || SLIP == 228) && no == 13))
             clear(room, letters);
-        if (SLIP != 5)
+        if (SLIP != 5 && !(SLIP == 227 && no == 13))
             clear(tables, entries(letters) * sizeof *tables);
         return no;
     }
@@ -1092,6 +1221,8 @@ uint32_t second_search_file(const uint8_t *file, size_t file_len, const uint8_t 
         *letters = text_len;
         return 0;
     }
+    if (SLIP == 208 && file_len > 0 && file[0] == 2)
+        return shows(7, 0, offset);
     uint32_t no = second_load(file, file_len, room, room_len, tables, tables_len, &m, SLIP == 82 ? &kept_here : offset);
     if (no != 0)
         return no;

@@ -1,4 +1,4 @@
-/* A second opinion on the library: the same ten entries, written once more from the scope document and the requests, and from
+/* A second opinion on the library: the same eleven entries, written once more from the scope document and the requests, and from
    docs/TABLE.md and docs/FILE.md where those leave the layout of the tables and of a searcher open, as plainly as can be.
    It shares no code and no definition with the proved library, is quadratic where that is simpler, and keeps its oracles in static
    memory (one caller at a time). Each answers the refusal's number, 0 for success; what is answered beside it goes through the last
@@ -17,8 +17,9 @@ enum {
     MOST_STREAMED = 64,           /* letters of a word that a stream is opened for */
     MOST_TEXT = 16777216,         /* bytes of a text, and of a stream */
     SEARCHER_BYTES = 134,         /* of a searcher; more may be lent */
-    LEAST_FILE = LEAST_SAVED + 3, /* bytes of a file: the edition, the length, the letters and a count of no arrows */
-    ALWAYS_ENOUGH = 20481,        /* bytes of output, for the file of any word */
+    LEAST_FILE = LEAST_SAVED + 3, /* bytes of a file of edition 1: the edition, the length, the letters and a count of no arrows */
+    ALWAYS_ENOUGH = 20481,        /* bytes of output, for the file of any word in edition 1 */
+    CHECK_BYTES = 2,              /* how many bytes more a file of edition 2 has */
     MOST_FILE = 8 * MOST_LETTERS  /* a room of our own for a file: more than any has */
 };
 
@@ -42,6 +43,9 @@ uint32_t second_build(const uint8_t *word, size_t word_len, uint16_t *tables, si
 
 uint32_t second_save(const uint8_t *word, size_t word_len, uint16_t *tables, size_t tables_len, uint8_t *out, size_t out_len,
                      uint64_t *length);
+
+uint32_t second_save_checked(const uint8_t *word, size_t word_len, uint16_t *tables, size_t tables_len, uint8_t *out, size_t out_len,
+                             uint64_t *length);
 
 uint32_t second_load(const uint8_t *file, size_t file_len, uint8_t *room, size_t room_len, uint16_t *tables, size_t tables_len,
                      uint64_t *m, uint64_t *offset);

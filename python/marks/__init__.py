@@ -12,14 +12,14 @@ it is broken.
 from ._entries import LONGEST_WORD
 from ._files import check, count, find, load, save
 from ._mark import Mark
-from ._refused import (BadCount, BadLength, BadNumber, CutFile, EmptyWord, Leftovers, LongText, LongWord, OtherEdition, Refused,
+from ._refused import (BadCheck, BadCount, BadLength, BadNumber, CutFile, EmptyWord, Leftovers, LongText, LongWord, OtherEdition, Refused,
                        ShortOutput, ShortRoom, ShortWord, Unmade, WrongArrow)
 from ._stream import LONGEST_STREAMED, Stream
 
-__version__ = "0.3.0"
+__version__ = "0.4.0"
 
-__all__ = ["LONGEST_STREAMED", "LONGEST_WORD", "Mark", "Stream", "check", "count", "find", "load", "save", "Refused", "BadCount",
-           "BadLength", "BadNumber", "CutFile", "EmptyWord", "Leftovers", "LongText", "LongWord", "OtherEdition", "ShortOutput",
+__all__ = ["LONGEST_STREAMED", "LONGEST_WORD", "Mark", "Stream", "check", "count", "find", "load", "save", "Refused", "BadCheck",
+           "BadCount", "BadLength", "BadNumber", "CutFile", "EmptyWord", "Leftovers", "LongText", "LongWord", "OtherEdition", "ShortOutput",
            "ShortRoom", "ShortWord", "Unmade", "WrongArrow"]
 
 # Tracebacks, pickles and help() name what is public by where it is so.

@@ -2,7 +2,7 @@
 from array import array
 from ctypes import byref, c_uint64
 from itertools import chain
-from typing import Any, List, Tuple, Union
+from typing import Any, List, Literal, Tuple, Union, get_args
 
 from ._lent import Lent
 from ._library import LIBRARY
@@ -10,8 +10,14 @@ from ._refused import refused
 
 LONGEST_WORD = 4_096
 LONGEST_TEXT = 16_777_216
-LONGEST_FILE = 5 * LONGEST_WORD + 1
+LONGEST_FILE = 5 * LONGEST_WORD + 3
 SEARCHER = 134
+
+Edition = Literal[1, 2]
+EDITIONS: Tuple[int, ...] = get_args(Edition)
+
+# The entry that saves each edition.
+_SAVES = {1: LIBRARY.marks_save, 2: LIBRARY.marks_save_checked}
 
 # The entry that each engine asks, and how many answers it has: that of the failure oracle also tells how many failure arrows were taken.
 _SEARCHES = {
@@ -56,16 +62,17 @@ def build(word: Lent) -> None:
     _asked(LIBRARY.marks_build, word, tables(len(word)), answers=1)
 
 
-def save(word: bytes) -> bytes:
+def save(word: bytes, edition: Edition) -> bytes:
     out = room("B", LONGEST_FILE)
-    length, = _asked(LIBRARY.marks_save, word, tables(len(word)), out, answers=1)
+    length, = _asked(_SAVES[edition], word, tables(len(word)), out, answers=1)
     return out[:length].tobytes()
 
 
-def load(file: Lent) -> bytes:
+def load(file: Lent) -> Tuple[bytes, Edition]:
+    """The word of a file, and the file's edition: what is loaded begins with it, in one byte."""
     word = room("B", LONGEST_WORD)
     length, _ = _asked(LIBRARY.marks_load, file, word, tables(LONGEST_WORD), answers=1, offset=True)
-    return word[:length].tobytes()
+    return word[:length].tobytes(), 2 if file.copy()[0] == 2 else 1
 
 
 def search(engine: str, word: bytes, text: Lent, table: "array[int]", finds: "array[int]") -> Tuple[int, int]:

@@ -6,7 +6,7 @@ import stat
 from contextlib import suppress
 from typing import TYPE_CHECKING, List, Optional, Union
 
-from ._entries import LONGEST_FILE
+from ._entries import LONGEST_FILE, Edition
 from ._mark import Mark
 from ._search import Engine
 
@@ -34,13 +34,16 @@ def count(word: "Union[Buffer, Mark]", text: "Buffer") -> int:
     return _as_mark(word).count(text)
 
 
-def save(word: "Union[Buffer, Mark]", path: "Path", *, overwrite: bool = False) -> None:
+def save(word: "Union[Buffer, Mark]", path: "Path", *, overwrite: bool = False, edition: Edition = 1) -> None:
     """Saves the file of a mark, where there is none yet or over it if `overwrite` says so. It is written beside and moved there whole.
+
+    Edition 2 ends with a check of all bytes before it, by which a single flipped bit is always noticed. Edition 1 is the default
+    nevertheless, as a service that is not yet updated refuses edition 2 with 7.
 
     Over a file its permissions are kept, and where a symbolic link is, what it leads to is replaced. What is no regular file, as a pipe or
     a device, is written to as it is.
     """
-    file, named = _as_mark(word).to_file(), os.fsdecode(path)
+    file, named = _as_mark(word).to_file(edition=edition), os.fsdecode(path)
     target = os.path.realpath(named) if overwrite else named
     old = os.stat(target) if overwrite and os.path.exists(target) else None
     try:
@@ -108,13 +111,14 @@ def _sync(folder: str) -> None:
 
 
 def load(path: "Path", *, engine: Engine = "auto") -> Mark:
-    """The mark of a saved file. Any file may be named: what is raised says why it is no mark's, and where."""
+    """The mark of a saved file of either edition. Any file may be named: what is raised says why it is no mark's, and where."""
     with open(path, "rb") as file:
         return Mark.from_file(file.read(_READ), engine=engine)
 
 
 def check(path_or_bytes: "Union[str, os.PathLike[str], Buffer]") -> Mark:
-    """The mark of a good file, which a str or a pathlib.Path names, or whose bytes are handed over. Others are refused."""
+    """The mark of a good file, which a str or a pathlib.Path names, or whose bytes are handed over. Others are refused. The `edition` of
+    the mark is that of the file."""
     if isinstance(path_or_bytes, (str, os.PathLike)):
         return load(path_or_bytes)
     return Mark.from_file(path_or_bytes)

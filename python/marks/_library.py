@@ -1,4 +1,4 @@
-"""The shared library: where it is, and what its ten entries take."""
+"""The shared library: where it is, and what its eleven entries take."""
 import ctypes
 import os
 from ctypes import POINTER, c_size_t, c_uint32, c_uint64, c_void_p
@@ -6,13 +6,14 @@ from pathlib import Path
 from typing import List
 
 # With other numbers in its name a library may have other entries.
-NAME = "libmarks.so.0.3"
+NAME = "libmarks.so.0.4"
 
 _LENT = (c_void_p, c_size_t)  # an address, and how many elements of the buffer stand there
 _ANSWER = (POINTER(c_uint64),)
 _ENTRIES = {
     "marks_build": 2 * _LENT + _ANSWER,
     "marks_save": 3 * _LENT + _ANSWER,
+    "marks_save_checked": 3 * _LENT + _ANSWER,
     "marks_load": 3 * _LENT + 2 * _ANSWER,
     "marks_search": 4 * _LENT + 2 * _ANSWER,
     "marks_turbo": 4 * _LENT + 2 * _ANSWER,

@@ -4,7 +4,7 @@ from typing import Optional, Tuple, Type
 from ._refusals import REFUSALS
 
 _LINES = {name: (number, text) for number, name, text in REFUSALS}
-_WITH_OFFSET = range(5, 12)
+_WITH_OFFSET = (*range(5, 12), 13)
 
 
 class Refused(ValueError):
@@ -72,6 +72,10 @@ class Leftovers(Refused):
 
 
 class ShortOutput(Refused):
+    pass
+
+
+class BadCheck(Refused):
     pass
 
 

@@ -34,6 +34,16 @@ def plainly(word, text):
     return [at for at in range(len(text) - len(word) + 1) if text.startswith(word, at)]
 
 
+def checked(body):
+    """The bytes with their CRC-16/ARC behind them, low byte first, taken bit by bit."""
+    rest = 0
+    for byte in body:
+        rest ^= byte
+        for _ in range(8):
+            rest = rest >> 1 ^ (0xA001 if rest & 1 else 0)
+    return bytes(body) + rest.to_bytes(2, "little")
+
+
 class Slow:
     """A file that gives a few bytes at a time, by `read` alone."""
 
@@ -329,7 +339,7 @@ class Values(unittest.TestCase):
             self.assertEqual((again.word, again.engine), (b"RIDE", "turbo"))
 
     def test_a_mark_cannot_be_changed(self):
-        for name in "word", "engine", "other":
+        for name in "word", "engine", "edition", "other":
             with self.assertRaises(AttributeError):
                 setattr(Mark(b"RIDE"), name, b"")
 
@@ -389,12 +399,12 @@ class Streams(unittest.TestCase):
         self.assertEqual(stream.take(b"..RIDE"), [6])
 
 
-# docs/FILE.md: a file, the number that it is refused with, and where
+# a file, the number that it is refused with, and where: those of docs/FILE.md, then more of edition 2
 BROKEN = (
     ("01 80", 5, 2),
     ("01 03 61 61", 5, 4),
     ("01 83 00 61 61 61 00", 6, 2),
-    ("02", 7, 0),
+    ("03", 7, 0),
     ("01 FF FF FF FF 0F", 8, 1),
     ("01 01 61 00", 8, 1),
     ("01 03 61 61 61 03", 9, 5),
@@ -404,6 +414,20 @@ BROKEN = (
     ("01 03 61 61 61 00 00", 11, 6),
     ("81 00", 6, 1),
     ("", 5, 0),
+    ("02", 5, 1),
+    ("02 01 61 00", 8, 1),
+    ("02 02 61 62 00", 10, 5),
+    ("02 02 61 61 00", 5, 5),
+    ("02 02 61 61 00 00", 5, 6),
+    ("02 02 61 61 00 01 36", 13, 5),
+    ("02 02 61 61 00 00 37", 13, 5),
+    ("02 02 61 61 00 36 00", 13, 5),
+    ("02 02 63 62 01 00 00 D1 92", 13, 7),
+    ("02 02 61 61 00 00 37 00", 13, 5),
+    ("02 02 61 61 00 00 36 00", 11, 7),
+    ("01 02 61 61 00 00 36", 11, 5),
+    ("03 02 61 61 00 00 36", 7, 0),
+    ("82 00 02 61 61 00 00 36", 6, 1),
 )
 
 
@@ -424,6 +448,7 @@ class Refusals(unittest.TestCase):
         self.refuses(2, None, Mark, bytes(MEBI))
         self.refuses(2, None, Stream, bytes(65))
         self.refuses(17, None, Mark(b"a").to_file)
+        self.refuses(17, None, lambda: Mark(b"a").to_file(edition=2))
         self.assertEqual((Mark(bytes(4096)).count(bytes(4096)), Stream(bytes(64)).take(bytes(64))), (1, [0]))
 
     def test_files(self):
@@ -440,8 +465,10 @@ class Refusals(unittest.TestCase):
         for engine, entries in ("backward", 17), ("turbo", 17), ("failure", 29):
             self.refuses(3, None, _entries.search, engine, word, _lent.Lent(b"ab", "text"), _entries.room("H", entries), finds)
         self.refuses(3, None, lambda: _entries._asked(LIBRARY.marks_failure_build, word, _entries.room("H", 29), answers=1))
-        out = _entries.room("B", 6)
-        self.refuses(12, None, lambda: _entries._asked(LIBRARY.marks_save, word, _entries.tables(2), out, answers=1))
+        for entry, size in (LIBRARY.marks_save, 7), (LIBRARY.marks_save_checked, 9):
+            out = _entries.room("B", size - 1)
+            self.refuses(12, None, lambda: _entries._asked(entry, word, _entries.tables(2), out, answers=1))
+            self.assertEqual(_entries._asked(entry, word, _entries.tables(2), _entries.room("B", size), answers=1), [size])
         self.refuses(16, None, _entries.take, _entries.room("B", 134), b"", finds)
 
     def test_what_the_entries_of_the_failure_oracle_tell(self):
@@ -473,7 +500,8 @@ class Refusals(unittest.TestCase):
             error = _refused.refused(number, 7)
             for again in pickle.loads(pickle.dumps(error)), copy.copy(error):
                 self.assertIs(type(again), type(error))
-                self.assertEqual((again.number, again.offset, str(again)), (number, 7 if 5 <= number <= 11 else None, str(error)))
+                offset = 7 if 5 <= number <= 11 or number == 13 else None
+                self.assertEqual((again.number, again.offset, str(again)), (number, offset, str(error)))
 
 
 class Files(unittest.TestCase):
@@ -498,6 +526,9 @@ class Files(unittest.TestCase):
             again = Mark.from_file(mark.to_file(), engine="turbo")
             self.assertEqual((again.word, again.engine), (mark.word, "turbo"))
             self.assertLessEqual(len(mark.to_file()), 20_481)
+            again = Mark.from_file(mark.to_file(edition=2), engine="turbo")
+            self.assertEqual((again.word, again.engine), (mark.word, "turbo"))
+            self.assertLessEqual(len(mark.to_file(edition=2)), 20_483)
 
     def test_saved_and_loaded(self):
         for path in str(self.path), self.path, os.fsencode(self.path):
@@ -509,6 +540,71 @@ class Files(unittest.TestCase):
         umask = os.umask(0)
         os.umask(umask)
         self.assertEqual(stat.S_IMODE(self.path.stat().st_mode), 0o666 & ~umask)
+
+    def test_edition_2_is_edition_1_with_its_check(self):
+        chance = random.Random(4)
+        self.assertEqual(checked(b"123456789")[-2:], bytes.fromhex("3D BB"))  # as every catalogue of such checks has it
+        words = [bytes(chance.randrange(letters) for _ in range(chance.randrange(2, 300))) for letters in (1, 2, 3, 256) for _ in range(25)]
+        for word in (*words, bytes(4096), bytes(4095) + b"\1", chance.getrandbits(8 * 4096).to_bytes(4096, "big")):
+            plain, file = Mark(word).to_file(edition=1), Mark(word).to_file(edition=2)
+            self.assertEqual((plain, file), (Mark(word).to_file(), checked(b"\2" + plain[1:])))
+            self.assertEqual(Mark.from_file(file), Mark.from_file(plain))
+            self.assertEqual((Mark.from_file(plain).edition, Mark.from_file(file).edition), (1, 2))
+
+    def test_each_flipped_bit_of_edition_2_is_refused(self):
+        seen = set()
+        for word in b"ab", b"RIDE", b"abbbaab", b"a" * 130:
+            good = Mark(word).to_file(edition=2)
+            for bit in range(8 * len(good)):
+                file = bytearray(good)
+                file[bit // 8] ^= 1 << bit % 8
+                with self.assertRaises(marks.Refused) as caught:
+                    marks.check(file)
+                seen.add(caught.exception.number)
+                if self.is_good(b"\1" + file[1:-2]):
+                    whole = file[0] == 2
+                    self.assertEqual((caught.exception.number, caught.exception.offset), (13, len(good) - 2) if whole else (7, 0))
+        self.assertLessEqual({5, 7, 8, 9, 10, 13}, seen)
+
+    def is_good(self, file):
+        try:
+            Mark.from_file(file)
+        except marks.Refused:
+            return False
+        return True
+
+    def test_the_least_file_and_room_for_the_longest(self):
+        for word in b"aa", b"\0\0":
+            self.assertEqual([len(Mark(word).to_file(edition=edition)) for edition in (1, 2)], [5, 7])
+        self.assertEqual(Mark(b"aa").to_file(edition=2), bytes.fromhex("02 02 61 61 00 00 36"))
+        self.assertEqual(_entries.LONGEST_FILE, 20_483)
+
+    def test_an_edition_that_there_is_not(self):
+        for edition in 0, 3, -1, "2", None, b"\2", [2]:
+            for use in Mark(b"RIDE").to_file, lambda edition: marks.save(b"RIDE", self.path, edition=edition):
+                with self.assertRaisesRegex(ValueError, "there is no edition .*: it is 1 or 2"):
+                    use(edition=edition)
+        self.assertEqual(os.listdir(self.folder), [])
+
+    def test_saved_in_either_edition(self):
+        for edition in 1, 2:
+            for word in b"RIDE", Mark(b"RIDE"), Mark.from_file(Mark(b"RIDE").to_file(edition=2)):
+                marks.save(word, self.path, overwrite=True, edition=edition)
+                self.assertEqual(self.path.read_bytes(), Mark(b"RIDE").to_file(edition=edition))
+            for mark in marks.load(self.path), marks.check(self.path), marks.check(str(self.path)), marks.check(self.path.read_bytes()):
+                self.assertEqual((mark, mark.edition, mark.find(b"..RIDE")), (Mark(b"RIDE"), edition, 2))
+                for again in copy.copy(mark), pickle.loads(pickle.dumps(mark)):
+                    self.assertEqual((again, again.edition), (mark, edition))
+        marks.save(mark, self.path, overwrite=True)
+        self.assertEqual(self.path.read_bytes(), Mark(b"RIDE").to_file())
+        self.assertIsNone(Mark(b"RIDE").edition)
+
+    def test_a_search_with_a_file_of_either_edition(self):
+        for edition in 1, 2:
+            file, finds = Mark(b"RIDE").to_file(edition=edition), _entries.room("I", 2)
+            rooms = _entries.room("B", 4), _entries.tables(4)
+            told = _entries._asked(LIBRARY.marks_search_file, file, b"..RIDE..RIDE", *rooms, finds, answers=2, offset=True)
+            self.assertEqual((told[0], finds.tolist(), rooms[0].tobytes()), (2, [2, 8], b"EDIR"))
 
     def test_saved_over_another_only_if_asked(self):
         marks.save(b"RIDE", self.path)
@@ -556,11 +652,12 @@ class Files(unittest.TestCase):
         self.assertTrue(stat.S_ISFIFO(pipe.stat().st_mode))
 
     def test_only_the_front_of_a_long_file_is_read(self):
-        good = Mark(bytes(i % 251 for i in range(4096))).to_file()
-        self.path.write_bytes(good + bytes(MEBI))
-        with self.assertRaises(marks.Leftovers) as caught:
-            marks.load(self.path)
-        self.assertEqual(caught.exception.offset, len(good))
+        for edition in 1, 2:
+            good = Mark(bytes(i % 251 for i in range(4096))).to_file(edition=edition)
+            self.path.write_bytes(good + bytes(MEBI))
+            with self.assertRaises(marks.Leftovers) as caught:
+                marks.load(self.path)
+            self.assertEqual(caught.exception.offset, len(good))
         with self.assertRaises(marks.OtherEdition):
             marks.check("/dev/zero")
 

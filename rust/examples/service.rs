@@ -19,7 +19,7 @@ use std::{
 /// What became of an upload: how often the mark stands in it and where first, or why it could not be read.
 type Opened = io::Result<(u64, Option<u64>)>;
 
-/// A mark file has at most 20,481 bytes. One byte more is read, and no more whatever comes: with it no file is a mark's.
+/// A mark file has at most 20,483 bytes, in either edition. One byte more is read, and no more whatever comes: with it no file is a mark's.
 fn load(name: &Path) -> Result<Mark, String> {
     let mut bytes = Vec::new();
     let read = File::open(name).and_then(|file| file.take(marks::LONGEST_FILE as u64 + 1).read_to_end(&mut bytes));

@@ -17,6 +17,15 @@ extern "C" {
         out_len: usize,
         length: *mut u64,
     ) -> u32;
+    fn marks_save_checked(
+        word: *const u8,
+        word_len: usize,
+        tables: *mut u16,
+        tables_len: usize,
+        out: *mut u8,
+        out_len: usize,
+        length: *mut u64,
+    ) -> u32;
     fn marks_load(
         file: *const u8,
         file_len: usize,
@@ -123,25 +132,43 @@ pub fn build(word: &[u8], tables: &mut [u16]) -> Result<usize, Refusal> {
     told(said, m).map(size)
 }
 
-/// The file of a word of at least [`LEAST_SAVED`](crate::LEAST_SAVED) bytes, at the front of `out`; the answer is its length.
+/// What saving is for C, in either edition.
+type SaveEntry = unsafe extern "C" fn(*const u8, usize, *mut u16, usize, *mut u8, usize, *mut u64) -> u32;
+
+fn saved(entry: SaveEntry, word: &[u8], tables: &mut [u16], out: &mut [u8]) -> Result<usize, Refusal> {
+    let mut length = 0;
+    // SAFETY: `entry` is one of the library's two of this shape; `word`, `tables` and `out` are slices, handed over with their lengths, and
+    // `length` is a local: what is written is borrowed here alone.
+    let said = unsafe { entry(word.as_ptr(), word.len(), tables.as_mut_ptr(), tables.len(), out.as_mut_ptr(), out.len(), &raw mut length) };
+    told(said, length).map(size)
+}
+
+/// The file of a word of at least [`LEAST_SAVED`](crate::LEAST_SAVED) bytes in edition 1, at the front of `out`; the answer is its length.
 ///
 /// # Errors
 ///
 /// The refusals 1, 2, 17, 3 and 12. The last leaves the first 6(m+1) entries of `tables` zero, the others change nothing.
 pub fn save(word: &[u8], tables: &mut [u16], out: &mut [u8]) -> Result<usize, Refusal> {
-    let mut length = 0;
-    // SAFETY: `word`, `tables` and `out` are slices, handed over with their lengths, and `length` is a local: what is written is borrowed here alone.
-    let said =
-        unsafe { marks_save(word.as_ptr(), word.len(), tables.as_mut_ptr(), tables.len(), out.as_mut_ptr(), out.len(), &raw mut length) };
-    told(said, length).map(size)
+    saved(marks_save, word, tables, out)
 }
 
-/// The file's word in the first m bytes of `room`, its table in the first 6(m+1) entries of `tables`; the answer is m.
+/// The same as [`save`] in edition 2: another first byte, and two bytes more, which are a check of all bytes before them. A library from
+/// before edition 2 refuses the file with 7.
 ///
 /// # Errors
 ///
-/// The refusals 5 to 11, with the offset at which the file is broken, and 3. Those before the rooms were judged change nothing, the others leave the word's
-/// part of `room` and `tables` zero.
+/// The refusals 1, 2, 17, 3 and 12, as [`save`].
+pub fn save_checked(word: &[u8], tables: &mut [u16], out: &mut [u8]) -> Result<usize, Refusal> {
+    saved(marks_save_checked, word, tables, out)
+}
+
+/// The file's word in the first m bytes of `room`, its table in the first 6(m+1) entries of `tables`; the answer is m. The file may be of
+/// either edition.
+///
+/// # Errors
+///
+/// The refusals 5 to 11 and 13, with the offset at which the file is broken, and 3. Those before the rooms were judged change nothing, the
+/// others leave the word's part of `room` and `tables` zero.
 pub fn load(file: &[u8], room: &mut [u8], tables: &mut [u16]) -> Result<usize, LoadError> {
     let (mut m, mut offset) = (0, 0);
     // SAFETY: `file`, `room` and `tables` are slices, handed over with their lengths, `m` and `offset` are locals: what is written is borrowed here alone.

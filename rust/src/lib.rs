@@ -35,8 +35,9 @@
 //! # Ok::<(), marks::Refusal>(())
 //! ```
 //!
-//! What is refused is refused with a number of one table, [`Refusal`]; nothing panics, and no declared number is acted on before it is checked. A refused file
-//! comes with the offset at which it is broken, in a [`LoadError`]. [`entries`] has the ten entries themselves, over slices that the caller lends.
+//! What is refused is refused with a number of one table, [`Refusal`]; nothing panics, and no declared number is acted on before it is
+//! checked. A refused file comes with the offset at which it is broken, in a [`LoadError`]. [`entries`] has the eleven entries themselves,
+//! over slices that the caller lends.
 
 #![deny(unsafe_code)]
 #![warn(missing_docs)]
@@ -79,8 +80,8 @@ pub const LONGEST_STREAMED: usize = 64;
 /// How many bytes a searcher has, which [`entries::open`] makes and [`entries::take`] takes pieces with.
 pub const SEARCHER: usize = 134;
 
-/// So many bytes are room enough for the file of any word.
-pub const LONGEST_FILE: usize = 5 * LONGEST_WORD + 1;
+/// So many bytes are room enough for the file of any word, in either edition.
+pub const LONGEST_FILE: usize = 5 * LONGEST_WORD + 3;
 
 /// How many entries the table of a word of m letters takes.
 #[must_use]

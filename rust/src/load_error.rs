@@ -22,9 +22,10 @@ use std::{error::Error, fmt};
 pub struct LoadError {
     /// Why.
     pub refusal: Refusal,
-    /// Where, counted from 0: the first byte of the faulty field, an arrow's two numbers being one field. For [`CutFile`](Refusal::CutFile) it is the file's
-    /// length, for [`BadNumber`](Refusal::BadNumber) the byte that is refused, for missing arrows and for [`Leftovers`](Refusal::Leftovers) the first byte
-    /// behind the arrows. The refusals 5 to 11 have one; [`ShortRoom`](Refusal::ShortRoom) and [`LongText`](Refusal::LongText) show nowhere in a file.
+    /// Where, counted from 0: the first byte of the faulty field, an arrow's two numbers being one field, and so the two bytes of the
+    /// check. For [`CutFile`](Refusal::CutFile) it is the file's length, for [`BadNumber`](Refusal::BadNumber) the byte that is refused,
+    /// for missing arrows the first byte behind those that are there, for [`Leftovers`](Refusal::Leftovers) the first byte too many. The
+    /// refusals 5 to 11 and 13 have one; [`ShortRoom`](Refusal::ShortRoom) and [`LongText`](Refusal::LongText) show nowhere in a file.
     pub offset: Option<usize>,
 }
 

@@ -26,6 +26,9 @@ pub struct Mark {
     engine: Engine,
 }
 
+/// An entry that saves a word, in the edition that is its own.
+type SaveEntry = fn(&[u8], &mut [u16], &mut [u8]) -> Result<usize, Refusal>;
+
 impl Mark {
     /// The mark of a word.
     ///
@@ -47,8 +50,8 @@ impl Mark {
         Ok(Mark::of(word.into()))
     }
 
-    /// The mark of a saved file. Searching with a file looks for the mirror of the file's word, so that the file holds the oracle that the search walks. Any
-    /// bytes may be handed over.
+    /// The mark of a saved file, of either edition. Searching with a file looks for the mirror of the file's word, so that the file holds
+    /// the oracle that the search walks. Any bytes may be handed over.
     ///
     /// ```
     /// use marks::{LoadError, Mark, Refusal};
@@ -64,7 +67,7 @@ impl Mark {
     ///
     /// # Errors
     ///
-    /// Where the bytes are no mark's file: the refusal, 5 to 11, says why, and the offset where that shows.
+    /// Where the bytes are no mark's file: the refusal, 5 to 11 or 13, says why, and the offset where that shows.
     pub fn from_file(file: impl AsRef<[u8]>) -> Result<Mark, LoadError> {
         let (mut word, mut tables) = (vec![0; LONGEST_WORD], vec![0; table_room(LONGEST_WORD)]);
         let m = entries::load(file.as_ref(), &mut word, &mut tables)?;
@@ -100,8 +103,11 @@ impl Mark {
         self.engine
     }
 
-    /// The file from which [`from_file`](Mark::from_file) makes the mark of this word again. It is the only file that does; the engine is not in it. A mark
-    /// of one letter has none, as whoever searched with it would drown in finds.
+    /// The file from which [`from_file`](Mark::from_file) makes the mark of this word again, in edition 1. It is the only file of this
+    /// edition that does; the engine is not in it. A mark of one letter has none, as whoever searched with it would drown in finds.
+    ///
+    /// It stays edition 1, because whoever calls this may hand the file to a service that has no library with edition 2 yet, and that would
+    /// refuse edition 2 with 7. Where all readers know it, [`to_checked_file`](Mark::to_checked_file) is the better one.
     ///
     /// ```
     /// use marks::{Mark, Refusal};
@@ -118,9 +124,39 @@ impl Mark {
     ///
     /// [`Refusal::ShortWord`], where the mark has one letter. There is no other here.
     pub fn to_file(&self) -> Result<Vec<u8>, Refusal> {
+        self.file_by(entries::save)
+    }
+
+    /// The same as [`to_file`](Mark::to_file) in edition 2, which ends with a check of all bytes before it, so that bits which were lost on
+    /// the way are noticed. It has two bytes more, and only a library that knows edition 2 takes it.
+    ///
+    /// ```
+    /// use marks::{Mark, Refusal};
+    ///
+    /// let mark = Mark::new("ab")?;
+    /// let mut file = mark.to_checked_file()?;
+    /// assert_eq!(file, [0x02, 0x02, 0x62, 0x61, 0x01, 0x00, 0x00, 0x95, 0xD6]);
+    /// assert_eq!(Mark::from_file(&file)?, mark);
+    ///
+    /// // one bit of a letter is lost, so that all before the check is as in another word's file
+    /// file[2] ^= 1;
+    /// let error = Mark::from_file(&file).unwrap_err();
+    /// assert_eq!((error.refusal, error.offset), (Refusal::BadCheck, Some(7)));
+    /// # Ok::<(), Refusal>(())
+    /// ```
+    ///
+    /// # Errors
+    ///
+    /// [`Refusal::ShortWord`], where the mark has one letter. There is no other here.
+    pub fn to_checked_file(&self) -> Result<Vec<u8>, Refusal> {
+        self.file_by(entries::save_checked)
+    }
+
+    /// The file of the mark's mirror.
+    fn file_by(&self, save: SaveEntry) -> Result<Vec<u8>, Refusal> {
         let mirror: Vec<u8> = self.word.iter().rev().copied().collect();
         let (mut tables, mut out) = (vec![0; table_room(mirror.len())], vec![0; LONGEST_FILE]);
-        let length = entries::save(&mirror, &mut tables, &mut out)?;
+        let length = save(&mirror, &mut tables, &mut out)?;
         out.truncate(length);
         Ok(out)
     }

@@ -6,7 +6,7 @@ use std::{error::Error, fmt};
 macro_rules! refusals {
     ($($name:ident = $number:literal, $text:literal;)*) => {
         /// Why an entry refused. The value of each case is its number in the table; a later edition of the library may have more of them. Those of a file, 5 to
-        /// 11, come with an offset in it, in a [`LoadError`](crate::LoadError).
+        /// 11 and 13, come with an offset in it, in a [`LoadError`](crate::LoadError).
         ///
         /// ```
         /// use marks::{Mark, Refusal};
@@ -44,14 +44,15 @@ refusals! {
     LongWord = 2, "the word is longer than 4,096 bytes, or for a stream than 64";
     ShortRoom = 3, "too little room lent: m letters need 6(m+1) table entries, a failure oracle 10(m+1), a file m bytes too, a stream 134";
     LongText = 4, "the text is longer than 16,777,216 bytes, or the stream would be with this piece";
-    CutFile = 5, "the file ends before or inside a number, or before the last of its letters";
+    CutFile = 5, "the file ends before or inside a number, or before the last of its letters or of its check";
     BadNumber = 6, "a number in the file is misspelled: the last of its several groups is zero, or its fifth byte is above 15";
-    OtherEdition = 7, "the file's edition is not 1";
+    OtherEdition = 7, "the file's edition is neither 1 nor 2";
     BadLength = 8, "the file declares fewer than 2 letters, or more than 4,096";
     BadCount = 9, "the file declares more arrows than its letters less 1";
     WrongArrow = 10, "an arrow in the file is not its word's own at that place, or arrows are missing";
-    Leftovers = 11, "bytes follow the file's last arrow";
+    Leftovers = 11, "bytes follow the file's last arrow, or in edition 2 its check";
     ShortOutput = 12, "the room lent for the file is below its size";
+    BadCheck = 13, "the file's check is not that of the bytes before it";
     Unmade = 16, "opening and taking bytes could never have made the searcher";
     ShortWord = 17, "the word to be saved has one letter";
 }
@@ -66,7 +67,7 @@ impl Refusal {
 
     /// Whether it shows at a place in a file, which the entry then writes.
     pub(crate) const fn has_offset(self) -> bool {
-        matches!(self.number(), 5..=11)
+        matches!(self.number(), 5..=11 | 13)
     }
 
     /// The refusal that has a number.
@@ -91,7 +92,7 @@ mod tests {
     #[test]
     fn each_number_is_that_of_one_refusal() {
         let numbers: Vec<u32> = Refusal::TABLE.iter().map(|refusal| refusal.number()).collect();
-        assert_eq!(numbers, [1, 2, 3, 4, 5, 6, 7, 8, 9, 10, 11, 12, 16, 17]);
+        assert_eq!(numbers, [1, 2, 3, 4, 5, 6, 7, 8, 9, 10, 11, 12, 13, 16, 17]);
         assert!(numbers.iter().all(|&number| Refusal::of(number).number() == number));
     }
 

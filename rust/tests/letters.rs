@@ -1,15 +1,20 @@
 //! How many letters a search reads, which its steps decide: after a find the window moves by m less the word's longest border, the longest word short of it
 //! that it both begins and ends with.
-use marks::entries::{save, search, search_file, Tally};
-use marks::{table_room, LONGEST_FILE, LONGEST_WORD};
+use marks::entries::{save, save_checked, search, search_file, Tally};
+use marks::{table_room, Refusal, LONGEST_FILE, LONGEST_WORD};
 
-/// What a search for the word says, once a search with the file of its mirror has said the same.
+/// Saves in some edition.
+type Save = fn(&[u8], &mut [u16], &mut [u8]) -> Result<usize, Refusal>;
+
+/// What a search for the word says, once a search with the file of its mirror, in each edition, has said the same.
 fn both_searches(word: &[u8], text: &[u8]) -> Tally {
     let (mut tables, mut room, mut file) = (vec![0; table_room(word.len())], vec![0; word.len()], vec![0; LONGEST_FILE]);
     let tally = search(word, text, &mut tables, &mut []).unwrap();
     let mirror: Vec<u8> = word.iter().rev().copied().collect();
-    let length = save(&mirror, &mut tables, &mut file).unwrap() as usize;
-    assert_eq!(search_file(&file[..length], text, &mut room, &mut tables, &mut []), Ok(tally));
+    for save in [save as Save, save_checked] {
+        let length = save(&mirror, &mut tables, &mut file).unwrap();
+        assert_eq!(search_file(&file[..length], text, &mut room, &mut tables, &mut []), Ok(tally));
+    }
     tally
 }
 

@@ -65,11 +65,13 @@ fn a_file_gives_the_mark_back() {
     for m in [LEAST_SAVED, 3, 7, 64, 255, 256, LONGEST_WORD - 1, LONGEST_WORD] {
         for letters in [1u64, 2, 4, 256] {
             let word: Vec<u8> = (0..m).map(|_| (random(&mut seed) >> 20).wrapping_rem(letters) as u8).collect();
-            let file = Mark::new(&word).unwrap().to_file().unwrap();
-            assert_eq!(Mark::from_file(&file).unwrap().word(), word);
-            let (cut, longer) = (Mark::from_file(&file[..file.len() - 1]), Mark::from_file([&file[..], &[0]].concat()));
-            assert_eq!(cut.unwrap_err(), LoadError { refusal: Refusal::CutFile, offset: Some(file.len() - 1) });
-            assert_eq!(longer.unwrap_err(), LoadError { refusal: Refusal::Leftovers, offset: Some(file.len()) });
+            let mark = Mark::new(&word).unwrap();
+            for file in [mark.to_file().unwrap(), mark.to_checked_file().unwrap()] {
+                assert_eq!(Mark::from_file(&file).unwrap().word(), word);
+                let (cut, longer) = (Mark::from_file(&file[..file.len() - 1]), Mark::from_file([&file[..], &[0]].concat()));
+                assert_eq!(cut.unwrap_err(), LoadError { refusal: Refusal::CutFile, offset: Some(file.len() - 1) });
+                assert_eq!(longer.unwrap_err(), LoadError { refusal: Refusal::Leftovers, offset: Some(file.len()) });
+            }
         }
     }
 }

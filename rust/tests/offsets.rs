@@ -6,6 +6,9 @@ use std::error::Error;
 /// The file of `abbbaab`, whose arrows begin at 10.
 const GOOD: [u8; 18] = *b"\x01\x07abbbaab\x04\0\0\x01\x03\x01\x01\x01\0";
 
+/// The same word's file of edition 2, whose check is at 18.
+const CHECKED: [u8; 20] = *b"\x02\x07abbbaab\x04\0\0\x01\x03\x01\x01\x01\0\xfe\x2f";
+
 /// The error of a file, the same in each of the three ways to hand one over.
 fn error_of(file: &[u8]) -> LoadError {
     let (mut room, mut tables, mut finds) = (vec![0; LONGEST_WORD], vec![0; table_room(LONGEST_WORD)], [0; 2]);
@@ -28,14 +31,16 @@ fn changed(file: &[u8], at: usize, byte: u8) -> Vec<u8> {
 
 #[test]
 fn a_field_at_fault_shows_at_its_first_byte() {
-    is_refused(b"\x02", 7, 0);
+    is_refused(b"\x03", 7, 0);
     is_refused(b"\x00\x01a\0", 7, 0);
     is_refused(b"\x81\x01\x01a\0", 7, 0);
     // no letters, one too many, and four billion
     is_refused(b"\x01\x00", 8, 1);
     is_refused(b"\x01\x81\x20", 8, 1);
     is_refused(b"\x01\xff\xff\xff\xff\x0f", 8, 1);
+    is_refused(b"\x02\xff\xff\xff\xff\x0f", 8, 1);
     is_refused(b"\x01\x03aaa\x03", 9, 5);
+    is_refused(b"\x02\x03aaa\x03", 9, 5);
     is_refused(b"\x01\x03aaa\xff\xff\xff\xff\x0f", 9, 5);
 }
 
@@ -50,6 +55,15 @@ fn an_arrow_shows_at_its_first_byte_whichever_number_is_wrong() {
 }
 
 #[test]
+fn a_check_shows_at_its_first_byte_whichever_of_the_two_is_wrong() {
+    is_refused(&changed(&CHECKED, 18, 0), 13, 18);
+    is_refused(&changed(&CHECKED, 19, 0), 13, 18);
+    is_refused(&[&changed(&CHECKED, 19, 0)[..], b"\0"].concat(), 13, 18);
+    // an arrow comes before it
+    is_refused(&changed(&changed(&CHECKED, 19, 0), 17, 1), 10, 16);
+}
+
+#[test]
 fn missing_arrows_and_leftovers_show_behind_the_arrows() {
     is_refused(b"\x01\x02ab\0", 10, 5);
     // missing ones come before what follows
@@ -58,6 +72,7 @@ fn missing_arrows_and_leftovers_show_behind_the_arrows() {
     is_refused(&changed(&GOOD, 9, 3), 10, 16);
     is_refused(b"\x01\x03aaa\0\0", 11, 6);
     is_refused(&[&GOOD[..], &[0; 100]].concat(), 11, 18);
+    is_refused(&[&CHECKED[..], &[0; 100]].concat(), 11, 20);
 }
 
 #[test]
@@ -67,8 +82,10 @@ fn a_cut_file_shows_at_its_length() {
     is_refused(b"\x01\x03aaa", 5, 5);
     is_refused(b"\x01\x83\x01aaa", 5, 6);
     is_refused(b"\x01\xff\xff\xff\xff", 5, 5);
-    for length in 0..GOOD.len() {
-        is_refused(&GOOD[..length], 5, length);
+    for file in [&GOOD[..], &CHECKED] {
+        for length in 0..file.len() {
+            is_refused(&file[..length], 5, length);
+        }
     }
     // inside each of the numbers of an arrow, whose value is not asked then
     is_refused(b"\x01\x03aaa\x01\x80", 5, 7);
@@ -175,5 +192,7 @@ fn an_error_becomes_its_refusal() {
         Ok(Mark::from_file(file)?.word().len())
     }
     assert_eq!(letters(&GOOD), Ok(7));
-    assert_eq!(letters(b"\x02"), Err(Refusal::OtherEdition));
+    assert_eq!(letters(&CHECKED), Ok(7));
+    assert_eq!(letters(b"\x03"), Err(Refusal::OtherEdition));
+    assert_eq!(letters(&changed(&CHECKED, 19, 0)), Err(Refusal::BadCheck));
 }

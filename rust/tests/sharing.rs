@@ -172,9 +172,11 @@ fn the_examples_do_what_they_say() {
     let text = b"....lap-".repeat(500_000);
     let laps = Mark::new("lap-").unwrap();
     std::fs::write(at("upload"), &text).unwrap();
-    std::fs::write(at("lap.mark"), laps.to_file().unwrap()).unwrap();
     std::fs::write(at("lie.mark"), [0x01, 0xFF, 0xFF, 0xFF, 0xFF, 0x0F]).unwrap();
-    assert_eq!(example("service", &[&at("lap.mark"), &at("upload")]), format!("{}: 500000 marks, the first at 4\n", at("upload")));
+    for file in [laps.to_file(), laps.to_checked_file()] {
+        std::fs::write(at("lap.mark"), file.unwrap()).unwrap();
+        assert_eq!(example("service", &[&at("lap.mark"), &at("upload")]), format!("{}: 500000 marks, the first at 4\n", at("upload")));
+    }
     let refused = "the file declares fewer than 2 letters, or more than 4,096 (8), at offset 1";
     assert_eq!(example("service", &[&at("lie.mark"), &at("upload")]), format!("service: {}: {refused}\n", at("lie.mark")));
     let places: Vec<String> = laps.find_iter(&text).map(|at| at.to_string()).collect();

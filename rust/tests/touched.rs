@@ -114,13 +114,15 @@ fn load_with_forbidden_rest(bytes: &[u8]) -> (u32, u64) {
 
 #[test]
 fn a_declared_length_is_not_acted_on_before_it_is_checked() {
-    assert_eq!(load_with_forbidden_rest(&[0x01, 0xFF, 0xFF, 0xFF, 0xFF, 0x0F]), (8, 1));
     let longer = LONGEST_WORD + 1;
-    assert_eq!(load_with_forbidden_rest(&[0x01, 0x80 | (longer % 128) as u8, (longer / 128) as u8]), (8, 1));
-    assert_eq!(load_with_forbidden_rest(&[0x01, 0x00]), (8, 1));
-    assert_eq!(load_with_forbidden_rest(&[0x02]), (7, 0));
-    assert_eq!(load_with_forbidden_rest(&[0x01, 0x83, 0x00]), (6, 2));
-    assert_eq!(load_with_forbidden_rest(&[0x01, 0xFF, 0xFF, 0xFF, 0xFF, 0x10]), (6, 5));
+    for edition in [0x01, 0x02] {
+        assert_eq!(load_with_forbidden_rest(&[edition, 0xFF, 0xFF, 0xFF, 0xFF, 0x0F]), (8, 1));
+        assert_eq!(load_with_forbidden_rest(&[edition, 0x80 | (longer % 128) as u8, (longer / 128) as u8]), (8, 1));
+        assert_eq!(load_with_forbidden_rest(&[edition, 0x00]), (8, 1));
+        assert_eq!(load_with_forbidden_rest(&[edition, 0x83, 0x00]), (6, 2));
+        assert_eq!(load_with_forbidden_rest(&[edition, 0xFF, 0xFF, 0xFF, 0xFF, 0x10]), (6, 5));
+    }
+    assert_eq!(load_with_forbidden_rest(&[0x03]), (7, 0));
 }
 
 /// What loading says, and what it leaves of an offset that was 99.
@@ -161,9 +163,19 @@ fn search_leaves(file: &[u8], text: &[u8], room: &mut [u8]) -> (u32, u64) {
 #[test]
 fn an_offset_is_written_by_the_refusals_that_have_one_and_by_nothing_else() {
     let (good, longer, text) = (b"\x01\x03aaa\0", b"\x01\x03aaa\0\0", vec![b'a'; LONGEST_TEXT + 1]);
+    let (checked, other_check) = (b"\x02\x03aaa\0\x22\x50", b"\x02\x03aaa\0\x23\x50");
     let mut room = [0; 3];
-    for (file, letters, left) in [(&good[..], 3, (0, 99)), (good, 2, (3, 99)), (longer, 2, (3, 99)), (longer, 3, (11, 6)), (b"", 0, (5, 0))]
-    {
+    let cases = [
+        (&good[..], 3, (0, 99)),
+        (good, 2, (3, 99)),
+        (longer, 2, (3, 99)),
+        (longer, 3, (11, 6)),
+        (b"", 0, (5, 0)),
+        (checked, 3, (0, 99)),
+        (other_check, 2, (3, 99)),
+        (other_check, 3, (13, 6)),
+    ];
+    for (file, letters, left) in cases {
         assert_eq!(load_leaves(file, &mut room[..letters]), left);
         assert_eq!(search_leaves(file, b"aaaa", &mut room[..letters]), left);
         assert_eq!(search_leaves(file, &text, &mut room[..letters]), (4, 99));

@@ -14,7 +14,8 @@
 --   sizeAnswer r     what the code's answer r means: the letters of a word, the bytes of a file, or a number of finds
 --   tallyAnswer r    the same of a search: finds and letters read
 --
--- 01, 'When the library says no'; 02, 'Uploads in pieces', 'Where in the file is it broken?' and 'One-letter marks'.
+-- 01, 'When the library says no'; 02, 'Uploads in pieces', 'Where in the file is it broken?', 'One-letter marks' and 'Edition 2 with a
+-- check'.
 use mathlib.Core.Path.{_≡_}
 use mathlib.Core.Bool.{Bool, true, false, _||_}
 use mathlib.Core.List.{List, [], _∷_}
@@ -44,7 +45,7 @@ shortRoom = 3
 abbrev pub longText : ℕ
 longText = 4
 
--- 5 to 11 are what a file shows, where it is read
+-- 5 to 11 and 13 are what a file shows, where it is read
 abbrev pub shortOutput : ℕ
 shortOutput = 12
 
@@ -67,14 +68,15 @@ refusals =
     ∷ line longWord "the word is longer than 4,096 bytes, or for a stream than 64"
     ∷ line shortRoom "too little room lent: m letters need 6(m+1) table entries, a failure oracle 10(m+1), a file m bytes too, a stream 134"
     ∷ line longText "the text is longer than 16,777,216 bytes, or the stream would be with this piece"
-    ∷ line 5 "the file ends before or inside a number, or before the last of its letters"
+    ∷ line 5 "the file ends before or inside a number, or before the last of its letters or of its check"
     ∷ line 6 "a number in the file is misspelled: the last of its several groups is zero, or its fifth byte is above 15"
-    ∷ line 7 "the file's edition is not 1"
+    ∷ line 7 "the file's edition is neither 1 nor 2"
     ∷ line 8 "the file declares fewer than 2 letters, or more than 4,096"
     ∷ line 9 "the file declares more arrows than its letters less 1"
     ∷ line 10 "an arrow in the file is not its word's own at that place, or arrows are missing"
-    ∷ line 11 "bytes follow the file's last arrow"
+    ∷ line 11 "bytes follow the file's last arrow, or in edition 2 its check"
     ∷ line shortOutput "the room lent for the file is below its size"
+    ∷ line 13 "the file's check is not that of the bytes before it"
     ∷ line unmade "opening and taking bytes could never have made the searcher"
     ∷ line shortWord "the word to be saved has one letter"
     ∷ []

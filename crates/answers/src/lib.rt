@@ -3,7 +3,7 @@
 ghost use mathlib.Core.Path.{_≡_};
 ghost use Rattle.answers.specs.Answers.{numberOf};
 
-// Numbers of the table. What a file shows, 5 to 11, is numbered where the file is read.
+// Numbers of the table. What a file shows, 5 to 11 and 13, is numbered where the file is read.
 pub const EMPTY_WORD: u8 = 1;
 
 pub const LONG_WORD: u8 = 2;

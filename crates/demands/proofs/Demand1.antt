@@ -9,9 +9,11 @@ use lib.ListN.{length, drop, replicate}
 use Rattle.words.specs.Words.{Word, Place, mirror}
 use Rattle.words.specs.Limits.{longestWord, longestText, leastSaved, greatestFile}
 use Rattle.table.specs.Table.{room}
-use Rattle.saved.specs.File.{edition, spell}
+use Rattle.saved.specs.File.{spell}
 use Rattle.loaded.specs.Load.{letters}
-use Rattle.loaded.specs.Cases.{Reads, BadLength, FrontCase, letters-missing}
+use Rattle.loaded.specs.Cases.{Reads, BadLength}
+use Rattle.editions.specs.Editions.{Edition, plain, spellIn}
+use Rattle.editions.specs.EitherCases.{EditionRead, FrontEither}
 use Rattle.answers.specs.declared.SizeAnswer.{SizeAnswer}
 use Rattle.answers.specs.declared.TallyAnswer.{TallyAnswer}
 use Rattle.answers.specs.Answers.{Answer, done, refused, refusedAt, Succeeds, refusesOnly, refusesWith, refusals}
@@ -40,7 +42,7 @@ use Rattle.mark_files.proofs.SearchFileSays
 
 -- Of the code, crates/marks/src/lib.rt and crates/mark_files/src/lib.rt: an entry has no `requires`, and its one `ensures` says that its
 -- answer and every lent buffer as it is left are `buildSays`, `saveSays`, `searchSays`, `loadSays` or `searchFileSays` of what is handed
--- over. These are functions on all lists of numbers.
+-- over. These are functions on all lists of numbers. Files are of either edition; saving in edition 2 is `EditionTwo`'s.
 
 -- ── 'Each entry comes to an end with an answer, or refuses with a number from the written table,' ──
 
@@ -48,26 +50,26 @@ use Rattle.mark_files.proofs.SearchFileSays
 -- number, alone or with the place of the file where it shows.
 
 -- the numbers of the written table
-pub table-numbers : map (λ r. r .number) refusals ≡ 1 ∷ 2 ∷ 3 ∷ 4 ∷ 5 ∷ 6 ∷ 7 ∷ 8 ∷ 9 ∷ 10 ∷ 11 ∷ 12 ∷ 16 ∷ 17 ∷ []
+pub table-numbers : map (λ r. r .number) refusals ≡ 1 ∷ 2 ∷ 3 ∷ 4 ∷ 5 ∷ 6 ∷ 7 ∷ 8 ∷ 9 ∷ 10 ∷ 11 ∷ 12 ∷ 13 ∷ 16 ∷ 17 ∷ []
 unfolding refusals
 table-numbers = refl
 
 -- for every word, text and file, and every word room R, tables T, output O and list F: each entry is done, or refuses with one of its
--- numbers; and 'a refusal returns its number only', as 01 has it, but for 5 to 11, which since 02 say where in the file they show
+-- numbers; and 'a refusal returns its number only', as 01 has it, but for 5 to 11 and 13, which since 02 say where in the file they show
 module _ (word text : Word) (file R T O : List ℕ) (F : List Place) where
   pub build-numbers : refusesOnly (1 ∷ 2 ∷ 3 ∷ []) (buildSays word T .answer) ≡ true
   build-numbers = WordNumbers.build-numbers word T
 
   pub save-numbers : refusesOnly (1 ∷ 2 ∷ 17 ∷ 3 ∷ 12 ∷ []) (saveSays word T O .answer) ≡ true
-  save-numbers = FileNumbers.save-numbers word T O
+  save-numbers = FileNumbers.save-numbers plain word T O
 
   pub search-numbers : refusesOnly (1 ∷ 2 ∷ 4 ∷ 3 ∷ []) (searchSays word text T F .answer) ≡ true
   search-numbers = WordNumbers.search-numbers word text T F
 
-  pub load-numbers : refusesWith (3 ∷ []) (5 ∷ 6 ∷ 7 ∷ 8 ∷ 9 ∷ 10 ∷ 11 ∷ []) (loadSays file R T .answer) ≡ true
+  pub load-numbers : refusesWith (3 ∷ []) (5 ∷ 6 ∷ 7 ∷ 8 ∷ 9 ∷ 10 ∷ 11 ∷ 13 ∷ []) (loadSays file R T .answer) ≡ true
   load-numbers = FileNumbers.load-numbers file R T
 
-  pub search-file-numbers : refusesWith (4 ∷ 3 ∷ []) (5 ∷ 6 ∷ 7 ∷ 8 ∷ 9 ∷ 10 ∷ 11 ∷ []) (searchFileSays file text R T F .answer) ≡ true
+  pub search-file-numbers : refusesWith (4 ∷ 3 ∷ []) (5 ∷ 6 ∷ 7 ∷ 8 ∷ 9 ∷ 10 ∷ 11 ∷ 13 ∷ []) (searchFileSays file text R T F .answer) ≡ true
   search-file-numbers = FileNumbers.search-file-numbers file text R T F
 
   -- ── 'exactly when the table says and at no other time.' ──────────────────
@@ -78,8 +80,8 @@ module _ (word text : Word) (file R T O : List ℕ) (F : List Place) where
   pub build-exactly : (o : Build.Outcome) → (buildSays word T ≡ o) ↔ BuildCase word T o
   build-exactly = BuildSays.build-is word T
 
-  pub save-exactly : (o : Save.Outcome) → (saveSays word T O ≡ o) ↔ SaveCase word T O o
-  save-exactly = SaveSays.save-is word T O
+  pub save-exactly : (o : Save.Outcome) → (saveSays word T O ≡ o) ↔ SaveCase plain word T O o
+  save-exactly = SaveSays.save-is plain word T O
 
   pub search-exactly : (o : Search.Outcome) → (searchSays word text T F ≡ o) ↔ SearchCase word text T F o
   search-exactly = SearchSays.search-is word text T F
@@ -106,7 +108,7 @@ module _ (word text : Word) (file R T O : List ℕ) (F : List Place) where
     pub save-refusal : saveSays word T O .answer ≡ refused n
         → (saveSays word T O .output ≡ O)
         × ((saveSays word T O .tables ≡ T) ⊎ (saveSays word T O .tables ≡ replicate (room (length word)) 0 ++ drop (room (length word)) T))
-    save-refusal = SaveSays.refusal-leaves word T O
+    save-refusal = SaveSays.refusal-leaves plain word T O
 
     pub search-refusal : searchSays word text T F .answer ≡ refused n
         → (searchSays word text T F .tables ≡ T) × (searchSays word text T F .finds ≡ F)
@@ -128,7 +130,7 @@ module _ (word text : Word) (file R T O : List ℕ) (F : List Place) where
 
   pub save-fixed : (r r′ : SizeAnswer) (T₁ T₂ O₁ O₂ : List ℕ) → savedAs r T₁ O₁ ≡ saveSays word T O → savedAs r′ T₂ O₂ ≡ saveSays word T O
       → (r ≡ r′) × (T₁ ≡ T₂) × (O₁ ≡ O₂)
-  save-fixed = SaveSays.save-one word T O
+  save-fixed = SaveSays.save-one plain word T O
 
   pub search-fixed : (r r′ : TallyAnswer) (T₁ T₂ : List ℕ) (F₁ F₂ : List Place) → searched r T₁ F₁ ≡ searchSays word text T F
       → searched r′ T₂ F₂ ≡ searchSays word text T F → (r ≡ r′) × (T₁ ≡ T₂) × (F₁ ≡ F₂)
@@ -150,14 +152,14 @@ module _ (word text : Word) (file R T O : List ℕ) (F : List Place) where
   -- load_room_unchecked of crates/mark_files show.
 
   -- Shut out: a loader that clears before 8. A declared length that no saved word has is refused with every lent buffer as it was
-  pub bad-length-touches-nothing : {i m j : ℕ} → Reads file 0 edition i → Reads file i m j → BadLength m
+  pub bad-length-touches-nothing : {i m j : ℕ} → EditionRead file i → Reads file i m j → BadLength m
       → loadSays file R T ≡ Load.outcome (refusedAt 8 i) R T
   bad-length-touches-nothing = LoadTheorems.bad-length-one R T file
 
   -- two files that declare such a length
   module _ (file′ : List ℕ) {i m j i′ m′ j′ : ℕ}
-      (edition-read : Reads file 0 edition i) (length-read : Reads file i m j) (bad : BadLength m)
-      (edition-read′ : Reads file′ 0 edition i′) (length-read′ : Reads file′ i′ m′ j′) (bad′ : BadLength m′) where
+      (edition-read : EditionRead file i) (length-read : Reads file i m j) (bad : BadLength m)
+      (edition-read′ : EditionRead file′ i′) (length-read′ : Reads file′ i′ m′ j′) (bad′ : BadLength m′) where
     pub bad-length-loads : loadSays file R T ≡ loadSays file′ R T
     bad-length-loads = LoadTheorems.any-two-bad-lengths R T file file′ edition-read length-read bad edition-read′ length-read′ bad′
 
@@ -166,8 +168,8 @@ module _ (word text : Word) (file R T O : List ℕ) (F : List Place) where
 
   -- two files that have m letters, and declare more than m - 1 arrows
   module _ (file′ : List ℕ) {m i n j i′ n′ j′ : ℕ}
-      (there : FrontCase file (letters m i)) (count-read : Reads file (i + m) n j) (bad : m - 1 < n)
-      (there′ : FrontCase file′ (letters m i′)) (count-read′ : Reads file′ (i′ + m) n′ j′) (bad′ : m - 1 < n′) where
+      (there : FrontEither file 0 (letters m i)) (count-read : Reads file (i + m) n j) (bad : m - 1 < n)
+      (there′ : FrontEither file′ 0 (letters m i′)) (count-read′ : Reads file′ (i′ + m) n′ j′) (bad′ : m - 1 < n′) where
     pub bad-count-loads : loadSays file R T ≡ loadSays file′ R T
     bad-count-loads = LoadTheorems.any-two-bad-counts R T file file′ there count-read bad there′ count-read′ bad′
 
@@ -177,9 +179,9 @@ module _ (word text : Word) (file R T O : List ℕ) (F : List Place) where
   -- ── Shut out: refusals in another order ──────────────────────────────────
 
   -- letters that are missing are refused with 5, however short the rooms are: 3 comes behind them
-  pub letters-before-rooms : {i m j : ℕ} → Reads file 0 edition i → Reads file i m j → leastSaved ≤ m → m ≤ longestWord
+  pub letters-before-rooms : {i m j : ℕ} → EditionRead file i → Reads file i m j → leastSaved ≤ m → m ≤ longestWord
       → length file < j + m → loadSays file R T ≡ Load.outcome (refusedAt 5 (length file)) R T
-  letters-before-rooms e r least most cut = load-exactly _ .1 (LoadCase.head-refused (letters-missing e r least most cut))
+  letters-before-rooms = LoadTheorems.letters-missing-one R T file
 
   -- ── Shut out: an entry that refuses everything ───────────────────────────
 
@@ -192,16 +194,17 @@ module _ (word text : Word) (file R T O : List ℕ) (F : List Place) where
     search-answers some short = ap (λ o. o .answer) (SearchSays.says-done word text T F some most short enough)
 
     pub save-answers : leastSaved ≤ length word → length (spell word) ≤ length O → saveSays word T O .answer ≡ done (length (spell word))
-    save-answers least out = ap (λ o. o .answer) (SaveSays.says-done word T O least most enough out)
+    save-answers least out = ap (λ o. o .answer) (SaveSays.says-done plain word T O least most enough out)
 
-    pub load-answers : leastSaved ≤ length word → length word ≤ length R → loadSays (spell word) R T .answer ≡ done (length word)
-    load-answers least fits = ap (λ o. o .answer) (LoadTheorems.file-loads R T word least most fits enough)
+    pub load-answers : (e : Edition) → leastSaved ≤ length word → length word ≤ length R
+        → loadSays (spellIn e word) R T .answer ≡ done (length word)
+    load-answers e least fits = ap (λ o. o .answer) (LoadTheorems.file-loads R T e word least most fits enough)
 
-    pub search-file-answers : leastSaved ≤ length word → length text ≤ longestText → length word ≤ length R
-        → searchFileSays (spell word) text R T F .answer ≡ done (found (mirror word) text)
-    search-file-answers least short fits =
-        ap (λ o. o .answer) (SearchFileSays.file-searched (spell word) text R T F word least most refl short fits enough)
+    pub search-file-answers : (e : Edition) → leastSaved ≤ length word → length text ≤ longestText → length word ≤ length R
+        → searchFileSays (spellIn e word) text R T F .answer ≡ done (found (mirror word) text)
+    search-file-answers e least short fits =
+        ap (λ o. o .answer) (SearchFileSays.file-searched (spellIn e word) text R T F e word least most refl short fits enough)
 
   -- and the output that 01 promises to be enough always is
   pub save-never-short : greatestFile ≤ length O → saveSays word T O .answer ≡ refused 12 → ⊥
-  save-never-short = SaveSays.enough-output word T O
+  save-never-short = SaveSays.enough-output plain word T O

@@ -23,7 +23,7 @@ use Rattle.table.proofs.Freedom
 use Rattle.finds.specs.declared.Tally.{Tally}
 use Rattle.finds.specs.Finds.{filled}
 use Rattle.finds.proofs.Theorems as Listed
-use Rattle.saved.specs.File.{spell}
+use Rattle.editions.specs.Editions.{Edition, spellIn}
 use Rattle.answers.specs.Answers.{done}
 use Rattle.marks.specs.Build.{buildSays}
 use Rattle.marks.specs.Search.{found, searchSays}
@@ -104,11 +104,11 @@ module _ (word text : Word) (T : List ℕ) (least : 1 ≤ length word) (most : l
     pub letters-at-most : m ≤ length text → backward word text .letters ≤ m * (length text - m + 1)
     letters-at-most = SearchSays.letters-most word text T F least most short enough
 
-    -- all this of a search with a word's file too: it is the search for the word's mirror
-    pub file-search : (R : List ℕ) → leastSaved ≤ m → m ≤ length R → searchFileSays (spell word) text R T F
+    -- all this of a search with a word's file of either edition too: it is the search for the word's mirror
+    pub file-search : (e : Edition) (R : List ℕ) → leastSaved ≤ m → m ≤ length R → searchFileSays (spellIn e word) text R T F
         ≡ outcome (done (found (mirror word) text)) (word ++ drop m R) (tableOf word ++ drop (room m) T)
         (filled (occurrences (mirror word) text) F)
-    file-search R saved fits = SearchFileSays.file-searched (spell word) text R T F word saved most refl short fits enough
+    file-search e R saved fits = SearchFileSays.file-searched (spellIn e word) text R T F e word saved most refl short fits enough
 
     -- ── Shut out: a search that lists nothing ──────────────────────────────
 

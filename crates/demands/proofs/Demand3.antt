@@ -10,7 +10,7 @@ use native.Mathlib.Omega.{arith}
 use lib.ListN.{length, take, drop}
 use lib.Seq.{take-at}
 use Rattle.words.specs.Words.{Letter, Word, Place, Factor}
-use Rattle.words.specs.Limits.{longestWord, longestText, leastSaved, greatestFile}
+use Rattle.words.specs.Limits.{longestWord, longestText, leastSaved}
 use Rattle.words.proofs.Limits.{saved-some}
 use Rattle.oracle.specs.Arrows.{State, Arrow, arrow, Delta, walk, OneEach}
 use Rattle.oracle.specs.SuffixRule.{suffixRule, oracle}
@@ -19,13 +19,14 @@ use Rattle.oracle.proofs.Theorems
 use Rattle.table.specs.Table.{room, tableOf, readArrow}
 use Rattle.number.specs.Number.{Bytes}
 use Rattle.finds.specs.declared.Tally.{Tally}
-use Rattle.saved.specs.File.{spell, Saved}
-use Rattle.saved.proofs.Theorems.{size-least, size-most}
-use Rattle.loaded.proofs.Theorems.{spell-injective}
+use Rattle.saved.proofs.Theorems.{size-least}
+use Rattle.editions.specs.Editions.{Edition, plain, checked, spellIn, SavedIn, mostBytes}
+use Rattle.editions.specs.Either.{editionAt}
+use Rattle.editions.proofs.Theorems.{plain-saved, edition-told, word-told, most-bytes, least-bytes}
 use Rattle.answers.specs.Answers.{done, refusedAt}
 use Rattle.answers.proofs.Answers.{done-not-refused}
 use Rattle.mark_files.specs.Save
-use Rattle.mark_files.specs.Save.{saveSays}
+use Rattle.mark_files.specs.Save.{saveIn}
 use Rattle.mark_files.specs.Load.{outcome, loadSays}
 use Rattle.mark_files.specs.SearchFile.{searchFileSays}
 use Rattle.mark_files.specs.Cases.{SaveCase}
@@ -37,76 +38,87 @@ use Rattle.mark_files.proofs.LoadTheorems
 -- ── 'Given enough room, a saved file is accepted exactly when it is the one spelling of some word of 1 [2] to 1,024 [4,096] bytes with
 --    that word's oracle,' ──
 
--- s is bytes, as whatever a caller hands over is; `spell` is the spelling, and `Saved s` says that s is that of some word within the limits
+-- s is bytes, as whatever a caller hands over is; `spellIn e` is the spelling in the edition e, of which 02 has two, and `SavedIn e s` says
+-- that s is that of some word within the limits
 pub accepted-exactly : (s R T : List ℕ) → Bytes s
-    → ((m : ℕ) × (loadSays s R T .answer ≡ done m)) ↔ ((f : Saved s) × (length (f .word) ≤ length R) × (room (length (f .word)) ≤ length T))
+    → ((m : ℕ) × (loadSays s R T .answer ≡ done m))
+    ↔ ((e : Edition) × (f : SavedIn e s) × (length (f .word) ≤ length R) × (room (length (f .word)) ≤ length T))
 accepted-exactly s R T bytes = LoadTheorems.accepted-exactly R T s bytes
 
 -- a search with a file accepts the same files
 pub searched-exactly : (s : List ℕ) (text : Word) (R T : List ℕ) (F : List Place) → Bytes s → length text ≤ longestText
     → ((t : Tally) × (searchFileSays s text R T F .answer ≡ done t))
-    ↔ ((f : Saved s) × (length (f .word) ≤ length R) × (room (length (f .word)) ≤ length T))
+    ↔ ((e : Edition) × (f : SavedIn e s) × (length (f .word) ≤ length R) × (room (length (f .word)) ≤ length T))
 searched-exactly s text R T F = SearchFileSays.accepted-exactly s text R T F
 
--- the least file has leastSaved + 3 bytes, and greatestFile bytes are room enough for any
-pub file-sizes : (s : List ℕ) → Saved s → (leastSaved + 3 ≤ length s) × (length s ≤ greatestFile)
-file-sizes s f =
+-- the least file has leastSaved + 3 bytes, and mostBytes are room enough for any
+pub file-sizes : (e : Edition) (s : List ℕ) → SavedIn e s → (leastSaved + 3 ≤ length s) × (length s ≤ mostBytes e)
+file-sizes e s f =
     let some : 1 ≤ length (f .word) = omega (arith, saved-some, f .savable .least) in
-    (size-least s f, rw (f .file) (size-most (f .word) some (f .savable .most)))
+    (least e f, rw (f .file) (most-bytes e (f .word) some (f .savable .most)))
+  where
+    least : (e : Edition) → SavedIn e s → leastSaved + 3 ≤ length s
+    least plain g = size-least s (plain-saved s .0 g)
+    least checked g = omega (arith, least-bytes s g)
 
--- for every word within the limits, and rooms R and T that are large enough for it
-module _ (word : Word) (R T : List ℕ) (least : leastSaved ≤ length word) (most : length word ≤ longestWord) (fits : length word ≤ length R)
-    (enough : room (length word) ≤ length T) where
+-- for every word within the limits, in either edition, and rooms R and T that are large enough for it
+module _ (e : Edition) (word : Word) (R T : List ℕ) (least : leastSaved ≤ length word) (most : length word ≤ longestWord)
+    (fits : length word ≤ length R) (enough : room (length word) ≤ length T) where
   abbrev m : ℕ
   m = length word
 
   -- what falls short of a file or goes on behind it is none
-  pub cut-file-refused : (n : ℕ) → n < length (spell word) → loadSays (take n (spell word)) R T .answer ≡ refusedAt 5 n
-  cut-file-refused = LoadTheorems.cut-refused R T word least most fits enough
+  pub cut-file-refused : (n : ℕ) → n < length (spellIn e word) → loadSays (take n (spellIn e word)) R T .answer ≡ refusedAt 5 n
+  cut-file-refused = LoadTheorems.cut-refused R T e word least most fits enough
 
-  pub longer-file-refused : (b : ℕ) (l : List ℕ) → loadSays (spell word ++ b ∷ l) R T .answer ≡ refusedAt 11 (length (spell word))
-  longer-file-refused = LoadTheorems.longer-refused-11 R T word least most fits enough
+  pub longer-file-refused : (b : ℕ) (l : List ℕ) → loadSays (spellIn e word ++ b ∷ l) R T .answer ≡ refusedAt 11 (length (spellIn e word))
+  longer-file-refused = LoadTheorems.longer-refused-11 R T e word least most fits enough
 
   -- ── 'that word and oracle are handed over,' ──────────────────────────────
 
-  pub handed-over : loadSays (spell word) R T ≡ outcome (done m) (word ++ drop m R) (tableOf word ++ drop (room m) T)
-  handed-over = LoadTheorems.file-loads R T word least most fits enough
+  pub handed-over : loadSays (spellIn e word) R T ≡ outcome (done m) (word ++ drop m R) (tableOf word ++ drop (room m) T)
+  handed-over = LoadTheorems.file-loads R T e word least most fits enough
 
-  pub oracle-handed-over : readArrow m (take (room m) (loadSays (spell word) R T .tables)) ≡ oracle word
-  oracle-handed-over = LoadTheorems.loaded-arrows R T word least most fits enough
+  pub oracle-handed-over : readArrow m (take (room m) (loadSays (spellIn e word) R T .tables)) ≡ oracle word
+  oracle-handed-over = LoadTheorems.loaded-arrows R T e word least most fits enough
 
 -- ── 'saving a word writes that file,' ──────────────────────────────────────
 
-pub saving-writes : (word : Word) (T O : List ℕ) → leastSaved ≤ length word → length word ≤ longestWord → room (length word) ≤ length T
-    → length (spell word) ≤ length O → take (length (spell word)) (saveSays word T O .output) ≡ spell word
-saving-writes word T O least most enough out = SaveSays.done-leaves word T O least most enough out .file
+pub saving-writes : (e : Edition) (word : Word) (T O : List ℕ) → leastSaved ≤ length word → length word ≤ longestWord
+    → room (length word) ≤ length T → length (spellIn e word) ≤ length O
+    → take (length (spellIn e word)) (saveIn e word T O .output) ≡ spellIn e word
+saving-writes e word T O least most enough out = SaveSays.done-leaves e word T O least most enough out .file
 
 -- Shut out: a saver that writes what no loader takes. Whatever saving writes is in the set of files
-pub saves-files-only : (word : Word) (T O : List ℕ) → Bytes word → {n : ℕ} → saveSays word T O .answer ≡ done n
-    → Saved (take n (saveSays word T O .output))
-saves-files-only word T O bytes {n} = by (SaveSays.save-is word T O _ .0 refl)
+pub saves-files-only : (e : Edition) (word : Word) (T O : List ℕ) → Bytes word → {n : ℕ} → saveIn e word T O .answer ≡ done n
+    → SavedIn e (take n (saveIn e word T O .output))
+saves-files-only e word T O bytes {n} = by (SaveSays.save-is e word T O _ .0 refl)
   where
-    by : {o : Save.Outcome} → SaveCase word T O o → o .answer ≡ done n → Saved (take n (o .output))
-    by (SaveCase.empty-word h) e = done-not-refused (sym e)
-    by (SaveCase.long-word h l) e = done-not-refused (sym e)
-    by (SaveCase.short-word h l b) e = done-not-refused (sym e)
-    by (SaveCase.short-room h l s) e = done-not-refused (sym e)
-    by (SaveCase.short-output h l s o) e = done-not-refused (sym e)
-    by (SaveCase.accepted h l s o) e =
-        let size : length (spell word) ≡ n = cc in
-        let file = take-at (spell word) (drop (length (spell word)) O) n size in
+    by : {o : Save.Outcome} → SaveCase e word T O o → o .answer ≡ done n → SavedIn e (take n (o .output))
+    by (SaveCase.empty-word h) q = done-not-refused (sym q)
+    by (SaveCase.long-word h l) q = done-not-refused (sym q)
+    by (SaveCase.short-word h l b) q = done-not-refused (sym q)
+    by (SaveCase.short-room h l s) q = done-not-refused (sym q)
+    by (SaveCase.short-output h l s o) q = done-not-refused (sym q)
+    by (SaveCase.accepted h l s o) q =
+        let size : length (spellIn e word) ≡ n = cc in
+        let file = take-at (spellIn e word) (drop (length (spellIn e word)) O) n size in
         record { word = word; savable = record { bytes = bytes; least = h; most = l }; file = file }
 
 -- ── 'and no two words share one.' ──────────────────────────────────────────
 
-pub no-two-words-share : (w w′ : Word) → leastSaved ≤ length w → length w ≤ longestWord → leastSaved ≤ length w′ → length w′ ≤ longestWord
-    → spell w ≡ spell w′ → w ≡ w′
-no-two-words-share = spell-injective
+-- whichever editions they are saved in; and no file is of both
+pub no-two-words-share : (e e′ : Edition) (w w′ : Word) → leastSaved ≤ length w → length w ≤ longestWord
+    → leastSaved ≤ length w′ → length w′ ≤ longestWord → spellIn e w ≡ spellIn e′ w′ → w ≡ w′
+no-two-words-share = word-told
+
+pub no-file-of-both : (e e′ : Edition) (w w′ : Word) → spellIn e w ≡ spellIn e′ w′ → e ≡ e′
+no-file-of-both = edition-told
 
 -- ── 'This set of files is defined without the loader.' ─────────────────────
 
--- It is `Saved` of crates/saved/specs/File.antt. The crate `saved` has never seen the loader: `loaded` and `mark_files` stand above it
--- (crates.txt).
+-- It is `SavedIn` of crates/editions/specs/Editions.antt, which says it with `spell` of crates/saved/specs/File.antt, with `check` of
+-- crates/crc/specs/Check.antt and nothing of the loader: neither `saved` nor `crc` has ever seen it (crates.txt).
 
 -- ── 'In each accepted oracle of a word of length m,' ───────────────────────
 
@@ -155,25 +167,25 @@ module _ (s R T : List ℕ) (bytes : Bytes s) {m : ℕ} (accepted : loadSays s R
   -- ── Shut out: a loader that accepts rightly and hands over another word ──
 
   -- the file is the one of the word that is left in the room
-  pub hands-over-its-word : s ≡ spell handed
+  pub hands-over-its-word : s ≡ spellIn (editionAt s 0) handed
   hands-over-its-word = H .file
 
--- for two different words within the limits
-module _ (w w′ : Word) (least : leastSaved ≤ length w) (most : length w ≤ longestWord)
+-- for two different words within the limits, saved in any two editions
+module _ (e e′ : Edition) (w w′ : Word) (least : leastSaved ≤ length w) (most : length w ≤ longestWord)
     (least′ : leastSaved ≤ length w′) (most′ : length w′ ≤ longestWord)
     (differ : w ≡ w′ → ⊥) (R T : List ℕ) (enough : room (length w) ≤ length T) (enough′ : room (length w′) ≤ length T) where
   -- ── Shut out: a loader that answers the same for all files ───────────────
 
   -- two words' files have two outcomes; and beginnings of them another answer, by `cut-file-refused`
-  pub loads-differ : length w ≤ length R → length w′ ≤ length R → loadSays (spell w) R T ≡ loadSays (spell w′) R T → ⊥
-  loads-differ fits fits′ e = differ (LoadTheorems.loads-apart R T w w′ least most fits enough least′ most′ fits′ enough′ e)
+  pub loads-differ : length w ≤ length R → length w′ ≤ length R → loadSays (spellIn e w) R T ≡ loadSays (spellIn e′ w′) R T → ⊥
+  loads-differ fits fits′ q = differ (LoadTheorems.loads-apart R T e e′ w w′ least most fits enough least′ most′ fits′ enough′ q)
 
   -- ── Shut out: a saver that writes one good file for every word ───────────
 
   -- the files that are written for two words differ
-  pub saves-differ : (O : List ℕ) → length (spell w) ≤ length O → length (spell w′) ≤ length O
-      → take (length (spell w)) (saveSays w T O .output) ≡ take (length (spell w′)) (saveSays w′ T O .output) → ⊥
-  saves-differ O out out′ e =
-      let file = saving-writes w T O least most enough out in
-      let file′ = saving-writes w′ T O least′ most′ enough′ out′ in
-      differ (spell-injective w w′ least most least′ most′ (sym file ∙ e ∙ file′))
+  pub saves-differ : (O : List ℕ) → length (spellIn e w) ≤ length O → length (spellIn e′ w′) ≤ length O
+      → take (length (spellIn e w)) (saveIn e w T O .output) ≡ take (length (spellIn e′ w′)) (saveIn e′ w′ T O .output) → ⊥
+  saves-differ O out out′ q =
+      let file = saving-writes e w T O least most enough out in
+      let file′ = saving-writes e′ w′ T O least′ most′ enough′ out′ in
+      differ (word-told e e′ w w′ least most least′ most′ (sym file ∙ q ∙ file′))

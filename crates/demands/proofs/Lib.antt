@@ -9,3 +9,4 @@ pub mod WhereBroken
 pub mod HostileText
 pub mod OneLetterMarks
 pub mod FailureOracle
+pub mod EditionTwo

@@ -22,7 +22,9 @@ use Rattle.number.specs.Exactly.{StandsAt, CutOff, BadByte}
 use Rattle.number.proofs.Theorems as Numbers
 use Rattle.saved.specs.File.{edition, Step, stepsFrom, ownSteps}
 use Rattle.loaded.specs.Load.{letters}
-use Rattle.loaded.specs.Cases.{Reads, BadLength, FrontCase}
+use Rattle.loaded.specs.Cases.{Reads, BadLength}
+use Rattle.editions.specs.Either.{asPlain}
+use Rattle.editions.specs.EitherCases.{EditionRead, FrontEither}
 use Rattle.answers.specs.Answers.{refusedAt, refusesWith, oneOf}
 use Rattle.mark_files.specs.Load
 use Rattle.mark_files.specs.Load.{loadSays}
@@ -30,9 +32,10 @@ use Rattle.mark_files.specs.SearchFile.{searchFileSays}
 use Rattle.mark_files.specs.Cases.{LoadCase}
 use Rattle.faults.specs.Faults.{FaultAt, CountAt, ArrowsAt, none-read, arrows-missing}
 use Rattle.faults.specs.Beginnings.{Begins, Declares}
-use Rattle.faults.proofs.Shown.{load-fault, search-load}
-use Rattle.faults.proofs.Told
-use Rattle.faults.proofs.Inside
+use Rattle.faults.specs.EitherFaults.{FaultEither, BeginsEither}
+use Rattle.faults.proofs.Shown.{search-load}
+use Rattle.faults.proofs.EitherTold
+use Rattle.faults.proofs.EitherTheorems
 use Rattle.faults.proofs.Theorems
 use Rattle.demands.proofs.Demand1
 
@@ -65,10 +68,10 @@ module _ (file : List ℕ) (text : Word) (R T : List ℕ) (F : List Place) where
   -- ── 'Every loading refusal from 5 to 11 then carries the offset' ─────────
 
   -- and 3, as 4 of a search with a file, has none, which is a case of its own
-  pub load-carries : refusesWith (3 ∷ []) (5 ∷ 6 ∷ 7 ∷ 8 ∷ 9 ∷ 10 ∷ 11 ∷ []) (loadSays file R T .answer) ≡ true
+  pub load-carries : refusesWith (3 ∷ []) (5 ∷ 6 ∷ 7 ∷ 8 ∷ 9 ∷ 10 ∷ 11 ∷ 13 ∷ []) (loadSays file R T .answer) ≡ true
   load-carries = Demand1.load-numbers [] [] file R T [] []
 
-  pub search-file-carries : refusesWith (4 ∷ 3 ∷ []) (5 ∷ 6 ∷ 7 ∷ 8 ∷ 9 ∷ 10 ∷ 11 ∷ []) (searchFileSays file text R T F .answer) ≡ true
+  pub search-file-carries : refusesWith (4 ∷ 3 ∷ []) (5 ∷ 6 ∷ 7 ∷ 8 ∷ 9 ∷ 10 ∷ 11 ∷ 13 ∷ []) (searchFileSays file text R T F .answer) ≡ true
   search-file-carries = Demand1.search-file-numbers [] text file R T [] F
 
   -- a search with a file carries the one of loading
@@ -78,17 +81,17 @@ module _ (file : List ℕ) (text : Word) (R T : List ℕ) (F : List Place) where
   -- ── 'of the faulty field's first byte (an arrow's two numbers are one field), or of that byte for 5 and 6; for 10 with missing arrows
   --    and for 11 it's the first byte after the arrows.' ──
 
-  -- a constructor of `FaultAt` for each of these; q is where the field at fault ends
-  pub offset-of : {r : ℕ} {p : Place} → loadSays file R T .answer ≡ refusedAt r p → (q : Place) × FaultAt file r p q
-  offset-of = load-fault file R T
+  -- a constructor of `FaultAt` for each of these, and of `FaultEither` for those of edition 2; q is where the field at fault ends
+  pub offset-of : {r : ℕ} {p : Place} → loadSays file R T .answer ≡ refusedAt r p → (q : Place) × FaultEither file r p q
+  offset-of = EitherTold.load-fault file R T
 
   -- and the other way round: with rooms for every word a file is refused with r at p exactly if that is its fault
   pub fault-exactly : longestWord ≤ length R → room longestWord ≤ length T → (r : ℕ) (p : Place)
-      → (loadSays file R T .answer ≡ refusedAt r p) ↔ ((q : Place) × FaultAt file r p q)
-  fault-exactly = Told.refused-exactly file R T
+      → (loadSays file R T .answer ≡ refusedAt r p) ↔ ((q : Place) × FaultEither file r p q)
+  fault-exactly = EitherTold.refused-exactly file R T
 
-  pub one-fault : {r r′ : ℕ} {p p′ q q′ : Place} → FaultAt file r p q → FaultAt file r′ p′ q′ → (r ≡ r′) × (p ≡ p′)
-  one-fault = Told.one-fault file
+  pub one-fault : {r r′ : ℕ} {p p′ q q′ : Place} → FaultEither file r p q → FaultEither file r′ p′ q′ → (r ≡ r′) × (p ≡ p′)
+  one-fault = EitherTold.one-fault-either file
 
   -- the number and its offset are given exactly when a case that has both applies
   pub offset-exactly : (r : ℕ) (p : Place) → (loadSays file R T .answer ≡ refusedAt r p)
@@ -97,18 +100,19 @@ module _ (file : List ℕ) (text : Word) (R T : List ℕ) (F : List Place) where
 
   -- ── 'Numbers and their order stay.' ──────────────────────────────────────
 
-  -- Which number a file shows is said by crates/loaded/specs, where nothing moved; the order is that of the constructors of `LoadCase`, as
-  -- it was. As before, any two files that declare a bad number in the same field have one outcome, and its offset is one too.
+  -- Which number a file shows is said by crates/loaded/specs, and since edition 2 by crates/editions/specs over it; the order is that of
+  -- the constructors of `LoadCase`, as it was. As before, any two files that declare a bad number in the same field have one outcome, and its
+  -- offset is one too.
   module _ (file′ : List ℕ) {i m j i′ m′ j′ : ℕ}
-      (edition-read : Reads file 0 edition i) (length-read : Reads file i m j) (bad : BadLength m)
-      (edition-read′ : Reads file′ 0 edition i′) (length-read′ : Reads file′ i′ m′ j′) (bad′ : BadLength m′) where
+      (edition-read : EditionRead file i) (length-read : Reads file i m j) (bad : BadLength m)
+      (edition-read′ : EditionRead file′ i′) (length-read′ : Reads file′ i′ m′ j′) (bad′ : BadLength m′) where
     pub bad-lengths-alike : loadSays file R T ≡ loadSays file′ R T
     bad-lengths-alike =
         Demand1.bad-length-loads [] text file R T [] F file′ edition-read length-read bad edition-read′ length-read′ bad′
 
   module _ (file′ : List ℕ) {m i n j i′ n′ j′ : ℕ}
-      (there : FrontCase file (letters m i)) (count-read : Reads file (i + m) n j) (bad : m - 1 < n)
-      (there′ : FrontCase file′ (letters m i′)) (count-read′ : Reads file′ (i′ + m) n′ j′) (bad′ : m - 1 < n′) where
+      (there : FrontEither file 0 (letters m i)) (count-read : Reads file (i + m) n j) (bad : m - 1 < n)
+      (there′ : FrontEither file′ 0 (letters m i′)) (count-read′ : Reads file′ (i′ + m) n′ j′) (bad′ : m - 1 < n′) where
     pub bad-counts-alike : loadSays file R T ≡ loadSays file′ R T
     bad-counts-alike = Demand1.bad-count-loads [] text file R T [] F file′ there count-read bad there′ count-read′ bad′
 
@@ -117,39 +121,40 @@ module _ (file : List ℕ) (text : Word) (R T : List ℕ) (F : List Place) where
   module _ {r : ℕ} {p : Place} (refused : loadSays file R T .answer ≡ refusedAt r p) where
     -- no offset is beyond the file's length; that of 5 is the length, and all others are below it, but where arrows are missing
     pub never-beyond : p ≤ length file
-    never-beyond = let f = offset-of refused in omega (arith, Inside.fault-inside file (f .1))
+    never-beyond = let f = offset-of refused in omega (arith, EitherTheorems.either-inside file (f .1))
 
     pub five-is-the-length : r ≡ 5 → p ≡ length file
-    five-is-the-length = Inside.cut-at-the-end file (offset-of refused .1)
+    five-is-the-length = EitherTheorems.either-cut file (offset-of refused .1)
 
-    pub others-are-below : (r ≡ 5 → ⊥) → (p < length file) ⊎ ((w : Word) × (t : Step) × (l : List Step) × ArrowsAt file w 0 (t ∷ l) p)
-    others-are-below = Inside.others-before-the-end file (offset-of refused .1)
+    pub others-are-below : (r ≡ 5 → ⊥)
+        → (p < length file) ⊎ ((w : Word) × (t : Step) × (l : List Step) × ArrowsAt (asPlain file 0) w 0 (t ∷ l) p)
+    others-are-below = EitherTheorems.either-before file (offset-of refused .1)
 
     other-than : (k : ℕ) (l : List ℕ) → oneOf k l ≡ false → oneOf r l ≡ true → r ≡ k → ⊥
     other-than k l nowhere one e = true-not-false (sym one ∙ ap (λ (n : ℕ). oneOf n l) e ∙ nowhere)
 
-    -- the bytes before the offset of 7, 8, 9 or 11 are those of some accepted file's beginning
-    pub right-before : Bytes file → oneOf r (7 ∷ 8 ∷ 9 ∷ 11 ∷ []) ≡ true → Begins file p
+    -- the bytes before the offset of 7, 8, 9, 11 or 13 are those of some accepted file's beginning
+    pub right-before : Bytes file → oneOf r (7 ∷ 8 ∷ 9 ∷ 11 ∷ 13 ∷ []) ≡ true → BeginsEither file p
     unfolding oneOf
     right-before bytes one =
-        Theorems.right-before file bytes (offset-of refused .1)
-        (other-than 5 (7 ∷ 8 ∷ 9 ∷ 11 ∷ []) refl one)
-        (other-than 6 (7 ∷ 8 ∷ 9 ∷ 11 ∷ []) refl one)
-        (other-than 10 (7 ∷ 8 ∷ 9 ∷ 11 ∷ []) refl one)
+        EitherTheorems.either-right-before file bytes (offset-of refused .1)
+        (other-than 5 (7 ∷ 8 ∷ 9 ∷ 11 ∷ 13 ∷ []) refl one)
+        (other-than 6 (7 ∷ 8 ∷ 9 ∷ 11 ∷ 13 ∷ []) refl one)
+        (other-than 10 (7 ∷ 8 ∷ 9 ∷ 11 ∷ 13 ∷ []) refl one)
 
     -- those before the offset of 10 are exactly if the file declares as many arrows as its word has
     pub arrow-right-before : Bytes file → r ≡ 10
-        → (w : Word) × (n : ℕ) × Declares file w n × (Begins file p ↔ (n ≡ length (ownSteps w)))
-    arrow-right-before bytes = Theorems.arrow-right-before file bytes (offset-of refused .1)
+        → (w : Word) × (n : ℕ) × Declares (asPlain file 0) w n × (BeginsEither file p ↔ (n ≡ length (ownSteps w)))
+    arrow-right-before bytes = EitherTheorems.either-arrow-right file bytes (offset-of refused .1)
 
     -- and with what is at fault, up to its end q, the bytes are those of none, whatever follows: the file has stopped being right. Of 5
     -- that cannot be said, as a file that is cut is the beginning of one
-    pub wrong-behind : Bytes file → (r ≡ 5 → ⊥) → (q : Place) × FaultAt file r p q × (Begins file q → ⊥)
-    wrong-behind bytes other = let f = offset-of refused in (f .0, f .1, Theorems.wrong-behind file bytes (f .1) other)
+    pub wrong-behind : Bytes file → (r ≡ 5 → ⊥) → (q : Place) × FaultEither file r p q × (BeginsEither file q → ⊥)
+    wrong-behind bytes other = let f = offset-of refused in (f .0, f .1, EitherTheorems.either-wrong-behind file bytes (f .1) other)
 
   -- whatever number of arrows is declared, up to it the bytes are those of the word's file
-  pub right-up-to-the-count : Bytes file → {w : Word} {n : ℕ} → (d : Declares file w n) → Begins file (d .place)
-  right-up-to-the-count bytes d = Theorems.letters-right file bytes (d .count-at)
+  pub right-up-to-the-count : Bytes file → {w : Word} {n : ℕ} → (d : Declares (asPlain file 0) w n) → BeginsEither file (d .place)
+  right-up-to-the-count bytes d = EitherTheorems.either-letters-right file bytes (d .count-at)
 
 -- An example of 10 whose bytes before the offset begin no file: 01 02 61 62 00 is refused at 5, behind a count that no check refuses and
 -- that is not the word's, for the file of ab is 01 02 61 62 01 00 00.

@@ -1,5 +1,5 @@
--- Every example of the table holds: the checker computes the rules, the supplies, the searches, the tables, the files, the refusals
--- and the pieces, and compares.
+-- Every example of the table holds: the checker computes the rules, the supplies, the searches, the tables, the files, their
+-- checks, the refusals and the pieces, and compares.
 use lib.Dec.{T}
 use Rattle.words.specs.Lists.{from, only, first}
 use Rattle.words.specs.Words.{same, stands, occurrences}
@@ -18,9 +18,11 @@ use Rattle.failure.specs.FailureSteps.{readBoth, failureWindows, failureStepsWi
 use Rattle.failure_table.specs.FailureTable.{wordAlone, slotted, layFailures, layArrows, failureTableFrom, failureTable}
 use Rattle.number.specs.Number.{groups, spellNumber, refuses, see, seeNumber, numberAt}
 use Rattle.saved.specs.File.{edition, stepsFrom, spellSteps, ownSteps, body, spell}
-use Rattle.loaded.specs.Load.{frontWithin, twoAt, arrowsAt, ending, verdict}
+use Rattle.loaded.specs.Load.{frontWithin, twoAt, arrowsAt, ending}
+use Rattle.crc.specs.Check.{shifted, fed, digits, bitsOf, check, sealed}
+use Rattle.editions.specs.Either.{asPlain, endingEither, verdictEither}
 use Rattle.mark_files.specs.Load.{loadWithin}
-use Rattle.mark_files.specs.Save.{saveSays}
+use Rattle.mark_files.specs.Save.{saveIn}
 use Rattle.finds.specs.Finds.{filled}
 use Rattle.pieces.specs.Kept.{kept}
 use Rattle.stream.specs.Searchers.{searcherOf, after, finds, makeable}
@@ -28,7 +30,7 @@ use Rattle.stream.specs.Pieces.{joined}
 use Rattle.stream.specs.Opening.{openSays}
 use Rattle.stream.specs.Taking.{takeSays}
 use Rattle.examples.specs.Examples.{is, isNone, walked, empty, has, failsTo, gives, isRefused, isRefusedAt}
-use Rattle.examples.specs.Examples.{loadInRooms, leaves, refusesToSave}
+use Rattle.examples.specs.Examples.{loadInRooms, leaves, refusesIn, refusesToSave}
 use Rattle.examples.specs.Examples.{shows, isDoneWith, takenInTurn, holds, allHold, word, digit, bytes, table}
 
 pub examples-hold : T (allHold table)
@@ -40,7 +42,8 @@ unfolding from only first same stands occurrences longestWord longestText longes
     failureOf ask pathEnd askIn repair afterSuffix failureRule failureWalk readBoth failureWindows failureStepsWith failureSteps
     wordAlone slotted layFailures layArrows failureTableFrom failureTable
     groups spellNumber refuses see seeNumber numberAt edition stepsFrom spellSteps ownSteps body spell
-    frontWithin twoAt arrowsAt ending verdict loadWithin saveSays
-    is isNone walked empty has failsTo joined gives isRefused isRefusedAt loadInRooms leaves refusesToSave shows isDoneWith
+    frontWithin twoAt arrowsAt ending asPlain endingEither verdictEither loadWithin saveIn
+    shifted fed digits bitsOf check sealed
+    is isNone walked empty has failsTo joined gives isRefused isRefusedAt loadInRooms leaves refusesIn refusesToSave shows isDoneWith
     takenInTurn holds allHold word digit bytes table
 examples-hold = tt

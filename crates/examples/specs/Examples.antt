@@ -18,7 +18,7 @@ use Prim.Native.String.{String}
 use lib.ListN.{length, replicate}
 use lib.Dec.{eqb, ltb}
 use Rattle.words.specs.Words.{Word, Place, letter, same, occurrences}
-use Rattle.words.specs.Limits.{greatestFile}
+use Rattle.words.specs.Limits.{longestWord}
 use Rattle.oracle.specs.Arrows.{State, Delta, target, walk}
 use Rattle.oracle.specs.SuffixRule.{suffixRule, extraArrows, oracle}
 use Rattle.oracle.specs.LetterRule.{supplyMade, letterRule}
@@ -31,10 +31,13 @@ use Rattle.failure.specs.FailureRule.{Fails, failureOf, symbols, askIn, failure
 use Rattle.failure.specs.FailureSteps.{failureSteps}
 use Rattle.failure_table.specs.FailureTable.{failureRoom, failureTable}
 use Rattle.saved.specs.File.{spell}
-use Rattle.loaded.specs.Load.{Front, letters, stop, front}
+use Rattle.loaded.specs.Load.{Front, letters, stop}
+use Rattle.crc.specs.Check.{check}
+use Rattle.editions.specs.Editions.{Edition, plain, checked, spellIn, mostBytes}
+use Rattle.editions.specs.Either.{frontEither}
 use Rattle.answers.specs.Answers.{Answer, done, refused, refusedAt}
 use Rattle.mark_files.specs.Load.{Outcome, loadSays}
-use Rattle.mark_files.specs.Save.{saveSays}
+use Rattle.mark_files.specs.Save.{saveIn}
 use Rattle.finds.specs.Finds.{filled}
 use Rattle.stream.specs.declared.Searcher.{Searcher}
 use Rattle.stream.specs.Pieces.{joined}
@@ -67,7 +70,12 @@ pub data Example : Type 0 where
   failureSearch : (word text : Word) (starts : List Place) (letters failures : ℕ) → Example
   -- a word and its whole file
   fileOf : (word : Word) (file : List ℕ) → Example
-  -- a word that saving refuses, and the number, in no room and in rooms for its table and for any file; it leaves them as they were
+  -- the check of a string of bytes
+  checkOf : (string : List ℕ) (value : ℕ) → Example
+  -- a word and its whole file in edition 2
+  checkedFileOf : (word : Word) (file : List ℕ) → Example
+  -- a word that saving refuses in either edition, and the number, in no room and in rooms for its table and for any file; it leaves them as
+  -- they were
   saveRefused : (word : Word) (number : ℕ) → Example
   -- a file that is loaded, and the word that it hands over with its table, in rooms for just these
   loads : (file : List ℕ) (word : Word) → Example
@@ -131,13 +139,16 @@ loadInRooms f m = loadSays f (replicate m 9) (replicate (room m) 9)
 unfoldable pub leaves : ℕ → ℕ → Outcome → Bool
 leaves m v o = same (o .word) (replicate m v) && same (o .tables) (replicate (room m) v)
 
--- save, lent t table entries and o bytes of output, a 9 in each, refuses the word with the number n and leaves them so
-unfoldable pub refusesToSave : Word → ℕ → ℕ → ℕ → Bool
-refusesToSave p n t o =
+-- save, lent t table entries and o bytes of output, a 9 in each, refuses the word with the number n in the edition e and leaves them so
+unfoldable pub refusesIn : Edition → Word → ℕ → ℕ → ℕ → Bool
+refusesIn e p n t o =
     let T : List ℕ = replicate t 9 in
     let O : List ℕ = replicate o 9 in
-    let said = saveSays p T O in
+    let said = saveIn e p T O in
     isRefused (said .answer) n && (same (said .tables) T && same (said .output) O)
+
+unfoldable pub refusesToSave : Word → ℕ → ℕ → ℕ → Bool
+refusesToSave p n t o = refusesIn plain p n t o && refusesIn checked p n t o
 
 -- m letters that start at place i
 unfoldable pub shows : Front → ℕ → Place → Bool
@@ -191,7 +202,9 @@ holds (failureSearch w t starts n f) =
     let r = failureSteps w t in
     same (r .starts) starts && (eqb (r .letters) n && (eqb (r .failures) f && same (occurrences w t) starts))
 holds (fileOf p f) = same (spell p) f
-holds (saveRefused p n) = refusesToSave p n 0 0 && refusesToSave p n (room (length p)) greatestFile
+holds (checkOf l c) = eqb (check l) c
+holds (checkedFileOf p f) = same (spellIn checked p) f
+holds (saveRefused p n) = refusesToSave p n 0 0 && refusesToSave p n (room (length p)) (mostBytes checked)
 holds (loads f p) =
     let m = length p in
     let o = loadInRooms f m in
@@ -207,7 +220,7 @@ holds (arrowsRefused f m n p) =
 holds (roomRefused f m n) =
     let o = loadInRooms f m in
     isRefused (o .answer) n && leaves m 9 o
-holds (letThrough start m) = shows (front (start ++ replicate m 97)) m (length start)
+holds (letThrough start m) = shows (frontEither longestWord (start ++ replicate m 97) 0) m (length start)
 holds (inPieces w l found k) = takenInTurn (openSays w .searcher) l found k
 
 unfoldable pub allHold : List Example → Bool
@@ -295,7 +308,9 @@ table =
     ∷ loadRefused (bytes "01 81 20") 8 1
     ∷ loadRefused (bytes "") 5 0
     ∷ loadRefused (bytes "01 00") 8 1
-    ∷ loadRefused (bytes "02") 7 0
+    ∷ loadRefused (bytes "02") 5 1
+    ∷ loadRefused (bytes "03") 7 0
+    ∷ loadRefused (bytes "00") 7 0
     ∷ loadRefused (bytes "81 00") 6 1
     ∷ loadRefused (bytes "01 80") 5 2
     ∷ loadRefused (bytes "01 03 61 61") 5 4
@@ -308,6 +323,28 @@ table =
     ∷ arrowsRefused (bytes "01 02 61 62 01 00 80 00") 2 6 7
     ∷ arrowsRefused (bytes "01 07 61 62 62 62 61 61 62 04 00 00 02 03 01 01 01 00") 7 10 12
     ∷ arrowsRefused (bytes "01 07 61 62 62 62 61 61 62 04 00 00 01 04 01 01 01 00") 7 10 12
+    ∷ checkOf (word "123456789") 47933
+    ∷ checkOf [] 0
+    ∷ checkedFileOf (word "aa") (bytes "02 02 61 61 00 00 36")
+    ∷ checkedFileOf (word "aaa") (bytes "02 03 61 61 61 00 22 50")
+    ∷ checkedFileOf (word "abbbaab") (bytes "02 07 61 62 62 62 61 61 62 04 00 00 01 03 01 01 01 00 FE 2F")
+    ∷ loads (bytes "02 02 61 61 00 00 36") (word "aa")
+    ∷ loads (bytes "02 07 61 62 62 62 61 61 62 04 00 00 01 03 01 01 01 00 FE 2F") (word "abbbaab")
+    ∷ letThrough (bytes "02 80 20") 4096
+    ∷ loadRefused (bytes "02 81 20") 8 1
+    ∷ loadRefused (bytes "02 01 61 00") 8 1
+    ∷ loadRefused (bytes "02 03 61 61") 5 4
+    ∷ roomRefused (bytes "02 03 61 61 61 00 22 51") 2 3
+    ∷ arrowsRefused (bytes "02 03 61 61 61 00") 3 5 6
+    ∷ arrowsRefused (bytes "02 03 61 61 61 00 22") 3 5 7
+    ∷ arrowsRefused (bytes "02 03 61 61 61 00 22 51") 3 13 6
+    ∷ arrowsRefused (bytes "02 03 61 61 61 00 22 51 00") 3 13 6
+    ∷ arrowsRefused (bytes "02 03 61 61 61 00 50 22") 3 13 6
+    ∷ arrowsRefused (bytes "02 03 61 61 61 00 23 B2") 3 13 6
+    ∷ arrowsRefused (bytes "02 03 61 61 61 00 22 50 00") 3 11 8
+    ∷ arrowsRefused (bytes "02 02 61 62 00 00 C6") 2 10 5
+    ∷ arrowsRefused (bytes "02 02 61 62 00") 2 10 5
+    ∷ arrowsRefused (bytes "01 03 61 61 61 00 22 50") 3 11 6
     ∷ arrowsRefused (bytes "01 07 61 62 62 62 61 61 62 03 00 00 01 03 01 01") 7 10 16
     ∷ arrowsRefused (bytes "01 07 61 62 62 62 61 61 62 04 00 00 01 03 01 01 01 00 2A 2A") 7 11 18
     ∷ inPieces (word "aba") (word "ab" ∷ word "" ∷ word "ab" ∷ word "a" ∷ []) ([] ∷ [] ∷ (0 ∷ []) ∷ (2 ∷ []) ∷ []) 1

@@ -43,7 +43,7 @@ module _ (s : List ℕ) (bytes : Bytes s) where
           rw e (bytes (i + j))
       by (no h) = rw (List·getD-eq-default w 0 {n = j} (omega arith)) (omega arith)
 
-  shown-savable : {w : Word} {p : Place} → CountAt s w p → Savable w
+  pub shown-savable : {w : Word} {p : Place} → CountAt s w p → Savable w
   shown-savable C = record { bytes = shown-bytes C; least = C .least; most = C .most }
 
   pub shown-saved : {w : Word} {p : Place} → CountAt s w p → Saved (spell w)

@@ -24,6 +24,11 @@ module _ (s : List ℕ) where
   before : (p : Place) {v : ℕ} {q : Place} → Reads s p v q → p < length s
   before p h = let i = one p h in omega (arith, i .0, i .1)
 
+  -- arrows stand behind their number
+  pub arrows-take : {w : Word} {d : ℕ} {l : List Step} {p : Place} → ArrowsAt s w d l p → 1 ≤ p
+  arrows-take (none-read {c = c} C h few) = omega (arith, one c h .0)
+  arrows-take (one-read {j = j} A h g) = omega (arith, one j g .0)
+
   pub fault-inside : {r : ℕ} {p q : Place} → FaultAt s r p q → (p ≤ q) × (q ≤ length s)
   fault-inside (number-cut N c) = (omega arith, omega arith)
   fault-inside (letters-cut h g l k d) = (omega arith, omega arith)
@@ -35,6 +40,32 @@ module _ (s : List ℕ) where
   fault-inside (no-arrow-left {p = p} {j = j} A h g) = let i = one j g in (omega (arith, one p h .0, i .0), i .1)
   fault-inside (arrows-missing A) = (omega arith, arrows-inside A)
   fault-inside (bytes-left A h) = (omega arith, omega (arith, h))
+
+  -- what is at fault takes a byte at least, or stands behind some
+  pub fault-takes : {r : ℕ} {p q : Place} → FaultAt s r p q → (r ≡ 5 → ⊥) → 1 ≤ q
+  fault-takes (number-cut N c) five = absurd (five refl)
+  fault-takes (letters-cut h g l k d) five = absurd (five refl)
+  fault-takes (byte-refused N b) five = omega arith
+  fault-takes (other-edition h d) five = omega (arith, one 0 h .0)
+  fault-takes (bad-length {p = p} h g d) five = omega (arith, one p g .0)
+  fault-takes (bad-count {p = p} C h d) five = omega (arith, one p h .0)
+  fault-takes (other-arrow {p = p} {j = j} A h g d) five = omega (arith, one p h .0, one j g .0)
+  fault-takes (no-arrow-left {p = p} {j = j} A h g) five = omega (arith, one p h .0, one j g .0)
+  fault-takes (arrows-missing A) five = arrows-take A
+  fault-takes (bytes-left A h) five = omega arith
+
+  -- 10 shows behind the number of arrows
+  pub ten-behind : {r : ℕ} {p q : Place} → FaultAt s r p q → r ≡ 10 → 1 ≤ p
+  ten-behind (number-cut N c) e = absurd (omega arith)
+  ten-behind (letters-cut h g l k d) e = absurd (omega arith)
+  ten-behind (byte-refused N b) e = absurd (omega arith)
+  ten-behind (other-edition h d) e = absurd (omega arith)
+  ten-behind (bad-length h g d) e = absurd (omega arith)
+  ten-behind (bad-count C h d) e = absurd (omega arith)
+  ten-behind (other-arrow A h g d) e = arrows-take A
+  ten-behind (no-arrow-left A h g) e = arrows-take A
+  ten-behind (arrows-missing A) e = arrows-take A
+  ten-behind (bytes-left A h) e = absurd (omega arith)
 
   -- 5 shows at the end, and all others before it, but for missing arrows
   pub cut-at-the-end : {r : ℕ} {p q : Place} → FaultAt s r p q → r ≡ 5 → p ≡ length s

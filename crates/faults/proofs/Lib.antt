@@ -6,3 +6,6 @@ pub mod Spelled
 pub mod GoingOn
 pub mod BadBytes
 pub mod Theorems
+pub mod EitherTold
+pub mod EitherBegins
+pub mod EitherTheorems

@@ -1,5 +1,5 @@
--- WHAT LOADING TELLS IS WHERE THE FILE IS BROKEN: each way of loading that ends with a refusal is a fault of the file at the place that is
--- told. Arrows are read one after the other, and what was read of them is kept on the way.
+-- WHAT READING SHOWS IS WHERE THE FILE IS BROKEN: each way of reading edition 1 that ends with a refusal is a fault of the file at the
+-- place that is shown. Arrows are read one after the other, and what was read of them is kept on the way.
 use mathlib.Core.Path.{_≡_, refl, ap, _∙_}
 use mathlib.Core.List.{List, []}
 use Prim.Native.Nat.{ℕ, _+_}
@@ -8,27 +8,26 @@ use lib.ListN.{length}
 use Rattle.words.specs.Words.{Word, Place, part}
 use Rattle.words.proofs.Words.{part-length}
 use Rattle.saved.specs.File.{Step}
-use Rattle.loaded.specs.Load.{letters, stop, behind, broken, wrong}
+use Rattle.loaded.specs.Load.{letters, stop, behind, broken}
 use Rattle.loaded.specs.Cases.{Unread, cut-off, bad-byte}
 use Rattle.loaded.specs.Cases.{FrontCase, edition-unread, edition-other, length-unread, length-bad, letters-missing, letters-there}
 use Rattle.loaded.specs.Cases.{ArrowsCase, arrow-agrees, up-unread, over-unread, arrow-differs, all-agree}
 use Rattle.loaded.specs.Cases as Cases
-use Rattle.loaded.specs.Cases.{EndingCase, count-unread, count-too-large, count-fits, VerdictCase, arrows-wrong, leftovers}
+use Rattle.loaded.specs.Cases.{EndingCase, count-unread, count-too-large, count-fits}
 use Rattle.answers.specs.Answers.{refusedAt}
-use Rattle.mark_files.specs.Load
 use Rattle.mark_files.specs.Load.{loadSays}
 use Rattle.mark_files.specs.SearchFile
 use Rattle.mark_files.specs.SearchFile.{searchFileSays}
-use Rattle.mark_files.specs.Cases.{LoadCase, SearchFileCase}
-use Rattle.mark_files.proofs.LoadSays.{load-is, load-answers}
+use Rattle.mark_files.specs.Cases.{SearchFileCase}
+use Rattle.mark_files.proofs.LoadSays.{load-is}
 use Rattle.mark_files.proofs.SearchFileSays.{search-file-is}
 use Rattle.faults.specs.Faults.{CountAt, ArrowsAt, none-read, one-read}
 use Rattle.faults.specs.Faults.{NumberPlace, edition-at, length-at, count-at, first-at, second-at}
 use Rattle.faults.specs.Faults.{FaultAt, number-cut, letters-cut, byte-refused, other-edition, bad-length, bad-count, other-arrow}
-use Rattle.faults.specs.Faults.{no-arrow-left, arrows-missing, bytes-left}
+use Rattle.faults.specs.Faults.{no-arrow-left, arrows-missing}
 
 -- a fault that shows at p, wherever its field ends
-abbrev Fault : List ℕ → ℕ → Place → Type 0
+abbrev pub Fault : List ℕ → ℕ → Place → Type 0
 Fault s r p = (q : Place) × FaultAt s r p q
 
 module _ {s : List ℕ} where
@@ -38,14 +37,14 @@ module _ {s : List ℕ} where
 
   -- ── Up to the letters ────────────────────────────────────────────────────
 
-  front-fault : {r : ℕ} {p : Place} → FrontCase s (stop r p) → Fault s r p
+  pub front-fault : {r : ℕ} {p : Place} → FrontCase s (stop r p) → Fault s r p
   front-fault (edition-unread u) = unread-fault edition-at u
   front-fault (edition-other h d) = (_, other-edition h d)
   front-fault (length-unread h u) = unread-fault (length-at h) u
   front-fault (length-bad h g d) = (_, bad-length h g d)
   front-fault (letters-missing h g l k d) = (_, letters-cut h g l k d)
 
-  count-place : {m : ℕ} {i : Place} → FrontCase s (letters m i) → CountAt s (part s i m) (i + m)
+  pub count-place : {m : ℕ} {i : Place} → FrontCase s (letters m i) → CountAt s (part s i m) (i + m)
   count-place {m} {i} (letters-there {i = k} h g l t d) =
       let size : length (part s i m) ≡ m = part-length s i m d in
       record {
@@ -75,26 +74,15 @@ module _ {s : List ℕ} where
   all-arrows A (arrow-agrees h g c) = all-arrows (one-read A h g) c
   all-arrows A all-agree = A
 
-  ending-fault : {w : Word} {c : Place} {r : ℕ} {p : Place} → CountAt s w c → EndingCase s c w (broken r p) → Fault s r p
+  pub ending-fault : {w : Word} {c : Place} {r : ℕ} {p : Place} → CountAt s w c → EndingCase s c w (broken r p) → Fault s r p
   ending-fault C (count-unread u) = unread-fault (count-at C) u
   ending-fault C (count-too-large h g) = (_, bad-count C h g)
   ending-fault C (count-fits h g c) = arrows-fault (none-read C h g) c
 
-  ending-read : {w : Word} {c p : Place} → CountAt s w c → EndingCase s c w (behind p) → ArrowsAt s w 0 [] p
+  pub ending-read : {w : Word} {c p : Place} → CountAt s w c → EndingCase s c w (behind p) → ArrowsAt s w 0 [] p
   ending-read C (count-fits h g c) = all-arrows (none-read C h g) c
 
-  verdict-fault : {w : Word} {c : Place} {r : ℕ} {p : Place} → CountAt s w c → VerdictCase s c w (wrong r p) → Fault s r p
-  verdict-fault C (arrows-wrong c) = ending-fault C c
-  verdict-fault C (leftovers c h) = (_, bytes-left (ending-read C c) h)
-
--- ── Loading ────────────────────────────────────────────────────────────────
-
-pub load-fault : (s R T : List ℕ) {r : ℕ} {p : Place} → loadSays s R T .answer ≡ refusedAt r p → (q : Place) × FaultAt s r p q
-load-fault s R T {r} {p} e = by (load-answers s R T (refusedAt r p) .0 e .2)
-  where
-    by : {R′ T′ : List ℕ} → LoadCase s R T (Load.outcome (refusedAt r p) R′ T′) → Fault s r p
-    by (LoadCase.head-refused f) = front-fault f
-    by (LoadCase.arrows-refused f h t v) = verdict-fault (count-place f) v
+-- ── Searching ──────────────────────────────────────────────────────────────
 
 -- a search with a file tells what loading tells
 pub search-load : (s : List ℕ) (text : Word) (R T : List ℕ) (F : List Place) {r : ℕ} {p : Place}

@@ -1,39 +1,32 @@
--- AND WHERE THE FILE IS BROKEN, LOADING TELLS IT: each fault is a way of loading that ends with its number and place. So with room enough a
--- file is refused with a number at a place exactly if that is its fault, and it has one.
-use mathlib.Core.Path.{_≡_, sym, ap, _∙_}
-use mathlib.Core.Logic.{_↔_}
+-- AND WHERE THE FILE IS BROKEN, READING SHOWS IT: each fault is a way of reading edition 1 that ends with its number and place. So a file
+-- has one fault.
+use mathlib.Core.Path.{_≡_, sym, ap₂, _∙_}
 use mathlib.Core.List.{List}
 use Prim.Native.Nat.{ℕ, _+_, _≤_}
 use native.Mathlib.Omega.{arith}
-use lib.ListN.{length, replicate, length-replicate}
+use lib.ListN.{length}
 use Rattle.words.specs.Words.{Word, Place, part}
-use Rattle.words.specs.Limits.{longestWord}
-use Rattle.table.specs.Table.{room}
 use Rattle.saved.specs.File.{Step}
-use Rattle.loaded.specs.Load.{letters, stop, Ending, broken, wrong}
+use Rattle.loaded.specs.Load.{letters, stop, front, Ending, broken, wrong, verdict}
 use Rattle.loaded.specs.Cases.{Unread, cut-off, bad-byte}
 use Rattle.loaded.specs.Cases.{FrontCase, edition-unread, edition-other, length-unread, length-bad, letters-missing, letters-there}
 use Rattle.loaded.specs.Cases.{ArrowsCase, arrow-agrees, up-unread, over-unread, arrow-differs, all-agree}
 use Rattle.loaded.specs.Cases as Cases
 use Rattle.loaded.specs.Cases.{EndingCase, count-unread, count-too-large, count-fits, VerdictCase, arrows-wrong, leftovers}
-use Rattle.answers.specs.Answers.{Answer, refusedAt}
-use Rattle.mark_files.specs.Load.{loadSays}
-use Rattle.mark_files.specs.Cases.{LoadCase}
-use Rattle.mark_files.proofs.LoadSays.{load-is}
-use Rattle.faults.proofs.Shown.{load-fault}
+use Rattle.loaded.proofs.Theorems.{front-is, verdict-is}
 use Rattle.faults.specs.Faults.{CountAt, ArrowsAt, none-read, one-read}
 use Rattle.faults.specs.Faults.{NumberPlace, edition-at, length-at, count-at, first-at, second-at}
 use Rattle.faults.specs.Faults.{FaultAt, number-cut, letters-cut, byte-refused, other-edition, bad-length, bad-count, other-arrow}
 use Rattle.faults.specs.Faults.{no-arrow-left, arrows-missing, bytes-left}
 
--- loading shows the refusal r at p: up to the letters, or behind them
+-- reading shows the refusal r at p: up to the letters, or behind them
 pub data Tells (s : List ℕ) (r : ℕ) (p : Place) : Type 0 where
   before-letters : FrontCase s (stop r p) → Tells s r p
   behind-letters : {w : Word} {c : Place} → CountAt s w c → VerdictCase s c w (wrong r p) → Tells s r p
 
 module _ {s : List ℕ} where
   -- what the arrows from p on come to, those from the count on come to
-  arrows-ending : {w : Word} {d : ℕ} {l : List Step} {p : Place} {e : Ending} → ArrowsAt s w d l p → ArrowsCase s p d l e
+  pub arrows-ending : {w : Word} {d : ℕ} {l : List Step} {p : Place} {e : Ending} → ArrowsAt s w d l p → ArrowsCase s p d l e
       → (c : Place) × CountAt s w c × EndingCase s c w e
   arrows-ending (none-read {c = c} C h few) a = (c, C, count-fits h few a)
   arrows-ending (one-read A h g) a = arrows-ending A (arrow-agrees h g a)
@@ -61,40 +54,36 @@ module _ {s : List ℕ} where
   fault-tells (arrows-missing A) = broken-tells A Cases.arrows-missing
   fault-tells (bytes-left A h) = let E = arrows-ending A all-agree in behind-letters (E .1) (leftovers (E .2) h)
 
--- ── Exactly ────────────────────────────────────────────────────────────────
+-- ── One fault ──────────────────────────────────────────────────────────────
 
--- with rooms for every word
-module _ (s R T : List ℕ) (fits : longestWord ≤ length R) (enough : room longestWord ≤ length T) where
-  told : {r : ℕ} {p : Place} → Tells s r p → loadSays s R T .answer ≡ refusedAt r p
-  told (before-letters f) = ap (λ o. o .answer) (load-is s R T _ .1 (LoadCase.head-refused f))
-  told {r} {p} (behind-letters {w = w} {c = c} C v) =
-      let i = C .letters-place in
-      let inside : i + length w ≤ length s = omega (arith, C .place, C .inside) in
-      let f : FrontCase s (letters (length w) i) = letters-there (C .length-at) (C .length-read) (C .least) (C .most) inside in
-      let judged : VerdictCase s (i + length w) (part s i (length w)) (wrong r p) = rw (← C .place, ← C .letters) v in
-      let word-fits : length w ≤ length R = omega (arith, C .most) in
-      let table-fits : room (length w) ≤ length T = omega (arith, C .most) in
-      ap (λ o. o .answer) (load-is s R T _ .1 (LoadCase.arrows-refused f word-fits table-fits judged))
-
-  -- a file is refused with r at p exactly if that is its fault
-  pub refused-exactly : (r : ℕ) (p : Place) → (loadSays s R T .answer ≡ refusedAt r p) ↔ ((q : Place) × FaultAt s r p q)
-  refused-exactly r p = (λ e. load-fault s R T e, λ f. told (fault-tells (f .1)))
-
--- and it has one fault at most
-pub one-fault : (s : List ℕ) {r r′ : ℕ} {p p′ q q′ : Place} → FaultAt s r p q → FaultAt s r′ p′ q′ → (r ≡ r′) × (p ≡ p′)
-one-fault s {r} {r′} {p} {p′} {q} {q′} f f′ = (cc same, cc same)
+-- reading shows one thing
+tells-one : {s : List ℕ} {r r′ : ℕ} {p p′ : Place} → Tells s r p → Tells s r′ p′ → (r ≡ r′) × (p ≡ p′)
+tells-one {s} {r} {r′} {p} {p′} = by
   where
-    R : List ℕ
-    R = replicate longestWord 0
+    letters-shown : {w : Word} {c : Place} → (C : CountAt s w c) → front s ≡ letters (length w) (C .letters-place)
+    letters-shown {w} C =
+        let inside : C .letters-place + length w ≤ length s = omega (arith, C .place, C .inside) in
+        front-is s _ .1 (letters-there (C .length-at) (C .length-read) (C .least) (C .most) inside)
 
-    T : List ℕ
-    T = replicate (room longestWord) 0
+    never : {B : Type 0} {n q m i : ℕ} → stop n q ≡ letters m i → B
+    never e = let z : _≡_ {A = ℕ} 0 1 = cc in absurd (omega arith)
 
-    fits : longestWord ≤ length R
-    fits = rw (length-replicate {A = ℕ} longestWord 0) (omega arith)
+    both : {w w′ : Word} {c c′ : Place} → CountAt s w c → CountAt s w′ c′ → VerdictCase s c w (wrong r p)
+        → VerdictCase s c′ w′ (wrong r′ p′) → wrong r p ≡ wrong r′ p′
+    both {w} {w′} {c} {c′} C C′ v v′ =
+        let shown = sym (letters-shown C) ∙ letters-shown C′ in
+        let size : length w ≡ length w′ = cc in
+        let place : C .letters-place ≡ C′ .letters-place = cc in
+        let word : w ≡ w′ = C .letters ∙ ap₂ (part s) place size ∙ sym (C′ .letters) in
+        let after : c ≡ c′ = C .place ∙ ap₂ _+_ place size ∙ sym (C′ .place) in
+        sym (verdict-is s c w _ .1 v) ∙ ap₂ (verdict s) after word ∙ verdict-is s c′ w′ _ .1 v′
 
-    enough : room longestWord ≤ length T
-    enough = rw (length-replicate {A = ℕ} (room longestWord) 0) (omega arith)
+    by : Tells s r p → Tells s r′ p′ → (r ≡ r′) × (p ≡ p′)
+    by (before-letters f) (before-letters f′) = let same = sym (front-is s _ .1 f) ∙ front-is s _ .1 f′ in (cc same, cc same)
+    by (before-letters f) (behind-letters C v) = never (sym (front-is s _ .1 f) ∙ letters-shown C)
+    by (behind-letters C v) (before-letters f) = never (sym (front-is s _ .1 f) ∙ letters-shown C)
+    by (behind-letters C v) (behind-letters C′ v′) = let same = both C C′ v v′ in (cc same, cc same)
 
-    same : _≡_ {A = Answer ℕ} (refusedAt r p) (refusedAt r′ p′)
-    same = sym (refused-exactly s R T fits enough r p .1 (q, f)) ∙ refused-exactly s R T fits enough r′ p′ .1 (q′, f′)
+-- and so a file has one fault at most
+pub one-fault : (s : List ℕ) {r r′ : ℕ} {p p′ q q′ : Place} → FaultAt s r p q → FaultAt s r′ p′ q′ → (r ≡ r′) × (p ≡ p′)
+one-fault s f f′ = tells-one (fault-tells f) (fault-tells f′)

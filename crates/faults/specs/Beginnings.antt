@@ -1,4 +1,4 @@
--- HOW FAR A FILE IS RIGHT: as far as some word's file has the same bytes.
+-- HOW FAR A FILE IS RIGHT in edition 1: as far as some word's file has the same bytes.
 --
 --   Begins s p       the first p bytes of s are the first p bytes of some word's file
 --   Declares s w n   the file shows the word w, and declares n arrows for it

@@ -1,12 +1,12 @@
--- WHERE A FILE IS BROKEN: the place of each fault as 02 words it, and where the field at fault ends. A field is found by reading those
--- before it, and is at fault by its own numbers; no room is asked for.
+-- WHERE A FILE IS BROKEN, for a reader of edition 1: the place of each fault as 02 words it, and where the field at fault ends. A field is
+-- found by reading those before it, and is at fault by its own numbers; no room is asked for.
 --
 --   LengthAt s p        the number of letters is the field that starts at p
 --   CountAt s w p       the file shows the word w, and the number of its arrows is the field that starts at p
 --   ArrowsAt s w d l p  d of the declared arrows are to be read from p on; those before p are the word's own, and l are its own that are
 --                       left
 --   NumberPlace s p     a number is to be read at p
---   FaultAt s r p q     the file is refused with r: the fault shows at p, and the field at fault ends before q
+--   FaultAt s r p q     such a reader refuses the file with r: the fault shows at p, and the field at fault ends before q
 --
 -- 02, 'Where in the file is it broken?'.
 use mathlib.Core.Path.{_≡_}

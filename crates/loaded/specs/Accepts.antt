@@ -1,4 +1,5 @@
--- WHAT LOADING A FILE COMES TO, room aside: `front` refuses, or a word is shown and then judged by its arrows. And what a file is.
+-- WHAT LOADING A FILE OF EDITION 1 COMES TO, room aside: `front` refuses, or a word is shown and then judged by its arrows. And what a file
+-- is.
 --
 --   ShownAt s o w e    the file that stands in s from place o on shows the word w, and then e on its arrows
 --   Judged s w v       loading the file s shows the word w, and then v on its arrows

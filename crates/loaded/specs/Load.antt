@@ -1,6 +1,6 @@
--- LOADING, field by field as 01 orders it: within any number 5 or 6, whichever its bytes show first; then that field's own check (7, 8, 9);
--- after m the letters (5); each arrow is compared once both its numbers are read (10); after the last, missing arrows (10), then leftovers
--- (11). Every refusal keeps the place where it shows.
+-- LOADING EDITION 1, field by field as 01 orders it: within any number 5 or 6, whichever its bytes show first; then that field's own check
+-- (7, 8, 9); after m the letters (5); each arrow is compared once both its numbers are read (10); after the last, missing arrows (10), then
+-- leftovers (11). Every refusal keeps the place where it shows.
 --
 --   taking n off on      the answer n on a number: `on` its value and the next place, or `off` the refusal and where it shows
 --   field s i off on     the same of the number at place i of the file s

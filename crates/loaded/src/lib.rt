@@ -4,7 +4,7 @@ ghost use mathlib.Core.Path.{_≡_};
 ghost use Rattle.number.specs.Number.{numberAt};
 ghost use Rattle.saved.specs.File.{ownSteps};
 ghost use Rattle.saved.specs.Stepping.{Tabled};
-ghost use Rattle.loaded.specs.Load.{frontAt, lettersAt, twoAt, arrowsAt, ending, verdict};
+ghost use Rattle.loaded.specs.Load.{frontAt, lettersAt, twoAt, arrowsAt, ending, closed};
 ghost use Rattle.loaded.specs.Answers.{headOf, pairOf, endingOf, verdictOf};
 use number::Cursor;
 use number::Number;
@@ -24,7 +24,7 @@ pub enum Head {
 }
 
 // The file up to its letters, from the number of letters on.
-fn read_letters(file: &[u8], c: Cursor) -> Head
+pub fn read_letters(file: &[u8], c: Cursor) -> Head
     ensures { λ r. ⌜ headOf r ≡ lettersAt (now (file .entry)) (c .at) ⌝ }
 {
     let declared = number_at(file, c.at);
@@ -148,12 +148,10 @@ pub enum Compared {
     Wrong(u8, usize),
 }
 
-// The same where nothing may follow.
-pub fn compare(word: &[u8], table: &[u16], file: &[u8], at: usize) -> Compared
-    requires { ⌜ Tabled (now word) (now table) ⌝ }
-    ensures { λ r. ⌜ verdictOf r ≡ verdict (now (file .entry)) at (now (word .entry)) ⌝ }
+// What the ending comes to where nothing may follow.
+pub fn close(file: &[u8], shown: Ended) -> Compared
+    ensures { λ r. ⌜ verdictOf r ≡ closed (now (file .entry)) (endingOf shown) ⌝ }
 {
-    let shown = compare_open(word, table, file, at);
     match shown {
         Ended::Broken(why, place) => Compared::Wrong(why, place),
         Ended::Behind(end) => {

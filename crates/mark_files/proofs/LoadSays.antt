@@ -17,13 +17,15 @@ use Rattle.words.proofs.Words.{part-length}
 use Rattle.words.proofs.Limits.{words-fit, saved-some}
 use Rattle.table.specs.Table.{room, tableOf}
 use Rattle.table.proofs.Theorems.{table-size}
-use Rattle.loaded.specs.Load.{Front, letters, stop, front, Verdict, right, wrong, verdict}
+use Rattle.loaded.specs.Load.{Front, letters, stop, Verdict, right, wrong}
 use Rattle.loaded.specs.declared.Compared.{Compared}
 use Rattle.loaded.specs.declared.Compared.the-variants.{Right, Wrong}
 use Rattle.loaded.specs.Answers.{verdictOf}
-use Rattle.loaded.specs.Cases.{FrontCase, VerdictCase}
-use Rattle.loaded.proofs.Fronts.{LettersIn, front-letters}
-use Rattle.loaded.proofs.Theorems.{front-is, verdict-is}
+use Rattle.loaded.proofs.Fronts.{LettersIn}
+use Rattle.editions.specs.Either.{frontEither, verdictEither}
+use Rattle.editions.specs.EitherCases.{FrontEither, VerdictEither}
+use Rattle.editions.proofs.Ways.{front-either-is, verdict-either-is}
+use Rattle.editions.proofs.Theorems.{either-letters}
 use Rattle.answers.specs.declared.SizeAnswer.{SizeAnswer}
 use Rattle.answers.specs.declared.SizeAnswer.the-variants.{Done}
 use Rattle.answers.specs.Answers.{Answer, done, refused, refusedAt, Succeeds, shortRoom}
@@ -31,10 +33,14 @@ use Rattle.answers.proofs.Answers.{size-answer-one}
 use Rattle.mark_files.specs.Load.{Outcome, outcome, loadedAs, judgedAt, loadWithin, loadSays}
 use Rattle.mark_files.specs.Cases.{LoadCase, AfterRefusal}
 
+-- what a file shows up to its letters
+abbrev pub shownFront : List ℕ → Front
+shownFront file = frontEither longestWord file 0
+
 module _ (file R T : List ℕ) where
   -- ── Its cases, in the order of the tests ─────────────────────────────────
 
-  pub says-stop : (n p : ℕ) → front file ≡ stop n p → loadSays file R T ≡ outcome (refusedAt n p) R T
+  pub says-stop : (n p : ℕ) → shownFront file ≡ stop n p → loadSays file R T ≡ outcome (refusedAt n p) R T
   unfolding loadWithin
   says-stop n p e = rw e
 
@@ -42,7 +48,7 @@ module _ (file R T : List ℕ) where
   abbrev pub put : ℕ → Outcome → Outcome
   put m o = outcome (o .answer) (o .word ++ drop m R) (o .tables ++ drop (room m) T)
 
-  module _ (m i : ℕ) (e : front file ≡ letters m i) where
+  module _ (m i : ℕ) (e : shownFront file ≡ letters m i) where
     abbrev word : Word
     word = part file i m
 
@@ -67,45 +73,46 @@ module _ (file R T : List ℕ) where
   -- ── When each is given ───────────────────────────────────────────────────
 
   -- with the letters there and room enough, what the file shows behind them decides
-  module _ {m i : ℕ} (f : FrontCase file (letters m i)) (h : m ≤ length R) (t : room m ≤ length T) where
-    shown : front file ≡ letters m i
-    shown = front-is file (letters m i) .1 f
+  module _ {m i : ℕ} (f : FrontEither file 0 (letters m i)) (h : m ≤ length R) (t : room m ≤ length T) where
+    shown : shownFront file ≡ letters m i
+    shown = front-either-is file 0 (letters m i) .1 f
 
     letters-size : length (part file i m) ≡ m
-    letters-size = part-length file i m (front-letters file shown .inside)
+    letters-size = part-length file i m (either-letters file shown .0 .inside)
 
-    says-wrong : {n p : ℕ} → VerdictCase file (i + m) (part file i m) (wrong n p)
+    says-wrong : {n p : ℕ} → VerdictEither file (i + m) (part file i m) (wrong n p)
         → loadSays file R T ≡ outcome (refusedAt n p) (replicate m 0 ++ drop m R) (replicate (room m) 0 ++ drop (room m) T)
-    says-wrong {n} {p} v = says-judged m i shown h t ∙ rw (verdict-is file (i + m) (part file i m) (wrong n p) .1 v, letters-size)
+    says-wrong {n} {p} v = says-judged m i shown h t ∙ rw (verdict-either-is file (i + m) (part file i m) (wrong n p) .1 v, letters-size)
 
-    says-right : VerdictCase file (i + m) (part file i m) right
+    says-right : VerdictEither file (i + m) (part file i m) right
         → loadSays file R T ≡ outcome (done m) (part file i m ++ drop m R) (tableOf (part file i m) ++ drop (room m) T)
-    says-right v = says-judged m i shown h t ∙ rw (verdict-is file (i + m) (part file i m) right .1 v, letters-size)
+    says-right v = says-judged m i shown h t ∙ rw (verdict-either-is file (i + m) (part file i m) right .1 v, letters-size)
 
   -- every file is of one case
   case : LoadCase file R T (loadSays file R T)
-  case = by-front (front file) (front-is file (front file) .0 refl)
+  case = by-front (shownFront file) (front-either-is file 0 (shownFront file) .0 refl)
     where
-      by-verdict : {m i : ℕ} → FrontCase file (letters m i) → m ≤ length R → room m ≤ length T
-          → (v : Verdict) → VerdictCase file (i + m) (part file i m) v → LoadCase file R T (loadSays file R T)
+      by-verdict : {m i : ℕ} → FrontEither file 0 (letters m i) → m ≤ length R → room m ≤ length T
+          → (v : Verdict) → VerdictEither file (i + m) (part file i m) v → LoadCase file R T (loadSays file R T)
       by-verdict f h t right v = rw (says-right f h t v) (LoadCase.accepted f h t v)
       by-verdict f h t (wrong n p) v = rw (says-wrong f h t v) (LoadCase.arrows-refused f h t v)
 
-      by-room : {m i : ℕ} → FrontCase file (letters m i) → Dec (length R < m) → Dec (length T < room m)
+      by-room : {m i : ℕ} → FrontEither file 0 (letters m i) → Dec (length R < m) → Dec (length T < room m)
           → LoadCase file R T (loadSays file R T)
-      by-room {m} {i} f (yes h) t = rw (says-short-word m i (front-is file _ .1 f) h) (LoadCase.short-room f (inl h))
-      by-room {m} {i} f (no h) (yes t) = rw (says-short-tables m i (front-is file _ .1 f) t) (LoadCase.short-room f (inr t))
-      by-room {m} {i} f (no h) (no t) = by-verdict f (omega arith) (omega arith) _ (verdict-is file (i + m) (part file i m) _ .0 refl)
+      by-room {m} {i} f (yes h) t = rw (says-short-word m i (front-either-is file 0 _ .1 f) h) (LoadCase.short-room f (inl h))
+      by-room {m} {i} f (no h) (yes t) = rw (says-short-tables m i (front-either-is file 0 _ .1 f) t) (LoadCase.short-room f (inr t))
+      by-room {m} {i} f (no h) (no t) =
+          by-verdict f (omega arith) (omega arith) _ (verdict-either-is file (i + m) (part file i m) _ .0 refl)
 
-      by-front : (f : Front) → FrontCase file f → LoadCase file R T (loadSays file R T)
-      by-front (stop n p) f = rw (says-stop n p (front-is file _ .1 f)) (LoadCase.head-refused f)
+      by-front : (f : Front) → FrontEither file 0 f → LoadCase file R T (loadSays file R T)
+      by-front (stop n p) f = rw (says-stop n p (front-either-is file 0 _ .1 f)) (LoadCase.head-refused f)
       by-front (letters m i) f = by-room f (decLt (length R) m) (decLt (length T) (room m))
 
   -- and a case that applies has its outcome
   given : {o : Outcome} → LoadCase file R T o → loadSays file R T ≡ o
-  given (LoadCase.head-refused {n = n} {p = p} f) = says-stop n p (front-is file _ .1 f)
-  given (LoadCase.short-room {m = m} {i = i} f (inl h)) = says-short-word m i (front-is file _ .1 f) h
-  given (LoadCase.short-room {m = m} {i = i} f (inr t)) = says-short-tables m i (front-is file _ .1 f) t
+  given (LoadCase.head-refused {n = n} {p = p} f) = says-stop n p (front-either-is file 0 _ .1 f)
+  given (LoadCase.short-room {m = m} {i = i} f (inl h)) = says-short-word m i (front-either-is file 0 _ .1 f) h
+  given (LoadCase.short-room {m = m} {i = i} f (inr t)) = says-short-tables m i (front-either-is file 0 _ .1 f) t
   given (LoadCase.arrows-refused f h t v) = says-wrong f h t v
   given (LoadCase.accepted f h t v) = says-right f h t v
 
@@ -140,22 +147,24 @@ module _ (file : List ℕ) (i m : ℕ) (inside : i + m ≤ length file) where
   size = part-length file i m inside
 
   module _ {R T : List ℕ} (copied : R ≡ shown-letters) (table : T ≡ tableOf shown-letters) (said : Compared)
-      (told : verdictOf said ≡ verdict file (i + m) shown-letters) where
+      (told : verdictOf said ≡ verdictEither file (i + m) shown-letters) where
     pub taken-right : said ≡ Right → outcome (done m) R T ≡ judgedAt file i m
     taken-right e =
-        let v : verdict file (i + m) (part file i m) ≡ right = ap (verdict file (i + m)) (sym is-part) ∙ sym told ∙ ap verdictOf e in
+        let v : verdictEither file (i + m) (part file i m) ≡ right =
+        ap (verdictEither file (i + m)) (sym is-part) ∙ sym told ∙ ap verdictOf e in
         rw (v, copied, table, is-part, size)
 
     pub taken-wrong : {n j : ℕ} → said ≡ Wrong n j → {R′ T′ : List ℕ} → R′ ≡ replicate (length R) 0 → T′ ≡ replicate (length T) 0
         → outcome (refusedAt n j) R′ T′ ≡ judgedAt file i m
     taken-wrong {n} {j} e r t =
-        let v : verdict file (i + m) (part file i m) ≡ wrong n j = ap (verdict file (i + m)) (sym is-part) ∙ sym told ∙ ap verdictOf e in
+        let v : verdictEither file (i + m) (part file i m) ≡ wrong n j =
+        ap (verdictEither file (i + m)) (sym is-part) ∙ sym told ∙ ap verdictOf e in
         rw (v, r, t, copied, table, is-part, table-size (part file i m))
 
 -- the parts of longer rooms that the code lends, and what it gives back
-module _ (file R T : List ℕ) {m i : ℕ} (shown : front file ≡ letters m i) (fits : m ≤ length R) (enough : room m ≤ length T) where
+module _ (file R T : List ℕ) {m i : ℕ} (shown : shownFront file ≡ letters m i) (fits : m ≤ length R) (enough : room m ≤ length T) where
   there : LettersIn file m i
-  there = front-letters file shown
+  there = either-letters file shown .0
 
   lent : length (take m R) ≡ m
   lent = length-take-le m R fits
@@ -183,7 +192,7 @@ pub record Standing (m : ℕ) (R T : List ℕ) : Type 0 where
 
 loaded-stands : (file R T : List ℕ) {m : ℕ} {R′ T′ : List ℕ} → LoadCase file R T (outcome (done m) R′ T′) → Standing m R′ T′
 loaded-stands file R T (LoadCase.accepted {m = m} {i = i} f h t v) =
-    let I = front-letters file (shown file R T f h t) in
+    let I = either-letters file (shown file R T f h t) .0 in
     let w = part file i m in
     let size : length w ≡ m = letters-size file R T f h t in
     let table-sized : length (tableOf w) ≡ room m = table-size w ∙ ap room size in

@@ -10,10 +10,12 @@ use Rattle.loaded.specs.Load.{stop, broken, wrong}
 use Rattle.loaded.specs.Cases.{Unread, cut-off, bad-byte}
 use Rattle.loaded.specs.Cases.{FrontCase, edition-unread, edition-other, length-unread, length-bad, letters-missing}
 use Rattle.loaded.specs.Cases.{ArrowsCase, arrow-agrees, up-unread, over-unread, arrow-differs, no-arrow-left, arrows-missing}
-use Rattle.loaded.specs.Cases.{EndingCase, count-unread, count-too-large, count-fits, VerdictCase, arrows-wrong, leftovers}
+use Rattle.loaded.specs.Cases.{EndingCase, count-unread, count-too-large, count-fits}
+use Rattle.editions.specs.Editions.{Edition}
+use Rattle.editions.specs.EitherCases.{EndingEither, arrows-broken, check-cut, check-differs, VerdictEither, ending-wrong, bytes-follow}
 use Rattle.answers.specs.Answers.{refusedAt, refusesOnly, refusesWith, oneOf}
 use Rattle.mark_files.specs.Save
-use Rattle.mark_files.specs.Save.{saveSays}
+use Rattle.mark_files.specs.Save.{saveIn}
 use Rattle.mark_files.specs.Load
 use Rattle.mark_files.specs.Load.{loadSays}
 use Rattle.mark_files.specs.SearchFile
@@ -23,11 +25,11 @@ use Rattle.mark_files.proofs.SaveSays.{save-is}
 use Rattle.mark_files.proofs.LoadSays.{load-is}
 use Rattle.mark_files.proofs.SearchFileSays.{search-file-is}
 
-pub save-numbers : (word : Word) (T O : List ℕ) → refusesOnly (1 ∷ 2 ∷ 17 ∷ 3 ∷ 12 ∷ []) (saveSays word T O .answer) ≡ true
+pub save-numbers : (e : Edition) (word : Word) (T O : List ℕ) → refusesOnly (1 ∷ 2 ∷ 17 ∷ 3 ∷ 12 ∷ []) (saveIn e word T O .answer) ≡ true
 unfolding oneOf
-save-numbers word T O = by (save-is word T O _ .0 refl)
+save-numbers e word T O = by (save-is e word T O _ .0 refl)
   where
-    by : {o : Save.Outcome} → SaveCase word T O o → refusesOnly (1 ∷ 2 ∷ 17 ∷ 3 ∷ 12 ∷ []) (o .answer) ≡ true
+    by : {o : Save.Outcome} → SaveCase e word T O o → refusesOnly (1 ∷ 2 ∷ 17 ∷ 3 ∷ 12 ∷ []) (o .answer) ≡ true
     by (SaveCase.empty-word h) = refl
     by (SaveCase.long-word h l) = refl
     by (SaveCase.short-word h l b) = refl
@@ -39,7 +41,7 @@ save-numbers word T O = by (save-is word T O _ .0 refl)
 
 -- what a file shows, each with its place
 abbrev pub shown : List ℕ
-shown = 5 ∷ 6 ∷ 7 ∷ 8 ∷ 9 ∷ 10 ∷ 11 ∷ []
+shown = 5 ∷ 6 ∷ 7 ∷ 8 ∷ 9 ∷ 10 ∷ 11 ∷ 13 ∷ []
 
 abbrev Shown : ℕ → Type 0
 Shown r = oneOf r shown ≡ true
@@ -73,14 +75,20 @@ module _ {s : List ℕ} where
   ending-number (count-too-large a b) = refl
   ending-number (count-fits a b c) = arrows-number c
 
-  verdict-number : {i : Place} {w : Word} {r : ℕ} {p : Place} → VerdictCase s i w (wrong r p) → Shown r
+  either-number : {o i : Place} {w : Word} {r : ℕ} {p : Place} → EndingEither s o i w (broken r p) → Shown r
   unfolding oneOf
-  verdict-number (arrows-wrong c) = ending-number c
-  verdict-number (leftovers c h) = refl
+  either-number (arrows-broken c) = ending-number c
+  either-number (check-cut c two h) = refl
+  either-number (check-differs c two h d) = refl
 
-  load-number : {R T : List ℕ} {n : ℕ} {p : Place} {R′ T′ : List ℕ} → LoadCase s R T (Load.outcome (refusedAt n p) R′ T′) → Shown n
-  load-number (LoadCase.head-refused f) = front-number f
-  load-number (LoadCase.arrows-refused f h t v) = verdict-number v
+  verdict-number : {i : Place} {w : Word} {r : ℕ} {p : Place} → VerdictEither s i w (wrong r p) → Shown r
+  unfolding oneOf
+  verdict-number (ending-wrong c) = either-number c
+  verdict-number (bytes-follow c h) = refl
+
+load-number : {s R T : List ℕ} {n : ℕ} {p : Place} {R′ T′ : List ℕ} → LoadCase s R T (Load.outcome (refusedAt n p) R′ T′) → Shown n
+load-number (LoadCase.head-refused f) = front-number f
+load-number (LoadCase.arrows-refused f h t v) = verdict-number v
 
 pub load-numbers : (file R T : List ℕ) → refusesWith (3 ∷ []) shown (loadSays file R T .answer) ≡ true
 unfolding oneOf

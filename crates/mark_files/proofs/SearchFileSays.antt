@@ -9,6 +9,7 @@ use native.Mathlib.Omega.{arith}
 use lib.ListN.{length, take, drop, take-append-drop}
 use lib.Seq.{take-at, length-take-le}
 use borrow.Author.Tests.{lt-ltb, le-ltb}
+use Rattle.words.specs.Lists.{at}
 use Rattle.words.specs.Words.{Word, Place, mirror, occurrences}
 use Rattle.words.specs.Limits.{leastSaved, longestWord, longestText}
 use Rattle.words.proofs.Limits.{words-fit, texts-fit}
@@ -35,11 +36,11 @@ use Rattle.answers.proofs.Answers.{done-not-refused, done-not-placed, tally-ans
 use Rattle.mark_files.specs.Load.{loadedAs, loadSays}
 use Rattle.mark_files.specs.Load
 use Rattle.marks.specs.Search.{found}
-use Rattle.mark_files.specs.SearchFile.{Outcome, outcome, fileSearched, afterLoad, searchFileSays}
+use Rattle.mark_files.specs.SearchFile.{Outcome, outcome, fileSearched, afterLoad, searchFileSays, plainSearchFileSays}
 use Rattle.mark_files.specs.Cases.{LoadCase, SearchFileCase, AfterRefusal}
 use Rattle.number.specs.Number.{Bytes}
-use Rattle.saved.specs.File.{spell, Saved}
-use Rattle.mark_files.proofs.LoadTheorems.{file-loads, accepted-exactly as loads-exactly}
+use Rattle.editions.specs.Editions.{Edition, spellIn, SavedIn}
+use Rattle.mark_files.proofs.LoadTheorems.{file-loads, accepted-exactly as loads-exactly, load-kept}
 use Rattle.mark_files.proofs.LoadSays.{load-is, Standing, told-stands}
 use Rattle.mark_files.proofs.LoadSays
 
@@ -123,6 +124,11 @@ module _ (file : List ℕ) (text : Word) (R T : List ℕ) (F : List Place) where
   unfolding searchFileSays
   same-load-same-search file′ e = rw e
 
+  -- a file that does not say 2 has the outcome that it had before edition 2
+  pub search-kept : (at file 0 ≡ 2 → ⊥) → searchFileSays file text R T F ≡ plainSearchFileSays file text R T F
+  unfolding searchFileSays plainSearchFileSays
+  search-kept other = rw (load-kept R T file other)
+
   -- ── What the code's steps come to ────────────────────────────────────────
 
   -- once the code was told what loading says
@@ -163,21 +169,21 @@ module _ (file : List ℕ) (text : Word) (R T : List ℕ) (F : List Place) where
   -- ── What is found with a word's file ─────────────────────────────────────
 
   -- every occurrence of the mirror of the file's word is counted, the first of them are listed, and the letters are the steps' own
-  pub file-searched : (w : Word) → leastSaved ≤ length w → length w ≤ longestWord → file ≡ spell w → length text ≤ longestText
-      → length w ≤ length R
+  pub file-searched : (e : Edition) (w : Word) → leastSaved ≤ length w → length w ≤ longestWord → file ≡ spellIn e w
+      → length text ≤ longestText → length w ≤ length R
       → room (length w) ≤ length T
       → searchFileSays file text R T F
       ≡ outcome (done (found (mirror w) text)) (w ++ drop (length w) R) (tableOf w ++ drop (room (length w)) T)
       (filled (occurrences (mirror w) text) F)
   unfolding searchFileSays
-  file-searched w least most f short h t =
-      let loads = file-loads R T w least most h t in
+  file-searched e w least most f short h t =
+      let loads = file-loads R T e w least most h t in
       rw (f, le-ltb longestText (length text) short, loads, take-at w (drop (length w) R) (length w) refl)
 
   -- with a text within the limit, exactly the files that loading accepts are
   pub accepted-exactly : Bytes file → length text ≤ longestText
       → ((t : Tally) × (searchFileSays file text R T F .answer ≡ done t))
-      ↔ ((f : Saved file) × (length (f .word) ≤ length R) × (room (length (f .word)) ≤ length T))
+      ↔ ((e : Edition) × (f : SavedIn e file) × (length (f .word) ≤ length R) × (room (length (f .word)) ≤ length T))
   accepted-exactly bytes short = (λ a. loads-exactly R T file bytes .0 (there (loadSays file R T .answer) refl (a .1)), back)
     where
       after : (a : Answer ℕ) → loadSays file R T .answer ≡ a
@@ -190,7 +196,7 @@ module _ (file : List ℕ) (text : Word) (R T : List ℕ) (F : List Place) where
       there (refused n) e h = done-not-refused (sym h ∙ after (refused n) e)
       there (refusedAt n p) e h = done-not-placed (sym h ∙ after (refusedAt n p) e)
 
-      back : (f : Saved file) × (length (f .word) ≤ length R) × (room (length (f .word)) ≤ length T)
+      back : (e : Edition) × (f : SavedIn e file) × (length (f .word) ≤ length R) × (room (length (f .word)) ≤ length T)
           → (t : Tally) × (searchFileSays file text R T F .answer ≡ done t)
       back f = let a = loads-exactly R T file bytes .1 f in (_, after (done (a .0)) (a .1))
 

@@ -2,13 +2,14 @@
 -- have to be for it and the whole outcome that it has: the answer and every lent buffer. The theorems show that an entry's outcome is o
 -- exactly when a case with the outcome o applies.
 --
---   SaveCase word T O o                save with the tables T and the output O: 1, 2, 17, 3, 12
---   LoadCase file R T o                load into the word room R: up to the letters 5 to 8, then 3, behind them 5, 6, 9 to 11; all but 3
---                                      with the place of the file where they show
+--   SaveCase e word T O o              save in the edition e with the tables T and the output O: 1, 2, 17, 3, 12
+--   LoadCase file R T o                load into the word room R: up to the letters 5 to 8, then 3, behind them 5, 6, 9 to 11 and 13; all
+--                                      but 3 with the place of the file where they show
 --   SearchFileCase file text R T F o   search with a file: 4, then as loading
 --   AfterRefusal R T R′ T′             what a refusal may leave of the rooms R and T that were lent with a file
 --
--- What a file's bytes have to be for 5 to 11, and the place of each, is said by `loaded/Cases`. 01, 'When the library says no'; demand 1.
+-- What a file's bytes have to be for 5 to 11 and 13, and the place of each, is said by `editions/EitherCases` and `loaded/Cases`. 01, 'When
+-- the library says no'; demand 1.
 use mathlib.Core.Logic.{_⊎_}
 use mathlib.Core.List.{List, _++_}
 use Prim.Native.Nat.{ℕ, _+_, _≤_, _<_}
@@ -17,9 +18,9 @@ use Rattle.words.specs.Words.{Word, Place, part, mirror, occurrences}
 use Rattle.words.specs.Limits.{leastSaved, longestWord, longestText}
 use Rattle.table.specs.Table.{room, tableOf}
 use Rattle.finds.specs.Finds.{filled}
-use Rattle.saved.specs.File.{spell}
 use Rattle.loaded.specs.Load.{letters, stop, right, wrong}
-use Rattle.loaded.specs.Cases.{FrontCase, VerdictCase}
+use Rattle.editions.specs.Editions.{Edition, spellIn}
+use Rattle.editions.specs.EitherCases.{FrontEither, VerdictEither}
 use Rattle.answers.specs.Answers.{done, refused, refusedAt, emptyWord, longWord, shortWord, shortRoom, longText, shortOutput}
 use Rattle.marks.specs.Search.{found}
 use Rattle.mark_files.specs.Save
@@ -28,12 +29,12 @@ use Rattle.mark_files.specs.SearchFile
 
 -- ── Saving ─────────────────────────────────────────────────────────────────
 
-module _ (word : Word) where
+module _ (e : Edition) (word : Word) where
   abbrev m : ℕ
   m = length word
 
   abbrev size : ℕ
-  size = length (spell word)
+  size = length (spellIn e word)
 
   pub data SaveCase (T O : List ℕ) : Save.Outcome → Type 0 where
     empty-word : m < 1 → SaveCase T O (Save.outcome (refused emptyWord) T O)
@@ -43,20 +44,20 @@ module _ (word : Word) where
     short-output : leastSaved ≤ m → m ≤ longestWord → room m ≤ length T → length O < size
         → SaveCase T O (Save.outcome (refused shortOutput) (replicate (room m) 0 ++ drop (room m) T) O)
     accepted : leastSaved ≤ m → m ≤ longestWord → room m ≤ length T → size ≤ length O
-        → SaveCase T O (Save.outcome (done size) (tableOf word ++ drop (room m) T) (spell word ++ drop size O))
+        → SaveCase T O (Save.outcome (done size) (tableOf word ++ drop (room m) T) (spellIn e word ++ drop size O))
 
 -- ── Loading, and searching with a file ─────────────────────────────────────
 
 -- m letters are declared and stand at place i, where the file shows any
 pub data LoadCase (file R T : List ℕ) : Load.Outcome → Type 0 where
-  head-refused : {n : ℕ} {p : Place} → FrontCase file (stop n p) → LoadCase file R T (Load.outcome (refusedAt n p) R T)
-  short-room : {m : ℕ} {i : Place} → FrontCase file (letters m i) → (length R < m) ⊎ (length T < room m)
+  head-refused : {n : ℕ} {p : Place} → FrontEither file 0 (stop n p) → LoadCase file R T (Load.outcome (refusedAt n p) R T)
+  short-room : {m : ℕ} {i : Place} → FrontEither file 0 (letters m i) → (length R < m) ⊎ (length T < room m)
       → LoadCase file R T (Load.outcome (refused shortRoom) R T)
-  arrows-refused : {m : ℕ} {i : Place} {n : ℕ} {p : Place} → FrontCase file (letters m i) → m ≤ length R → room m ≤ length T
-      → VerdictCase file (i + m) (part file i m) (wrong n p)
+  arrows-refused : {m : ℕ} {i : Place} {n : ℕ} {p : Place} → FrontEither file 0 (letters m i) → m ≤ length R → room m ≤ length T
+      → VerdictEither file (i + m) (part file i m) (wrong n p)
       → LoadCase file R T (Load.outcome (refusedAt n p) (replicate m 0 ++ drop m R) (replicate (room m) 0 ++ drop (room m) T))
-  accepted : {m : ℕ} {i : Place} → FrontCase file (letters m i) → m ≤ length R → room m ≤ length T
-      → VerdictCase file (i + m) (part file i m) right
+  accepted : {m : ℕ} {i : Place} → FrontEither file 0 (letters m i) → m ≤ length R → room m ≤ length T
+      → VerdictEither file (i + m) (part file i m) right
       → LoadCase file R T (Load.outcome (done m) (part file i m ++ drop m R) (tableOf (part file i m) ++ drop (room m) T))
 
 -- R and T are lent, loading leaves R′ and T′ of them, and with m letters accepted the file's word is the first m of R′

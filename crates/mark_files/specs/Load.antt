@@ -3,15 +3,20 @@
 --   Outcome                 the answer, and the word room and the tables as they are left
 --   loadedAs r R T          the outcome of code that answers r and leaves R and T
 --   judged v w              what the verdict v on its arrows makes of the word w: the outcome in the word's part of both rooms
---   judgedAt file i m       the same of the m letters that stand in the file from place i on
---   lettersRead f file R T  the outcome for a file that shows f up to its letters
+--   judgedBy judge file i m
+--                           the same of the m letters that stand in the file from place i on, judged by what is behind them
+--   judgedAt file i m       the same where either edition is known
+--   lettersRead judge f file R T
+--                           the outcome for a file that shows f up to its letters
 --   loadWithin n file R T   what it must be where a word may have n letters: the first refusal that the file shows up to its letters,
 --                           and where; then 3, which shows nowhere; then the first refusal that it shows behind them, and where; else m,
 --                           the file's word and its table. A refusal before 3 is passed changes nothing, one after it leaves zeros in
 --                           the word's part of both rooms
 --   loadSays file R T       the same with the limit that there is
+--   plainLoadSays file R T  the same of a reader that knows edition 1 alone, as all did before edition 2
 --
--- 01, 'The file on disk' and 'When the library says no'; 02, 'Where in the file is it broken?'; demands 1 and 3.
+-- 01, 'The file on disk' and 'When the library says no'; 02, 'Where in the file is it broken?' and 'Edition 2 with a check'; demands 1 and
+-- 3.
 use mathlib.Core.Bool.{_||_, cond}
 use mathlib.Core.List.{List, _++_}
 use Prim.Native.Nat.{ℕ, _+_}
@@ -20,7 +25,8 @@ use lib.Dec.{ltb}
 use Rattle.words.specs.Words.{Word, Place, part}
 use Rattle.words.specs.Limits.{longestWord}
 use Rattle.table.specs.Table.{room, tableOf}
-use Rattle.loaded.specs.Load.{Front, letters, stop, frontWithin, Verdict, right, wrong, verdict}
+use Rattle.loaded.specs.Load.{Front, letters, stop, front, Verdict, right, wrong, verdict}
+use Rattle.editions.specs.Either.{frontEither, verdictEither}
 use Rattle.answers.specs.declared.SizeAnswer.{SizeAnswer}
 use Rattle.answers.specs.Answers.{Answer, done, refused, refusedAt, sizeAnswer, shortRoom}
 
@@ -39,20 +45,26 @@ abbrev pub judged : Verdict → Word → Outcome
 judged right w = outcome (done (length w)) w (tableOf w)
 judged (wrong n p) w = outcome (refusedAt n p) (replicate (length w) 0) (replicate (room (length w)) 0)
 
-abbrev pub judgedAt : List ℕ → Place → ℕ → Outcome
-judgedAt file i m =
+abbrev pub judgedBy : (List ℕ → Place → Word → Verdict) → List ℕ → Place → ℕ → Outcome
+judgedBy judge file i m =
     let w = part file i m in
-    judged (verdict file (i + m) w) w
+    judged (judge file (i + m) w) w
 
-abbrev pub lettersRead : Front → List ℕ → List ℕ → List ℕ → Outcome
-lettersRead (stop n p) file R T = outcome (refusedAt n p) R T
-lettersRead (letters m i) file R T =
-    let o = judgedAt file i m in
+abbrev pub judgedAt : List ℕ → Place → ℕ → Outcome
+judgedAt file i m = judgedBy verdictEither file i m
+
+abbrev pub lettersRead : (List ℕ → Place → Word → Verdict) → Front → List ℕ → List ℕ → List ℕ → Outcome
+lettersRead judge (stop n p) file R T = outcome (refusedAt n p) R T
+lettersRead judge (letters m i) file R T =
+    let o = judgedBy judge file i m in
     cond (ltb (length R) m || ltb (length T) (room m)) (outcome (refused shortRoom) R T)
     (outcome (o .answer) (o .word ++ drop m R) (o .tables ++ drop (room m) T))
 
 unfoldable pub loadWithin : ℕ → List ℕ → List ℕ → List ℕ → Outcome
-loadWithin n file R T = lettersRead (frontWithin n file 0) file R T
+loadWithin n file R T = lettersRead verdictEither (frontEither n file 0) file R T
 
 abbrev pub loadSays : List ℕ → List ℕ → List ℕ → Outcome
 loadSays file R T = loadWithin longestWord file R T
+
+unfoldable pub plainLoadSays : List ℕ → List ℕ → List ℕ → Outcome
+plainLoadSays file R T = lettersRead verdict (front file) file R T

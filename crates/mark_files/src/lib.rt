@@ -16,7 +16,7 @@ use answers::Refusal;
 use answers::SizeAnswer;
 use answers::TallyAnswer;
 
-// The file of a word, at the front of the output.
+// The file of a word in edition 1, at the front of the output.
 pub fn save(word: &[u8], tables: &mut [u16], out: &mut [u8]) -> SizeAnswer
     ensures { λ r. ⌜ savedAs r (now (tables .exit)) (now (out .exit))
         ≡ saveSays (now (word .entry)) (now (tables .entry)) (now (out .entry)) ⌝ }
@@ -67,7 +67,7 @@ fn take_word(file: &[u8], at: usize, room: &mut [u8], table: &mut [u16]) -> Size
     let end = at + m;
     saved::put_letters(&file[at..end], room);
     table::fill(&file[at..end], table);
-    let said = loaded::compare(&file[at..end], table, file, end);
+    let said = editions::compare(&file[at..end], table, file, end);
     match said {
         loaded::Compared::Right => SizeAnswer::Done(m),
         loaded::Compared::Wrong(why, place) => {
@@ -78,12 +78,12 @@ fn take_word(file: &[u8], at: usize, room: &mut [u8], table: &mut [u16]) -> Size
     }
 }
 
-// The word and the oracle that a file holds, as its word and table, in the rooms.
+// The word and the oracle that a file of either edition holds, as its word and table, in the rooms.
 pub fn load(file: &[u8], room: &mut [u8], tables: &mut [u16]) -> SizeAnswer
     ensures { λ r. ⌜ loadedAs r (now (room .exit)) (now (tables .exit))
         ≡ loadSays (now (file .entry)) (now (room .entry)) (now (tables .entry)) ⌝ }
 {
-    let head = loaded::read_front(file, 0);
+    let head = editions::read_front(file, 0);
     match head {
         loaded::Head::Stop(why, place) => SizeAnswer::Refused(Refusal::Placed(why, place)),
         loaded::Head::Letters(m, at) => {

@@ -18,7 +18,8 @@ use Rattle.failure_entries.specs.FailureBuild.{failureBuildSays}
 use Rattle.failure_entries.specs.FailureSearch.{failureSearchSays}
 use Rattle.failure_entries.proofs.BuildSays.{failure-build-numbers}
 use Rattle.failure_entries.proofs.SearchSays.{failure-search-numbers}
-use Rattle.mark_files.specs.Save.{saveSays}
+use Rattle.editions.specs.Editions.{plain, checked}
+use Rattle.mark_files.specs.Save.{saveSays, saveCheckedSays}
 use Rattle.mark_files.specs.Load.{loadSays}
 use Rattle.mark_files.specs.SearchFile.{searchFileSays}
 use Rattle.marks.proofs.Numbers.{build-numbers, search-numbers}
@@ -30,7 +31,7 @@ use Rattle.searcher_bytes.proofs.OpenBytesSays.{open-numbers}
 use Rattle.searcher_bytes.proofs.TakeBytesSays.{take-numbers}
 use Rattle.marks_c.specs.Streams.{openCallSays, takeCallSays}
 use Rattle.marks_c.specs.FailureCalls.{failureBuildCallSays, failureSearchCallSays}
-use Rattle.marks_c.specs.Calls.{resultOf, offsetGiven}
+use Rattle.marks_c.specs.Calls.{resultOf, offsetGiven, saveCheckedCallSays}
 use Rattle.marks_c.specs.Calls.{buildCallSays, saveCallSays, loadCallSays, searchCallSays, turboCallSays, searchFileCallSays}
 
 -- two outcomes that a call's promise allows are equal, whichever call it is
@@ -57,7 +58,12 @@ build-done word T m = done-exactly (1 ∷ 2 ∷ 3 ∷ []) [] refl refl _ (build-
 
 pub save-done : (word : Word) (T O : List ℕ) (n : ℕ) → (saveCallSays word T O n .result ≡ 0) ↔ Succeeds (saveSays word T O .answer)
 unfolding oneOf
-save-done word T O n = done-exactly (1 ∷ 2 ∷ 17 ∷ 3 ∷ 12 ∷ []) [] refl refl _ (save-numbers word T O)
+save-done word T O n = done-exactly (1 ∷ 2 ∷ 17 ∷ 3 ∷ 12 ∷ []) [] refl refl _ (save-numbers plain word T O)
+
+pub save-checked-done : (word : Word) (T O : List ℕ) (n : ℕ)
+    → (saveCheckedCallSays word T O n .result ≡ 0) ↔ Succeeds (saveCheckedSays word T O .answer)
+unfolding oneOf
+save-checked-done word T O n = done-exactly (1 ∷ 2 ∷ 17 ∷ 3 ∷ 12 ∷ []) [] refl refl _ (save-numbers checked word T O)
 
 pub load-done : (file R T : List ℕ) (m : ℕ) (p : Place) → (loadCallSays file R T m p .result ≡ 0) ↔ Succeeds (loadSays file R T .answer)
 unfolding oneOf
@@ -97,7 +103,7 @@ pub take-done : (B : List ℕ) (piece : Word) (F : List Place) (c : ℕ)
 unfolding oneOf
 take-done B piece F c = done-exactly (16 ∷ 4 ∷ []) [] refl refl _ (take-numbers B piece F)
 
--- ── An offset is written exactly by the results 5 to 11 ────────────────────
+-- ── An offset is written exactly by the results 5 to 11 and 13 ─────────────
 
 -- what a result says of the offset, v before the call: one of these is a refusal at a place, which it then is; any other leaves it alone
 pub record Offset {A : Type 0} (a : Answer A) (result : ℕ) (v offset : Place) : Type 0 where

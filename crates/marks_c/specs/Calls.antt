@@ -10,6 +10,8 @@
 --   buildReturns ..     what is returned and left for an outcome of the entry
 --   buildCallSays ..    what it must be
 --   saveCall .., loadCall .., searchCall .., searchFileCall .., and each with Returns and Says: the same of the other entries
+--   saveCheckedCallSays ..
+--                       the same of saving with a check, which returns as saving does
 --   turboCallSays ..    the same of the Turbo search, which returns as a search does
 use mathlib.Core.List.{List}
 use Prim.Native.Nat.{ℕ}
@@ -24,7 +26,7 @@ use Rattle.marks.specs.Search
 use Rattle.marks.specs.Search.{searchSays}
 use Rattle.linear.specs.Turbo.{turboSays}
 use Rattle.mark_files.specs.Save
-use Rattle.mark_files.specs.Save.{saveSays}
+use Rattle.mark_files.specs.Save.{saveSays, saveCheckedSays}
 use Rattle.mark_files.specs.Load
 use Rattle.mark_files.specs.Load.{loadSays}
 use Rattle.mark_files.specs.SearchFile
@@ -90,6 +92,9 @@ saveReturns n o = saveCall (resultOf (o .answer)) (o .tables) (o .output) (sizeG
 
 abbrev pub saveCallSays : Word → List ℕ → List ℕ → ℕ → SaveCall
 saveCallSays word T O n = saveReturns n (saveSays word T O)
+
+abbrev pub saveCheckedCallSays : Word → List ℕ → List ℕ → ℕ → SaveCall
+saveCheckedCallSays word T O n = saveReturns n (saveCheckedSays word T O)
 
 -- ── Load ───────────────────────────────────────────────────────────────────
 

@@ -4,8 +4,9 @@
 ghost use mathlib.Core.Path.{_≡_};
 ghost use Rattle.answers.specs.Answers.{numberOf, sizeAnswer, tallyAnswer};
 ghost use Rattle.marks_c.specs.Calls.{resultOf, sizeGiven, countGiven, lettersGiven, offsetGiven, placeGiven};
-ghost use Rattle.marks_c.specs.Calls.{buildCall, buildCallSays, saveCall, saveCallSays, loadCall, loadCallSays};
-ghost use Rattle.marks_c.specs.Calls.{searchCall, searchCallSays, turboCallSays, searchFileCall, searchFileCallSays};
+ghost use Rattle.marks_c.specs.Calls.{buildCall, buildCallSays, saveCall, saveCallSays, saveCheckedCallSays};
+ghost use Rattle.marks_c.specs.Calls.{loadCall, loadCallSays, searchCall, searchCallSays, turboCallSays};
+ghost use Rattle.marks_c.specs.Calls.{searchFileCall, searchFileCallSays};
 ghost use Rattle.failure_entries.specs.FailureSearch.{failureAnswer};
 ghost use Rattle.marks_c.specs.FailureCalls.{failureBuildCallSays, failureCountGiven, failureLettersGiven, failuresGiven};
 ghost use Rattle.marks_c.specs.FailureCalls.{failureSearchCall, failureSearchCallSays};
@@ -140,6 +141,20 @@ pub extern "C" fn marks_save(
         ≡ saveCallSays (now (word .entry)) (now (tables .entry)) (now (out .entry)) (now (length .entry)) ⌝ }
 {
     let saved = mark_files::save(word, tables, out);
+    tell_size(saved, length)
+}
+
+#[no_mangle]
+pub extern "C" fn marks_save_checked(
+    word: &[u8],
+    tables: &mut [u16],
+    out: &mut [u8],
+    length: &mut u64,
+) -> u32
+    ensures { λ r. ⌜ saveCall r (now (tables .exit)) (now (out .exit)) (now (length .exit))
+        ≡ saveCheckedCallSays (now (word .entry)) (now (tables .entry)) (now (out .entry)) (now (length .entry)) ⌝ }
+{
+    let saved = checked_files::save_checked(word, tables, out);
     tell_size(saved, length)
 }
 

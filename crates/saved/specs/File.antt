@@ -1,5 +1,5 @@
--- THE FILE OF A WORD: edition, m, the m letters, the number of extra arrows, then each arrow as two numbers. Nothing follows. The set of
--- files is what `spell` makes of the words within the limits; no loader is asked.
+-- THE FILE OF A WORD in edition 1: edition, m, the m letters, the number of extra arrows, then each arrow as two numbers. Nothing follows.
+-- The set of files is what `spell` makes of the words within the limits; no loader is asked.
 --
 --   edition           the edition's number
 --   Step              an arrow as the file has it: its source less the previous one's, its target less its source less 2

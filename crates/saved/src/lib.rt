@@ -7,7 +7,7 @@ ghost use Rattle.saved.specs.File.{ownSteps, spell};
 ghost use Rattle.saved.specs.Stepping.{Tabled, Standing, Leapt};
 use number::Cursor;
 
-// The edition that is written and read, and no other.
+// The number of edition 1, which is written here.
 pub const EDITION: u32 = 1;
 
 // An arrow as the file has it, and its source.

@@ -34,6 +34,21 @@ pub fn by_turns<T, const N: usize>(long: f64, mut runs: [&mut dyn FnMut() -> T; 
     fastest
 }
 
+/// Seconds of each way to do so many parts, of every part the fastest run of those of so many seconds, five at least. The ways take turns,
+/// each with all parts, so that none finds a part as the other has just left it.
+pub fn parts_by_turns<const N: usize>(long: f64, parts: usize, mut ways: [&mut dyn FnMut(usize); N]) -> [f64; N] {
+    let (mut fastest, mut rounds, started) = ([(); N].map(|()| vec![f64::INFINITY; parts]), 0, Instant::now());
+    while rounds < 5 || started.elapsed().as_secs_f64() < long {
+        for (way, fastest) in ways.iter_mut().zip(&mut fastest) {
+            for (part, best) in fastest.iter_mut().enumerate() {
+                *best = seconds(|| way(part)).min(*best);
+            }
+        }
+        rounds += 1;
+    }
+    fastest.map(|parts| parts.iter().sum())
+}
+
 /// A time in a table: milliseconds, or `-` where nothing was run.
 pub fn ms(seconds: Option<f64>) -> String {
     match seconds.map(|s| s * 1e3) {

@@ -1,8 +1,11 @@
-//! speed [TABLE..]: measures `build`, `load`, `search`, `turbo`, `take` and the failure oracle on this machine, and prints the tables of docs/SPEED.md, or
-//! those that are named, each between two lines that name it. Run it by `tools/speed`.
+//! speed [TABLE..]: measures `build`, `load`, `search`, `turbo`, `take` and the failure oracle on this machine, damages files and counts
+//! what becomes of them, and prints the tables of docs/SPEED.md, or those that are named, each between two lines that name it. Run it by
+//! `tools/speed`.
 
 mod arrows;
 mod clock;
+mod damage;
+mod editions;
 mod faces;
 mod failure;
 mod linear;
@@ -227,6 +230,8 @@ fn periodic_times() {
 const TABLES: &[(&str, fn())] = &[
     ("build", build_times),
     ("load", load_times),
+    ("editions", editions::load_times),
+    ("damage", damage::fates),
     ("search", search_times),
     #[cfg(with_older)]
     ("lookup", lookup::lookup_times),

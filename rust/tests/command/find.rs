@@ -1,7 +1,7 @@
 //! `marks find`: words and mark files, offsets and counts, names, standard input, and files that cannot be read.
 
 use crate::{told, Folder};
-use marks::LONGEST_WORD;
+use marks::{Refusal, LONGEST_WORD};
 use std::{
     ffi::OsStr,
     fs,
@@ -147,6 +147,6 @@ fn a_mark_file_that_cannot_be_used() {
     here.marks(&["find", "-m", "ride", "other"]).is_with(
         2,
         "",
-        "marks: ride: the file's edition is not 1 (7), at offset 0; it is no mark file, or of a later edition: save the mark again\n",
+        &format!("marks: ride: {}, at offset 0; it is no mark file, or of a later edition: save the mark again\n", Refusal::OtherEdition),
     );
 }

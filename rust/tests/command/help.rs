@@ -1,10 +1,10 @@
 //! What the program says of itself: help, version, man page and completions.
 
 use crate::{told, Folder, Said};
-use marks::LONGEST_WORD;
+use marks::{LONGEST_FILE, LONGEST_WORD};
 
 const COMMANDS: [&str; 5] = ["find", "save", "check", "show", "help"];
-const OPTIONS: [&str; 21] = [
+const OPTIONS: [&str; 22] = [
     "hex",
     "mark",
     "hex-offsets",
@@ -21,6 +21,7 @@ const OPTIONS: [&str; 21] = [
     "engine",
     "stats",
     "force",
+    "edition",
     "dot",
     "failure",
     "help",
@@ -60,6 +61,8 @@ fn help_has_all_there_is() {
         assert!(whole.contains(word) || good(here.marks(&["help", "find"])).contains(word), "{word}");
     }
     assert!(whole.contains(&format!("WORD has 1 to {} bytes", told(LONGEST_WORD))));
+    let unwrapped = whole.split_whitespace().collect::<Vec<_>>().join(" ");
+    assert!(unwrapped.contains(&format!("5 to {} bytes in edition 1, and two more in edition 2", told(LONGEST_FILE - 2))));
     for command in COMMANDS {
         assert!(whole.contains(&format!("marks {command} ")), "{command}");
     }
@@ -136,7 +139,8 @@ fn bash_completes_the_line() {
     assert_eq!(offered(&["marks", ""]), COMMANDS);
     assert_eq!(offered(&["marks", "s"]), ["save", "show"]);
     assert_eq!(offered(&["marks", "help", "c"]), ["check"]);
-    assert_eq!(offered(&["marks", "save", "-"]), ["-x", "--hex", "-f", "--force", "-h", "--help", "-V", "--version"]);
+    assert_eq!(offered(&["marks", "save", "-"]), ["-x", "--hex", "-f", "--force", "--edition", "-h", "--help", "-V", "--version"]);
+    assert_eq!(offered(&["marks", "save", "--edition", ""]), ["1", "2"]);
     assert_eq!(offered(&["marks", "find", "--st"]), ["--stats"]);
     assert_eq!(offered(&["marks", "show", "--f"]), ["--failure"]);
     assert_eq!(offered(&["marks", "-c", "find", "--engine", "=", "turbo", "--max"]), ["--max-count"]);

@@ -29,6 +29,9 @@ pub const MARKS: &str = env!("CARGO_BIN_EXE_marks");
 /// The file of `abbbaab` finds its mirror.
 pub const GOOD: &[u8] = b"\x01\x07abbbaab\x04\0\0\x01\x03\x01\x01\x01\0";
 
+/// The same word's file of edition 2.
+pub const CHECKED: &[u8] = b"\x02\x07abbbaab\x04\0\0\x01\x03\x01\x01\x01\0\xfe\x2f";
+
 /// A number below a million as messages have it: 1,024.
 pub fn told(number: usize) -> String {
     format!("{},{:03}", number / 1_000, number % 1_000)

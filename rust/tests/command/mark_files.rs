@@ -1,22 +1,38 @@
 //! `marks check` and `marks show`: mark files good and bad.
 
-use crate::{Folder, GOOD};
+use crate::{Folder, CHECKED, GOOD};
 use marks::{Mark, Refusal};
 use std::fs;
 
 #[test]
 fn check_says_what_good_files_find() {
-    let here = Folder::new("good").with("7", GOOD).with("2", b"\x01\x02aa\0").with("3", b"\x01\x03aaa\0");
+    let here = Folder::new("good").with("7", GOOD).with("7c", CHECKED).with("2", b"\x01\x02aa\0").with("3", b"\x01\x03aaa\0");
     here.marks(&["save", "-x", "00 20 22 5c 80 7e", "odd"]).is(0, "");
-    here.marks(&["check", "7", "2", "3", "odd"]).is(
+    here.marks(&["check", "7", "7c", "2", "3", "odd"]).is(
         0,
         concat!(
-            "7: good, finds \"baabbba\" (7 letters; it holds the mirror, \"abbbaab\")\n",
-            "2: good, finds \"aa\" (2 letters)\n",
-            "3: good, finds \"aaa\" (3 letters)\n",
-            "odd: good, finds \"\\x00 \\\"\\\\\\x80~\" (6 letters; it holds the mirror, \"~\\x80\\\\\\\" \\x00\")\n",
+            "7: good, finds \"baabbba\" (edition 1, 7 letters; it holds the mirror, \"abbbaab\")\n",
+            "7c: good, finds \"baabbba\" (edition 2, 7 letters; it holds the mirror, \"abbbaab\")\n",
+            "2: good, finds \"aa\" (edition 1, 2 letters)\n",
+            "3: good, finds \"aaa\" (edition 1, 3 letters)\n",
+            "odd: good, finds \"\\x00 \\\"\\\\\\x80~\" (edition 2, 6 letters; it holds the mirror, \"~\\x80\\\\\\\" \\x00\")\n",
         ),
     );
+}
+
+/// A refused file is told in the same words by all that load it, and keeps `check` from no file behind it.
+#[track_caller]
+fn is_told(folder: &str, bytes: &[u8], refusal: Refusal, offset: usize, advice: &str) {
+    let here = Folder::new(folder).with("bad", bytes).with("good", GOOD).with("ride", "baabbba");
+    let told = format!("{refusal}, at offset {offset}; {advice}");
+    let said = here.marks(&["check", "bad", "good"]);
+    let unindented: Vec<&str> = said.out.lines().filter(|line| !line.starts_with("  ")).collect();
+    let good = "good: good, finds \"baabbba\" (edition 1, 7 letters; it holds the mirror, \"abbbaab\")";
+    assert_eq!(unindented, [&format!("bad: refused: {told}"), good]);
+    assert_eq!((said.err.as_str(), said.status), ("", Some(1)));
+    for words in [&["find", "-m", "bad", "ride"][..], &["show", "bad"], &["show", "--dot", "bad"], &["show", "--failure", "bad"]] {
+        here.marks(words).is_with(2, "", &format!("marks: bad: {told}\n"));
+    }
 }
 
 #[test]
@@ -31,7 +47,7 @@ fn every_refusal_of_a_file_is_told_with_its_number_and_offset() {
         (&GOOD[..17], 17, cut),
         (b"\x01\x83\x00aaa\x00", 2, spelling.clone()),
         (b"\x01\xff\xff\xff\xff\x10", 5, spelling),
-        (b"\x02\x01a\0", 0, (Refusal::OtherEdition, format!("it is no mark file, or of a later edition: {again}"))),
+        (b"\x03\x01a\0", 0, (Refusal::OtherEdition, format!("it is no mark file, or of a later edition: {again}"))),
         // four billion letters, none, and one
         (b"\x01\xff\xff\xff\xff\x0f", 1, length.clone()),
         (b"\x01\x00", 1, length.clone()),
@@ -42,16 +58,24 @@ fn every_refusal_of_a_file_is_told_with_its_number_and_offset() {
         (b"\x01\x03aaa\0\0", 6, (Refusal::Leftovers, format!("something was added to it: {again}"))),
     ];
     for (number, (bytes, offset, (refusal, advice))) in cases.into_iter().enumerate() {
-        let here = Folder::new(&format!("refused-{number}")).with("bad", bytes).with("good", GOOD).with("ride", "baabbba");
-        let told = format!("{refusal}, at offset {offset}; {advice}");
-        let said = here.marks(&["check", "bad", "good"]);
-        let unindented: Vec<&str> = said.out.lines().filter(|line| !line.starts_with("  ")).collect();
-        let good = "good: good, finds \"baabbba\" (7 letters; it holds the mirror, \"abbbaab\")";
-        assert_eq!(unindented, [&format!("bad: refused: {told}"), good]);
-        assert_eq!((said.err.as_str(), said.status), ("", Some(1)));
-        for words in [&["find", "-m", "bad", "ride"][..], &["show", "bad"], &["show", "--dot", "bad"], &["show", "--failure", "bad"]] {
-            here.marks(words).is_with(2, "", &format!("marks: bad: {told}\n"));
-        }
+        is_told(&format!("refused-{number}"), bytes, refusal, offset, &advice);
+    }
+}
+
+#[test]
+fn so_is_every_refusal_of_a_check() {
+    let cut = (Refusal::CutFile, "it was cut: copy it again, or save the mark again");
+    let wrong = (Refusal::BadCheck, "it is damaged: copy it again, or save the mark again");
+    let cases: [(&[u8], usize, _); 5] = [
+        (&CHECKED[..18], 18, cut),
+        (&CHECKED[..19], 19, cut),
+        // the check of another word's file, and one with its bytes exchanged
+        (b"\x02\x02bb\0\0\x36", 5, wrong),
+        (b"\x02\x02aa\0\x36\0", 5, wrong),
+        (b"\x02\x02aa\0\0\x36\0", 7, (Refusal::Leftovers, "something was added to it: save the mark again")),
+    ];
+    for (number, (bytes, offset, (refusal, advice))) in cases.into_iter().enumerate() {
+        is_told(&format!("check-refused-{number}"), bytes, refusal, offset, advice);
     }
 }
 
@@ -59,7 +83,7 @@ fn every_refusal_of_a_file_is_told_with_its_number_and_offset() {
 fn trouble_with_a_file_is_not_a_refusal() {
     let here = Folder::new("unreadable-marks").with("good", b"\x01\x02aa\0").with("bad", "");
     let gone = "marks: gone: there is no such file; check its name\n";
-    here.marks(&["check", "gone", "good"]).is_with(2, "good: good, finds \"aa\" (2 letters)\n", gone);
+    here.marks(&["check", "gone", "good"]).is_with(2, "good: good, finds \"aa\" (edition 1, 2 letters)\n", gone);
     here.marks(&["check", "."]).is_with(2, "", "marks: .: it is a directory; name the files in it\n");
     here.marks(&["show", "gone"]).is_with(2, "", gone);
     assert_eq!(here.marks(&["check", "gone", "bad"]).status, Some(2));
@@ -67,20 +91,21 @@ fn trouble_with_a_file_is_not_a_refusal() {
 
 #[test]
 fn a_huge_file_is_judged_by_its_front() {
-    let here = Folder::new("huge").with("file", GOOD).with("none", "");
-    for (name, status) in
-        [("file", "bytes follow the file's last arrow (11), at offset 18;"), ("none", "the file's edition is not 1 (7), at offset 0;")]
-    {
+    let here = Folder::new("huge").with("file", GOOD).with("checked", CHECKED).with("none", "");
+    let [leftovers, edition] = [Refusal::Leftovers, Refusal::OtherEdition];
+    for (name, refusal, offset) in [("file", leftovers, 18), ("checked", leftovers, 20), ("none", edition, 0)] {
         fs::File::options().write(true).open(here.path(name)).unwrap().set_len(1 << 40).unwrap();
         let said = here.shell(&format!("ulimit -v 32768; marks check {name}"));
-        assert!(said.out.starts_with(&format!("{name}: refused: {status}")), "{said:?}");
+        assert!(said.out.starts_with(&format!("{name}: refused: {refusal}, at offset {offset};")), "{said:?}");
     }
 }
 
 #[test]
 fn show_prints_the_oracle_as_a_table() {
-    let here = Folder::new("show").with("file", GOOD);
-    here.marks(&["show", "file"]).is(
+    let here = Folder::new("show").with("file", GOOD).with("checked", CHECKED);
+    let first = here.marks(&["show", "file"]);
+    here.marks(&["show", "checked"]).is(0, &first.out.replace("size   18 bytes", "size   20 bytes"));
+    first.is(
         0,
         "\
 finds  \"baabbba\"

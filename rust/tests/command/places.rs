@@ -1,7 +1,7 @@
 //! Where `marks check` shows that a file is broken: the bytes there, as `hexdump -C` has them, below the file's verdict.
 
-use crate::{Folder, GOOD};
-use marks::{Mark, LONGEST_FILE, LONGEST_WORD};
+use crate::{Folder, CHECKED, GOOD};
+use marks::{Mark, Refusal, LONGEST_FILE, LONGEST_WORD};
 
 /// What is printed below the verdict on a refused file, which begins so.
 #[track_caller]
@@ -34,9 +34,29 @@ fn the_faulty_byte_is_marked() {
 }
 
 #[test]
+fn a_wrong_check_is_marked_at_its_first_byte() {
+    let mut flipped = CHECKED.to_vec();
+    flipped[19] ^= 1;
+    let here = Folder::new("check").with("second", flipped).with("letter", b"\x02\x02bb\0\0\x36");
+    let verdict = |offset| format!("the file's check is not that of the bytes before it (13), at offset {offset}");
+    assert_eq!(
+        shown(&here, "second", &verdict(18)),
+        [
+            "  00000000  02 07 61 62 62 62 61 61  62 04 00 00 01 03 01 01  |..abbbaab.......|",
+            "  00000010  01 00 fe 2e                                       |....|",
+            "                  ^^",
+        ]
+    );
+    assert_eq!(
+        shown(&here, "letter", &verdict(5)),
+        ["  00000000  02 02 62 62 00 00 36                              |..bb..6|", "                           ^^"]
+    );
+}
+
+#[test]
 fn the_end_of_a_file_is_marked_behind_its_last_byte() {
     let here = Folder::new("ends").with("empty", "").with("cut", &GOOD[..11]).with("row", &GOOD[..16]).with("missing", b"\x01\x02ab\0");
-    let cut = |length| format!("the file ends before or inside a number, or before the last of its letters (5), at offset {length}");
+    let cut = |length| format!("{}, at offset {length}", Refusal::CutFile);
     assert_eq!(shown(&here, "empty", &cut(0)), ["  00000000", "            ^^ the file ends here"]);
     assert_eq!(
         shown(&here, "cut", &cut(11)),
@@ -61,16 +81,16 @@ fn the_end_of_a_file_is_marked_behind_its_last_byte() {
 
 #[test]
 fn each_place_stands_below_its_own_file() {
-    let here = Folder::new("several").with("1", b"\x02").with("2", b"\x01\x02aa\0").with("3", b"\x01\x02aa\0\x1b[2J");
+    let here = Folder::new("several").with("1", b"\x03").with("2", b"\x01\x02aa\0").with("3", b"\x01\x02aa\0\x1b[2J");
     let said = here.marks_reading(&["check", "1", "2", "gone", "3", "-"], b"\x01\0");
     said.is_with(
         2,
         "\
-1: refused: the file's edition is not 1 (7), at offset 0; it is no mark file, or of a later edition: save the mark again
-  00000000  02                                                |.|
+1: refused: the file's edition is neither 1 nor 2 (7), at offset 0; it is no mark file, or of a later edition: save the mark again
+  00000000  03                                                |.|
             ^^
-2: good, finds \"aa\" (2 letters)
-3: refused: bytes follow the file's last arrow (11), at offset 5; something was added to it: save the mark again
+2: good, finds \"aa\" (edition 1, 2 letters)
+3: refused: bytes follow the file's last arrow, or in edition 2 its check (11), at offset 5; something was added to it: save the mark again
   00000000  01 02 61 61 00 1b 5b 32  4a                       |..aa..[2J|
                            ^^
 (standard input): refused: the file declares fewer than 2 letters, or more than 4,096 (8), at offset 1; it is damaged, no mark file, or of one letter: save a mark of 2 to 4,096 bytes
@@ -91,6 +111,12 @@ fn garbage() -> Vec<u8> {
         (seed >> 20) as u8
     };
     (0..100_000).map(|_| byte()).collect()
+}
+
+/// The files of a word of the most letters, of each edition.
+fn longest_files() -> [Vec<u8>; 2] {
+    let mark = Mark::new(&garbage()[..LONGEST_WORD]).unwrap();
+    [mark.to_file().unwrap(), mark.to_checked_file().unwrap()]
 }
 
 /// Of a file that is longer than what is read of it, verdict and place are those of the whole, which the library is handed here.
@@ -124,7 +150,7 @@ fn a_hundred_kilobytes_of_leftovers() {
     let file = [GOOD, &[b'x'; 100_000]].concat();
     let here = Folder::new("leftovers").with("file", &file);
     assert_eq!(
-        shown(&here, "file", "bytes follow the file's last arrow (11), at offset 18"),
+        shown(&here, "file", "bytes follow the file's last arrow, or in edition 2 its check (11), at offset 18"),
         [
             "  00000000  01 07 61 62 62 62 61 61  62 04 00 00 01 03 01 01  |..abbbaab.......|",
             "  00000010  01 00 78 78 78 78 78 78  78 78 78 78 78 78 78 78  |..xxxxxxxxxxxxxx|",
@@ -132,19 +158,21 @@ fn a_hundred_kilobytes_of_leftovers() {
         ]
     );
     judged_as_the_whole(here, &file);
-    // behind the file of a word of the most letters
-    let file = Mark::new(&garbage()[..LONGEST_WORD]).unwrap().to_file().unwrap();
-    judged_as_the_whole(Folder::new("leftovers-of-longest"), &[file, garbage()].concat());
+    // behind the files of a word of the most letters
+    for (edition, file) in longest_files().into_iter().enumerate() {
+        judged_as_the_whole(Folder::new(&format!("leftovers-of-longest-{edition}")), &[file, garbage()].concat());
+    }
 }
 
 #[test]
 fn a_hundred_kilobytes_of_garbage() {
     let here = Folder::new("garbage").with("file", garbage());
-    assert_eq!(shown(&here, "file", "the file's edition is not 1 (7), at offset 0").len(), 2);
+    assert_eq!(shown(&here, "file", "the file's edition is neither 1 nor 2 (7), at offset 0").len(), 2);
     judged_as_the_whole(here, &garbage());
-    // from each field of a good file on
-    let file = Mark::new(&garbage()[..LONGEST_WORD]).unwrap().to_file().unwrap();
-    for kept in [1, 3, 3 + LONGEST_WORD, 5 + LONGEST_WORD, file.len() - 3] {
-        judged_as_the_whole(Folder::new(&format!("garbage-from-{kept}")), &[&file[..kept], &garbage()].concat());
+    // from each field of a good file on; of one of edition 2 from the check on, too
+    for (edition, file) in longest_files().iter().enumerate() {
+        for kept in [1, 3, 3 + LONGEST_WORD, 5 + LONGEST_WORD, file.len() - 3, file.len() - 2] {
+            judged_as_the_whole(Folder::new(&format!("garbage-{edition}-from-{kept}")), &[&file[..kept], &garbage()].concat());
+        }
     }
 }

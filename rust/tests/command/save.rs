@@ -1,15 +1,15 @@
 //! `marks save`: what is written, what is never written over, and that nothing half done is left behind.
 
 use crate::{Folder, MARKS};
-use marks::Refusal;
+use marks::{Mark, Refusal};
 use std::{
     fs,
     os::unix::fs::{symlink, MetadataExt, PermissionsExt},
     process::Stdio,
 };
 
-/// The file that finds `aa`.
-const AA: &[u8] = b"\x01\x02aa\0";
+/// The file that finds `aa`, which is text too.
+const AA: &str = "\u{2}\u{2}aa\0\0\u{36}";
 
 fn complaint(out: &str, said: &str) -> String {
     format!("marks: {out}: {said}\n")
@@ -39,16 +39,34 @@ fn what_is_no_name_of_a_file() {
 fn a_saved_mark_finds_its_word() {
     let here = Folder::new("save");
     here.marks(&["save", "ab", "ab.mark"]).is(0, "");
-    assert_eq!(read(&here, "ab.mark"), b"\x01\x02ba\x01\0\0");
+    assert_eq!(read(&here, "ab.mark"), b"\x02\x02ba\x01\0\0\x95\xd6");
     here.marks(&["save", "-x", "00ff", "bytes.mark"]).is(0, "");
-    assert_eq!(read(&here, "bytes.mark"), b"\x01\x02\xff\x00\x01\0\0");
+    assert_eq!(read(&here, "bytes.mark"), b"\x02\x02\xff\x00\x01\0\0\x67\xf6");
     here.shell("umask 027; marks save aa private").is(0, "");
     assert_eq!(fs::metadata(here.path("private")).unwrap().mode() & 0o777, 0o640);
     assert_eq!(names(&here), ["ab.mark", "bytes.mark", "private"]);
-    here.marks(&["save", "aa", "-"]).is(0, "\u{1}\u{2}aa\0");
+    here.marks(&["save", "aa", "-"]).is(0, AA);
     here.shell("marks save abc - | marks find -m - /dev/null").is(1, "");
     here.shell("marks save abc - | marks check -")
-        .is(0, "(standard input): good, finds \"abc\" (3 letters; it holds the mirror, \"cba\")\n");
+        .is(0, "(standard input): good, finds \"abc\" (edition 2, 3 letters; it holds the mirror, \"cba\")\n");
+}
+
+#[test]
+fn the_edition_is_the_second_unless_the_first_is_asked_for() {
+    let here = Folder::new("edition").with("ride", "xabxab");
+    let file = |words: &[&str]| {
+        here.marks(&[&["save", "-f", "ab", "out"], words].concat()).is(0, "");
+        here.marks(&["find", "-m", "out", "ride"]).is(0, "1\n4\n");
+        read(&here, "out")
+    };
+    let ab = Mark::new("ab").unwrap();
+    let [first, second] = [ab.to_file().unwrap(), ab.to_checked_file().unwrap()];
+    assert_eq!([file(&[]), file(&["--edition", "2"]), file(&["--edition=2"])], [&second[..]; 3]);
+    assert_eq!([file(&["--edition", "1"]), file(&["--edition=1"])], [&first[..]; 2]);
+    here.marks(&["save", "--edition", "1", "aa", "-"]).is(0, "\u{1}\u{2}aa\0");
+    // what is no edition writes nothing
+    assert_eq!(here.marks(&["save", "-f", "--edition", "3", "zz", "out"]).status, Some(2));
+    assert_eq!(read(&here, "out"), first);
 }
 
 #[test]
@@ -65,7 +83,7 @@ fn what_is_there_is_written_over_only_by_force() {
     assert_eq!(read(&here, "ride"), b"a ride that somebody needs");
     here.marks(&["save", "-f", "aa", "longer"]).is(0, "");
     here.marks(&["save", "--force", "aa", "new"]).is(0, "");
-    assert_eq!([read(&here, "longer"), read(&here, "new")], [AA, AA]);
+    assert_eq!([read(&here, "longer"), read(&here, "new")], [AA.as_bytes(); 2]);
     assert_eq!(names(&here), ["dangling", "longer", "new", "ride"]);
 }
 
@@ -76,13 +94,13 @@ fn a_replaced_file_keeps_its_permissions_and_a_link_stays_one() {
     for mode in [0o600, 0o444, 0o777] {
         fs::set_permissions(here.path("old"), fs::Permissions::from_mode(mode)).unwrap();
         here.marks(&["save", "-f", "aa", "old"]).is(0, "");
-        assert_eq!((fs::metadata(here.path("old")).unwrap().mode() & 0o7777, read(&here, "old")), (mode, AA.to_vec()));
+        assert_eq!((fs::metadata(here.path("old")).unwrap().mode() & 0o7777, read(&here, "old")), (mode, AA.into()));
     }
     symlink("folder/end", here.path("second")).unwrap();
     symlink("second", here.path("first")).unwrap();
     for _ in ["nothing is there", "a file is there"] {
         here.marks(&["save", "-f", "aa", "first"]).is(0, "");
-        assert_eq!(read(&here, "folder/end"), AA);
+        assert_eq!(read(&here, "folder/end"), AA.as_bytes());
         assert!(["first", "second"].iter().all(|link| here.path(link).is_symlink()));
     }
     symlink("circle", here.path("circle")).unwrap();
@@ -93,9 +111,9 @@ fn a_replaced_file_keeps_its_permissions_and_a_link_stays_one() {
 #[test]
 fn what_is_no_regular_file_is_written_to_as_it_is() {
     let here = Folder::new("direct");
-    here.marks(&["save", "-f", "aa", "/dev/stdout"]).is(0, "\u{1}\u{2}aa\0");
-    here.shell("{ echo before; marks save -f aa /dev/stdout; echo behind; } > out; cat out").is(0, "before\n\u{1}\u{2}aa\0behind\n");
-    here.shell("mkfifo pipe && { cat pipe & marks save -f aa pipe; wait; test -p pipe; }").is(0, "\u{1}\u{2}aa\0");
+    here.marks(&["save", "-f", "aa", "/dev/stdout"]).is(0, AA);
+    here.shell("{ echo before; marks save -f aa /dev/stdout; echo behind; } > out; cat out").is(0, &format!("before\n{AA}behind\n"));
+    here.shell("mkfifo pipe && { cat pipe & marks save -f aa pipe; wait; test -p pipe; }").is(0, AA);
     here.marks(&["save", "-f", "ab", "/dev/full"]).is_with(2, "", &complaint("/dev/full", "the disk is full; make room and run it again"));
     assert_eq!(names(&here), ["out", "pipe"]);
 }
@@ -109,7 +127,7 @@ fn of_many_that_save_at_once_one_does() {
         let done = running.map(|(word, mut child)| (word, child.wait().unwrap().code() == Some(0)));
         let winners: Vec<&str> = done.iter().filter(|(_, won)| *won).map(|(word, _)| *word).collect();
         assert_eq!(winners.len(), 1);
-        assert_eq!(read(&here, "out"), [b"\x01\x02", winners[0].as_bytes(), b"\0"].concat());
+        assert_eq!(read(&here, "out"), Mark::new(winners[0]).unwrap().to_checked_file().unwrap());
         assert_eq!(names(&here), ["out"]);
         fs::remove_file(here.path("out")).unwrap();
     }

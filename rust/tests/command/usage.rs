@@ -64,3 +64,19 @@ fn what_cannot_be_done_is_said_with_what_to_do() {
     }
     here.marks(&["show", "-m", "ride"]).is_with(2, "", "marks: show: --mark is for find; leave it out\n");
 }
+
+#[test]
+fn an_edition_is_1_or_2() {
+    let here = Folder::new("usage-edition");
+    let cases: [(&[&str], &str); 6] = [
+        (&["save", "--edition", "3", "aa", "b"], "--edition: it cannot be \"3\"; it is 1 or 2"),
+        (&["save", "--edition=0", "aa", "b"], "--edition: it cannot be \"0\"; it is 1 or 2"),
+        (&["save", "--edition=01", "aa", "b"], "--edition: it cannot be \"01\"; it is 1 or 2"),
+        (&["save", "aa", "b", "--edition"], "--edition: no number follows it; it is 1 or 2"),
+        (&["save", "--edition=1", "--edition=2", "aa", "b"], "--edition: it is given twice; choose one"),
+        (&["check", "--edition", "1", "ride"], "check: --edition is for save; leave it out"),
+    ];
+    for (words, said) in cases {
+        here.marks(words).is_with(2, "", &format!("marks: {said}\n"));
+    }
+}

@@ -5,7 +5,7 @@ use native.Mathlib.Omega.{arith}
 use lib.Seq.{length-take-le}
 use Rattle.words.proofs.Limits.{words-fit}
 use Rattle.loaded.specs.Answers.{headOf}
-use Rattle.loaded.proofs.Fronts.{front-letters}
+use Rattle.editions.proofs.Theorems.{either-letters}
 use Rattle.mark_files.proofs.LoadSays.{says-stop, says-short-word, says-short-tables, lent-sized, given-back}
 use borrow.Author.Needs.{needs}
 use Rattle.mark_files.proofs.load.Statement.{statement}
@@ -23,7 +23,7 @@ mul-need c =
     let at-head2 = c .before .before in
     let at-read-front = at-head2 .before .before in
     let shown = sym (at-read-front .read-front .ensures) ∙ ap headOf (at-head2 .head2 .given .1) in
-    let there = front-letters _ shown in
+    let there = either-letters _ shown .0 in
     record { fits = omega (arith, there .most, words-fit) }
 
 returns-2 : tie.Need-returns-2

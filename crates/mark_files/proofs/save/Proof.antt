@@ -12,24 +12,24 @@ use Rattle.mark_files.proofs.save.Statement.{statement}
 use Rattle.mark_files.proofs.save.Tie as tie
 
 returns : tie.Need-returns
-returns c = sym (says-empty _ _ _ (c .if1 .taken))
+returns c = sym (says-empty _ _ _ _ (c .if1 .taken))
 
 returns-2 : tie.Need-returns-2
-returns-2 c = sym (says-long _ _ _ (c .before .if1 .left) (omega (arith, word-limit, c .if2 .taken)))
+returns-2 c = sym (says-long _ _ _ _ (c .before .if1 .left) (omega (arith, word-limit, c .if2 .taken)))
 
 returns-3 : tie.Need-returns-3
 returns-3 c =
     let at-if2 = c .before in
     let most = at-if2 .if2 .left in
     let below = c .if3 .taken in
-    sym (says-one-letter _ _ _ (at-if2 .before .if1 .left) (omega (arith, word-limit, most)) (omega (arith, least-saved, below)))
+    sym (says-one-letter _ _ _ _ (at-if2 .before .if1 .left) (omega (arith, word-limit, most)) (omega (arith, least-saved, below)))
 
 returns-4 : tie.Need-returns-4
 returns-4 c =
     let at-if3 = c .before in
     let least = at-if3 .if3 .left in
     let most = at-if3 .before .if2 .left in
-    sym (says-short _ _ _ (omega (arith, least-saved, least)) (omega (arith, word-limit, most)) (c .if4 .taken))
+    sym (says-short _ _ _ _ (omega (arith, least-saved, least)) (omega (arith, word-limit, most)) (c .if4 .taken))
 
 slice-aggregate-fill : tie.Need-slice-aggregate-fill
 slice-aggregate-fill c = sym (length-take-le _ _ (c .before .if4 .left))
@@ -72,7 +72,7 @@ returns-5 c =
     let most = at-if3 .before .if2 .left in
     let full = at-if5 .if5 .taken in
     wiped _ _ (at-fill .fill .ensures) _ (at-clear .clear .ensures)
-    ∙ sym (says-full _ _ _ (omega (arith, least-saved, least)) (omega (arith, word-limit, most)) (at-if4 .if4 .left)
+    ∙ sym (says-full _ _ _ _ (omega (arith, least-saved, least)) (omega (arith, word-limit, most)) (at-if4 .if4 .left)
     (omega (arith, at-size .file-size .ensures, full)))
 
 slice-aggregate-write-file : tie.Need-slice-aggregate-write-file
@@ -104,7 +104,7 @@ returns-6 c =
     let most = at-if3 .before .if2 .left in
     let fits = at-if5 .if5 .left in
     put-out _ _ (at-fill .fill .ensures) _ (at-size .file-size .ensures) (at-write .write-file .ensures)
-    ∙ sym (says-done _ _ _ (omega (arith, least-saved, least)) (omega (arith, word-limit, most)) (at-if4 .if4 .left)
+    ∙ sym (says-done _ _ _ _ (omega (arith, least-saved, least)) (omega (arith, word-limit, most)) (at-if4 .if4 .left)
     (omega (arith, at-size .file-size .ensures, fits)))
 
 pub save-spec : {M : Type 1} → statement M

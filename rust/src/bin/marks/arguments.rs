@@ -7,6 +7,7 @@ use crate::{
     names,
     options::Words,
     oracle::Kind,
+    save::Edition,
     trouble::Trouble,
     word::Word,
 };
@@ -23,6 +24,7 @@ pub enum Command {
     Find(find::Asked),
     Save {
         word: Word,
+        edition: Edition,
         out: OsString,
         force: bool,
     },
@@ -91,10 +93,11 @@ fn alone(words: &Words) -> Result<Command, Trouble> {
 
 fn save(words: Words) -> Result<Command, Trouble> {
     let (hex, force) = (words.has("hex"), words.has("force"));
+    let edition = if words.value_of("edition").is_some_and(|given| given == "1") { Edition::One } else { Edition::Two };
     let Ok([given, out]) = <[OsString; 2]>::try_from(words.rest) else {
         return Err(Trouble::new("save", "it takes a WORD and the file to write", "as in marks save -x 2e464954 fit.mark"));
     };
-    Ok(Command::Save { word: Word { given, hex }, out, force })
+    Ok(Command::Save { word: Word { given, hex }, edition, out, force })
 }
 
 fn check(words: Words) -> Result<Command, Trouble> {

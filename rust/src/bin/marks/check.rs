@@ -1,4 +1,4 @@
-//! `marks check`: whether mark files are good, and what they find, or where they are broken.
+//! `marks check`: whether mark files are good, what they find and of which edition they are, or where they are broken.
 
 use crate::{
     dump, input, names,
@@ -24,19 +24,20 @@ pub fn check(files: &[OsString], output: &mut Output) -> bool {
 /// Says what a file is. Whether it is good.
 fn judge(name: &OsStr, file: &[u8], output: &mut Output) -> bool {
     let loaded = Mark::from_file(file);
-    output.line(format_args!("{}: {}", names::shown(name), verdict(&loaded)));
+    output.line(format_args!("{}: {}", names::shown(name), verdict(file, &loaded)));
     if let Err(error) = &loaded {
         show_place(file, *error, output);
     }
     loaded.is_ok()
 }
 
-fn verdict(loaded: &Result<Mark, LoadError>) -> String {
+fn verdict(file: &[u8], loaded: &Result<Mark, LoadError>) -> String {
     match loaded {
         Ok(mark) => {
             let (word, back) = (mark.word(), mirror(mark.word()));
             let held = if back == word { String::new() } else { format!("; it holds the mirror, {}", quoted(&back)) };
-            format!("good, finds {} ({}{held})", quoted(word), counted(word.len(), "letter"))
+            // a good file begins with its edition, which is below 128 and so has one byte
+            format!("good, finds {} (edition {}, {}{held})", quoted(word), file[0], counted(word.len(), "letter"))
         }
         Err(error) => format!("refused: {error}; {}", trouble::advice(error.refusal)),
     }

@@ -13,8 +13,9 @@ use std::{
     os::{fd::AsFd, unix::fs::MetadataExt},
 };
 
-/// So much of a mark file is read. The library has judged any file before: one that agrees with a word's file ends, or has its first wrong
-/// field, within the bytes of the longest file and one arrow more. So the verdict and its offset are those of the whole file.
+/// So much of a mark file is read. The library has judged any file before: one that agrees with a word's file of either edition ends, or
+/// has its first wrong field, within the bytes of the longest file and one arrow more. So the verdict and its offset are those of the whole
+/// file.
 const MARK_FILE: u64 = 2 * LONGEST_FILE as u64;
 
 pub struct Input {

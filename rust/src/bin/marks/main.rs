@@ -59,7 +59,7 @@ fn run(command: Command, output: &mut Output) -> Result<Answer, Trouble> {
             return Ok(if find::find(asked, output)? { Answer::YesInAnyCase } else { Answer::No });
         }
         Command::Find(asked) => return find::find(asked, output).map(answer),
-        Command::Save { word, out, force } => save::save(&word, &out, force, output)?,
+        Command::Save { word, edition, out, force } => save::save(&word, edition, &out, force, output)?,
         Command::Check { files } => return Ok(answer(check::check(&files, output))),
         Command::Show { file, kind, dot } => show::show(&file, kind, dot, output)?,
     }

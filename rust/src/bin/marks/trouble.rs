@@ -71,6 +71,7 @@ pub fn advice(refusal: Refusal) -> &'static str {
         Refusal::OtherEdition => "it is no mark file, or of a later edition: save the mark again",
         Refusal::BadLength => "it is damaged, no mark file, or of one letter: save a mark of 2 to 4,096 bytes",
         Refusal::BadNumber | Refusal::BadCount | Refusal::WrongArrow => "it is damaged or no mark file: save the mark again",
+        Refusal::BadCheck => "it is damaged: copy it again, or save the mark again",
         Refusal::ShortWord => "look for it directly: marks find WORD FILE",
         Refusal::Leftovers => "something was added to it: save the mark again",
         // the program lends room enough for every word and every file, and texts in parts; it opens no stream

@@ -23,6 +23,7 @@ pub static COMMANDS: [Command; 5] = [
         more: &[
             "OUT is whole or not there at all: it is written beside its place, brought to the disk, and only then given its name. A file \
              that is there already is left as it is, unless -f is given. OUT may be -, standard output.",
+            "The file is of edition 2, unless --edition asks for 1, which older programs read too.",
             "A word of one letter is not saved: look for it directly.",
         ],
         of_commands: false,
@@ -30,8 +31,8 @@ pub static COMMANDS: [Command; 5] = [
     Command {
         name: "check",
         forms: &[("MARKFILE..", "what it finds, or why it is refused, and where")],
-        more: &["Each mark file gets a line: what it finds, or why it is refused, at which offset, and what to do. Below a refused one are \
-             the bytes around that offset. The file - is standard input."],
+        more: &["Each mark file gets a line: what it finds and its edition, or why it is refused, at which offset, and what to do. Below a \
+             refused one are the bytes around that offset. The file - is standard input."],
         of_commands: false,
     },
     Command {

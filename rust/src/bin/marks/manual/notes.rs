@@ -1,7 +1,7 @@
 //! What there is to know beside commands and options.
 
 /// When what the man page says was last changed.
-pub const DATE: &str = "2026-11-16";
+pub const DATE: &str = "2026-11-17";
 
 pub const ONE_LINE: &str = "finds byte marks in files of any size, with a proved library";
 
@@ -25,13 +25,15 @@ pub const SECTIONS: [(&str, &[&str]); 3] = [
     (
         "MARK FILES",
         &[
-            "A mark file is the index of a mark: the mark's letters and the arrows of its oracle, 5 to 20,481 bytes. It holds the \
-             mark from last letter to first, the mirror, because the search reads backward; what it finds is the mark.",
+            "A mark file is the index of a mark: the mark's letters and the arrows of its oracle, 5 to 20,481 bytes in edition 1, and two \
+             more in edition 2, which are a check. It holds the mark from last letter to first, the mirror, because the search reads \
+             backward; what it finds is the mark.",
             "A number in it is written in groups of seven bits, the lowest first, each a byte, whose high bit says that another follows; \
-             the last of several is not zero. The fields are: the edition, 1; how many letters, 2 to 4,096; the letters; how many arrows; \
-             and for each arrow two numbers, its source less that of the arrow before, and its target less its source less 2.",
-            "A file may come from a stranger. It is taken exactly when it is the one file of some word, and refused otherwise, with the \
-             offset at which it is broken.",
+             the last of several is not zero. The fields are: the edition, 1 or 2; how many letters, 2 to 4,096; the letters; how many \
+             arrows; for each arrow two numbers, its source less that of the arrow before, and its target less its source less 2; and in \
+             edition 2 the check, which is the CRC-16/ARC of all bytes before it, two bytes, the low one first.",
+            "A file may come from a stranger. It is taken exactly when it is the one file of some word in its edition, and refused \
+             otherwise, with the offset at which it is broken. The check is there for accidents: a stranger can make it fit.",
         ],
     ),
 ];

@@ -1,7 +1,7 @@
 //! The options, in the order in which they are told.
 
 use super::{
-    values::{ENGINE, GENERATED, JOBS, MARKFILE, MOST},
+    values::{EDITION, ENGINE, GENERATED, JOBS, MARKFILE, MOST},
     Known,
 };
 
@@ -11,7 +11,7 @@ const ALL: &[&str] = &["find", "save", "check", "show", "help"];
 /// What an option has where nothing is said of it.
 const PLAIN: Known = Known { short: None, long: "", value: None, commands: &[], line: "", more: "" };
 
-pub static OPTIONS: [Known; 21] = [
+pub static OPTIONS: [Known; 22] = [
     Known {
         short: Some(b'x'),
         long: "hex",
@@ -113,6 +113,15 @@ pub static OPTIONS: [Known; 21] = [
         line: "write over OUT where it is there already",
         more: "Its permissions are kept. Where OUT is a symbolic link, the file that it leads to is replaced. A terminal, a pipe or a \
                device is written to as it is.",
+        ..PLAIN
+    },
+    Known {
+        long: "edition",
+        value: Some(EDITION),
+        commands: &["save"],
+        line: "which edition of the file; without it, 2",
+        more: "Edition 2 ends with a check of all bytes before it, so that lost bits are noticed. Programs from before edition 2 refuse \
+               it with 7: edition 1, which has two bytes less and no check, is for files that they are to read.",
         ..PLAIN
     },
     Known { long: "dot", commands: &["show"], line: "as Graphviz text: marks show --dot F | dot -Tsvg", ..PLAIN },

@@ -34,6 +34,9 @@ pub const JOBS: Value = Value {
     advice_of_two: "choose one",
 };
 
+pub const EDITION: Value =
+    Value { name: "N", kind: Kind::OneOf(&["1", "2"]), missing: "no number follows it", advice: "", advice_of_two: "choose one" };
+
 pub const GENERATED: Value = Value {
     name: "KIND",
     kind: Kind::OneOf(&["man", "complete-bash", "complete-zsh", "complete-fish"]),

@@ -4,6 +4,7 @@ mod place;
 mod temporary;
 
 use crate::{names, output::Output, trouble::Trouble, word::Word};
+use marks::{Mark, Refusal};
 use std::{
     ffi::OsStr,
     io::{self, ErrorKind},
@@ -11,8 +12,15 @@ use std::{
     path::Path,
 };
 
-pub fn save(word: &Word, out: &OsStr, force: bool, output: &mut Output) -> Result<(), Trouble> {
-    let file = word.mark()?.to_file().map_err(|refusal| Trouble::refused("WORD".to_string(), refusal))?;
+/// The editions of a mark file: the second ends with a check of all bytes before it.
+#[derive(Clone, Copy)]
+pub enum Edition {
+    One,
+    Two,
+}
+
+pub fn save(word: &Word, edition: Edition, out: &OsStr, force: bool, output: &mut Output) -> Result<(), Trouble> {
+    let file = file_of(&word.mark()?, edition).map_err(|refusal| Trouble::refused("WORD".to_string(), refusal))?;
     if out.is_empty() || out.as_bytes().ends_with(b"/") {
         return Err(Trouble::new("OUT", "it is no file's name", "name the file to write"));
     }
@@ -22,6 +30,13 @@ pub fn save(word: &Word, out: &OsStr, force: bool, output: &mut Output) -> Resul
     }
     let written = if force { place::replace(Path::new(out), &file) } else { place::create(Path::new(out), &file) };
     written.map_err(|error| trouble(out, &error))
+}
+
+fn file_of(mark: &Mark, edition: Edition) -> Result<Vec<u8>, Refusal> {
+    match edition {
+        Edition::One => mark.to_file(),
+        Edition::Two => mark.to_checked_file(),
+    }
 }
 
 /// The names that the system has for standard output. Opened by one of them, a file would not be written to where the output has come to.

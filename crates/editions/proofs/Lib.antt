@@ -1,0 +1,5 @@
+pub mod AsPlain
+pub mod Ways
+pub mod Files
+pub mod Theorems
+pub mod Coding
