@@ -1,8 +1,8 @@
 /* What only a caller in C can hand over, a null pointer with length 0 for each buffer; turbo and the failure oracle at their edges; one
- * letter, which has no file; files of edition 2, whose check is cut, wrong or not their last bytes; and the deepest calls there are, every
- * entry on eight threads at once. Each thread has a stack of 64 KiB, or the least that the system gives where that is more, above a page
- * that nobody may touch. It is painted before, and less than 64 KiB of it may be touched, by the calls and by what a thread needs of its
- * own. */
+ * letter, which has no file; files of edition 2, whose check is cut, wrong or not their last bytes; rides that are whole, that are cut, and
+ * whose headers are; and the deepest calls there are, every entry on eight threads at once. Each thread has a stack of 64 KiB, or the least
+ * that the system gives where that is more, above a page that nobody may touch. It is painted before, and less than 64 KiB of it may be
+ * touched, by the calls and by what a thread needs of its own. */
 #define _DEFAULT_SOURCE
 #include <inttypes.h>
 #include <pthread.h>
@@ -13,11 +13,13 @@
 
 #include "marks.h"
 
-enum { THREADS = 8, MOST = 64 * 1024, GUARD = MOST, PAINT = 0xa5, TEXT = 65536 };
+enum { THREADS = 8, MOST = 64 * 1024, GUARD = MOST, PAINT = 0xa5, TEXT = 65536, RIDES = 3 };
 
 static uint16_t tables[MARKS_FAILURE_TABLES(MARKS_LEAST_SAVED)], all_tables[MARKS_MOST_FAILURE_TABLES];
 static uint8_t room[MARKS_LEAST_SAVED], out[8], searcher[MARKS_SEARCHER], long_text[MARKS_LONGEST_TEXT + 1];
-static uint32_t finds[2];
+static uint16_t ride_tables[MARKS_RIDE_TABLES + 1];
+static uint8_t kinds[RIDES];
+static uint32_t finds[2], starts[RIDES];
 static uint64_t count, letters, failures, offset, told;
 static const uint64_t nowhere = UINT64_MAX;
 
@@ -318,6 +320,144 @@ static void checked_edges(void)
     longest_checked();
 }
 
+/* the table of a search for .FIT and nothing behind it, or nothing at all */
+static const char *ride_tables_left(void)
+{
+    uint16_t searched[MARKS_RIDE_TABLES];
+    uint64_t places;
+    if (all_are(ride_tables, sizeof ride_tables, PAINT))
+        return "as they were";
+    if (marks_search((const uint8_t *)".FIT", 4, NULL, 0, searched, MARKS_RIDE_TABLES, NULL, 0, &places, &letters) == MARKS_OK &&
+        memcmp(ride_tables, searched, sizeof searched) == 0 && all_are(ride_tables + MARKS_RIDE_TABLES, sizeof *ride_tables, PAINT))
+        return "as by a search";
+    return "others";
+}
+
+/* the rides that a call listed, what is behind them in both lists, and the tables; all of it was painted before, and the count was nowhere */
+static void print_rides(const char *what, uint32_t said)
+{
+    size_t i = 0;
+    int rest_kept;
+    printf("salvage, %s: %" PRIu32, what, said);
+    if (count != nowhere)
+        printf(", %" PRIu64 " rides", count);
+    for (; i < RIDES && kinds[i] != PAINT; i++)
+        printf(", %" PRIu32 " %s", starts[i], kinds[i] == MARKS_RIDE_WHOLE ? "whole" : kinds[i] == MARKS_RIDE_CUT ? "cut" : "of no kind");
+    rest_kept = all_are(starts + i, (RIDES - i) * sizeof *starts, PAINT) && all_are(kinds + i, RIDES - i, PAINT);
+    printf("; lists: %s; tables: %s\n", !rest_kept ? "more" : i == 0 ? "as they were" : "no more", ride_tables_left());
+}
+
+/* null pointers are handed over for tables and lists of which nothing is lent */
+static void salvage_in(const char *what, const uint8_t *text, size_t length, size_t tables_lent, size_t starts_lent, size_t kinds_lent)
+{
+    memset(ride_tables, PAINT, sizeof ride_tables);
+    memset(starts, PAINT, sizeof starts);
+    memset(kinds, PAINT, sizeof kinds);
+    count = nowhere;
+    print_rides(what, marks_salvage(text, length, tables_lent > 0 ? ride_tables : NULL, tables_lent, starts_lent > 0 ? starts : NULL, starts_lent,
+                                    kinds_lent > 0 ? kinds : NULL, kinds_lent, &count));
+}
+
+/* what is lent of each text; in most it is one header, whose first byte is 12 or 14, \14 or \16 here, and whose data size is in its bytes 4 to 7 */
+static const struct {
+    const char *what;
+    size_t length;
+    const char *bytes;
+} ride_texts[] = {
+    {"header of 12, no data, check", 14, "\14---\0\0\0\0.FIT\0\0"},
+    {"header of 12, no data, a byte of its check left", 13, "\14---\0\0\0\0.FIT\0"},
+    {"header of 12 alone", 12, "\14---\0\0\0\0.FIT"},
+    {"header of 12, its last byte cut", 11, "\14---\0\0\0\0.FI"},
+    {"header of 14, no data, check", 16, "\16---\0\0\0\0.FIT\0\0\0\0"},
+    {"header of 14, no data, a byte of its check left", 15, "\16---\0\0\0\0.FIT\0\0\0"},
+    {"header of 14 alone", 14, "\16---\0\0\0\0.FIT\0\0"},
+    {"header of 14, its last byte cut", 13, "\16---\0\0\0\0.FIT\0"},
+    {"header of 14, its last two bytes cut", 12, "\16---\0\0\0\0.FIT"},
+    {"header of 13", 16, "\15---\0\0\0\0.FIT\0\0\0\0"},
+    {"header of 0", 16, "\0---\0\0\0\0.FIT\0\0\0\0"},
+    {".FIT at 7, 12 at 0", 13, "\14--\0\0\0\0.FIT\0\0"},
+    {".FIT at 9, 12 at 0", 15, "\14----\0\0\0\0.FIT\0\0"},
+    {".FIT at 8, 12 at 7 and 1", 14, "-\14-----\14.FIT\0\0"},
+    {"data of 1, all there", 15, "\14---\1\0\0\0.FITx\0\0"},
+    {"data of 1, none there", 14, "\14---\1\0\0\0.FIT\0\0"},
+    {"data of 256, none there", 14, "\14---\0\1\0\0.FIT\0\0"},
+    {"data of 65,536, none there", 14, "\14---\0\0\1\0.FIT\0\0"},
+    {"data of 16,777,216, none there", 14, "\14---\0\0\0\1.FIT\0\0"},
+    {"data of FF FF FF FF", 14, "\14---\377\377\377\377.FIT\0\0"},
+    {"data of FF FF FF F2, so that all is 2 to the 32nd", 14, "\14---\362\377\377\377.FIT\0\0"},
+    {"data of FF FF FF FF behind another ride", 30, "\14---\0\0\0\0.FIT\0\0\16---\377\377\377\377.FIT\0\0\0\0"},
+    {"a ride in the data of another", 30, "\14---\20\0\0\0.FIT\16---\0\0\0\0.FIT\0\0\0\0\0\0"},
+    {"a cut ride in the data of another", 30, "\14---\20\0\0\0.FIT\16---\4\0\0\0.FIT\0\0\0\0\0\0"},
+    {"two marks and no header", 16, "----.FIT.FIT----"},
+};
+
+/* both lists get as many rides as fit the shorter one, here of three: one of 12 that is whole, one of 14, and one of 12 that is cut */
+static void salvage_lists(void)
+{
+    const uint8_t *three = (const uint8_t *)"\14---\0\0\0\0.FIT\0\0\16---\0\0\0\0.FIT\0\0\0\0\14---\0\0\0\0.FIT\0";
+    const size_t length = 43, room = MARKS_RIDE_TABLES;
+    salvage_in("three rides, lists of 3", three, length, room, 3, 3);
+    salvage_in("three rides, starts for 2 and kinds for 3", three, length, room, 2, 3);
+    salvage_in("three rides, starts for 3 and kinds for 2", three, length, room, 3, 2);
+    salvage_in("three rides, starts for 1 and kinds for 3", three, length, room, 1, 3);
+    salvage_in("three rides, starts for 3 and kinds for 1", three, length, room, 3, 1);
+    salvage_in("three rides, no starts", three, length, room, 0, 3);
+    salvage_in("three rides, no kinds", three, length, room, 3, 0);
+    salvage_in("three rides, no lists", three, length, room, 0, 0);
+    salvage_in("three rides, more tables than needed", three, length, room + 1, 3, 3);
+}
+
+static void salvage_refusals(void)
+{
+    const uint8_t *ride = (const uint8_t *)"\14---\0\0\0\0.FIT\0\0";
+    const size_t room = MARKS_RIDE_TABLES;
+    salvage_in("too long a text, no tables, no lists", long_text, sizeof long_text, 0, 0, 0);
+    salvage_in("too long a text, a table entry too few", long_text, sizeof long_text, room - 1, 3, 3);
+    salvage_in("too long a text", long_text, sizeof long_text, room, 3, 3);
+    salvage_in("the longest text, a table entry too few", long_text, MARKS_LONGEST_TEXT, room - 1, 3, 3);
+    salvage_in("a table entry too few", ride, 14, room - 1, 3, 3);
+    salvage_in("no tables", ride, 14, 0, 3, 3);
+    salvage_in("no text, no tables, no lists", NULL, 0, 0, 0, 0);
+    salvage_in("no text, no lists", NULL, 0, room, 0, 0);
+    salvage_in("no text", NULL, 0, room, 3, 3);
+}
+
+/* In the longest text one ride reaches to the last byte, and the next declares a byte more than is left; the last header begins 12 bytes before the end, and is
+ * listed where it has 12 bytes, not where it has 14. Then the first declares as many bytes as there are in all. */
+static void longest_salvage(void)
+{
+    const size_t most = MARKS_LONGEST_TEXT, last = most - 12, room = MARKS_RIDE_TABLES;
+    memcpy(long_text, "\14---\362\377\377\0.FIT", 12);
+    memcpy(long_text + 12, "\14---\347\377\377\0.FIT", 12);
+    memcpy(long_text + last, "\14---\0\0\0\0.FIT", 12);
+    salvage_in("the longest text", long_text, most, room, 3, 3);
+    salvage_in("the longest text but for its last byte", long_text, most - 1, room, 3, 3);
+    long_text[last] = 14;
+    salvage_in("the longest text, its last header two bytes short", long_text, most, room, 3, 3);
+    memcpy(long_text + 4, "\0\0\0\1", 4);
+    salvage_in("the longest text, data of 16,777,216", long_text, most, room, 3, 3);
+    memset(long_text, 0, 24);
+    memset(long_text + last, 0, 12);
+}
+
+/* what stands before a text that is lent would make a header of what is lent */
+static void salvage_behind(void)
+{
+    const uint8_t *ride = (const uint8_t *)"\14---\0\0\0\0.FIT\0\0";
+    salvage_in("a ride from its second byte on", ride + 1, 13, MARKS_RIDE_TABLES, RIDES, RIDES);
+    salvage_in("a ride from .FIT on", ride + 8, 6, MARKS_RIDE_TABLES, RIDES, RIDES);
+}
+
+static void salvage_edges(void)
+{
+    salvage_refusals();
+    for (size_t i = 0; i < sizeof ride_texts / sizeof *ride_texts; i++)
+        salvage_in(ride_texts[i].what, (const uint8_t *)ride_texts[i].bytes, ride_texts[i].length, MARKS_RIDE_TABLES, RIDES, RIDES);
+    salvage_behind();
+    salvage_lists();
+    longest_salvage();
+}
+
 static void null_buffers_of_streams(void)
 {
     const uint8_t *a = (const uint8_t *)"a", *aa = (const uint8_t *)"aa";
@@ -372,10 +512,10 @@ struct work {
     uint8_t word[MARKS_LONGEST_WORD], mirror[MARKS_LONGEST_WORD], text[TEXT], room[MARKS_LONGEST_WORD];
     uint8_t file[MARKS_MOST_FILE], checked[MARKS_MOST_FILE];
     uint16_t tables[MARKS_MOST_FAILURE_TABLES];
-    uint8_t searcher[MARKS_SEARCHER];
-    uint32_t finds[2], turbo_finds[2], failure_finds[2], file_finds[2], checked_finds[2], stream_finds[2], said;
+    uint8_t searcher[MARKS_SEARCHER], ride_kinds[2];
+    uint32_t finds[2], turbo_finds[2], failure_finds[2], file_finds[2], checked_finds[2], stream_finds[2], rides[2], said;
     uint64_t m, length, checked_length, count, turbo_count, failure_count, file_count, checked_count, before_cut, stream_count;
-    uint64_t letters, failures, offset, in_zeros[5];
+    uint64_t letters, failures, offset, ride_count, in_zeros[6];
     size_t cut;
     uint8_t *stack;
 };
@@ -424,6 +564,8 @@ static void *deepest(void *mine)
                                     &w->letters, &w->failures);
     w->said += marks_search_file(w->checked, w->checked_length, long_text, MARKS_LONGEST_TEXT, w->room, MARKS_LONGEST_WORD, w->tables,
                                  MARKS_MOST_TABLES, NULL, 0, &w->in_zeros[4], &w->letters, &w->offset);
+    w->said += marks_salvage(w->text, TEXT, w->tables, MARKS_RIDE_TABLES, w->rides, 2, w->ride_kinds, 2, &w->ride_count);
+    w->said += marks_salvage(long_text, MARKS_LONGEST_TEXT, w->tables, MARKS_RIDE_TABLES, NULL, 0, NULL, 0, &w->in_zeros[5]);
     w->said += marks_open(w->mirror, MARKS_LONGEST_STREAMED, w->searcher, MARKS_SEARCHER);
     w->said += marks_take(w->searcher, MARKS_SEARCHER, w->text, w->cut, w->stream_finds, 2, &w->before_cut);
     w->said += marks_take(w->searcher, MARKS_SEARCHER, w->text + w->cut, TEXT - w->cut, w->stream_finds, 2, &w->stream_count);
@@ -451,8 +593,9 @@ static void print_work(int i, const struct work *w)
     printf(", by turbo %" PRIu64 " at %" PRIu32, w->turbo_count, w->turbo_finds[0]);
     printf(", by failures %" PRIu64 " at %" PRIu32, w->failure_count, w->failure_finds[0]);
     printf(", in pieces %" PRIu64 " and %" PRIu64 " at %" PRIu32, w->before_cut, w->stream_count, w->stream_finds[0]);
+    printf(", %" PRIu64 " ride at %" PRIu32 " of kind %d", w->ride_count, w->rides[0], w->ride_kinds[0]);
     printf(", in zeros %" PRIu64 ", %" PRIu64 ", %" PRIu64 ", %" PRIu64, w->in_zeros[0], w->in_zeros[1], w->in_zeros[2], w->in_zeros[3]);
-    printf(" and %" PRIu64 "\n", w->in_zeros[4]);
+    printf(", %" PRIu64 " and %" PRIu64 "\n", w->in_zeros[4], w->in_zeros[5]);
 }
 
 int main(void)
@@ -465,6 +608,7 @@ int main(void)
     failure_edges();
     one_letter();
     checked_edges();
+    salvage_edges();
     for (int i = 0; i < THREADS; i++) {
         memset(works[i].word, 'a', MARKS_LONGEST_WORD - 1);
         works[i].word[MARKS_LONGEST_WORD - 1] = 'b';
@@ -472,6 +616,7 @@ int main(void)
         works[i].mirror[0] = 'b';
         memset(works[i].text, 'a', TEXT);
         works[i].text[1000 * i] = 'b';
+        memcpy(works[i].text + TEXT / 2 + 1000 * i, "\14---\0\0\0\0.FIT", 12);
         works[i].cut = 1000 * (size_t)i + MARKS_LONGEST_STREAMED / 2;
         if (start(&threads[i], &works[i]) != 0)
             return 1;

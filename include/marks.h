@@ -4,7 +4,8 @@
  * marks_save writes its index to a file of 5 to 20,481 bytes, but not that of a single letter, with which everybody would drown in finds; marks_save_checked
  * to one of two bytes more, edition 2, which ends with a check of all bytes before it, so that bits which were lost are noticed. marks_load reads either
  * edition, and marks_search_file searches with either. For a text that comes in pieces there are marks_open and marks_take, for marks of 1 to 64 bytes.
- * Programs to start from: c/find.c; c/parts.c, for more than 16 MiB and more finds than there is room for; c/pieces.c.
+ * marks_salvage lists the rides in an upload by their FIT headers, also where they were cut.
+ * Programs to start from: c/find.c; c/parts.c, for more than 16 MiB and more finds than there is room for; c/pieces.c; c/salvage.c, for rides that were cut.
  *
  * Which search: marks_turbo where strangers choose the text or the mark, as it reads no more than two letters for each letter of the text. marks_search
  * where you know both, as it is quicker on most texts, where letters are many up to five and a half times, but may read m letters for each of a hostile one.
@@ -35,9 +36,9 @@
 
 /* The version of the library: as numbers, and as text. */
 #define MARKS_VERSION_MAJOR 0
-#define MARKS_VERSION_MINOR 4
+#define MARKS_VERSION_MINOR 5
 #define MARKS_VERSION_PATCH 0
-#define MARKS_VERSION "0.4.0"
+#define MARKS_VERSION "0.5.0"
 
 /* What an entry returns: a number, and when exactly it is given. m is the number of letters of the word, for a file the one that it declares. */
 /* begin refusals: as tools/refusals writes them */
@@ -96,6 +97,11 @@ static inline const char *marks_meaning(uint32_t said)
 #define MARKS_MOST_FILE (5 * MARKS_LONGEST_WORD + 3)                        /* output for the file of every word, in either edition */
 #define MARKS_LONGEST_STREAMED 64                                           /* bytes of a word that a stream is opened for */
 #define MARKS_SEARCHER 134                                                  /* bytes of a searcher */
+
+/* What marks_salvage lists, and the room that it needs. */
+#define MARKS_RIDE_CUT 0                                                    /* the text ends before the ride does */
+#define MARKS_RIDE_WHOLE 1                                                  /* header, data and check end within the text */
+#define MARKS_RIDE_TABLES MARKS_TABLES(4)                                   /* table entries for .FIT: 30 */
 
 /* A result that is dropped is a refusal that nobody sees: compilers warn of it. */
 #if (defined(__cplusplus) && __cplusplus >= 201703L) || (defined(__STDC_VERSION__) && __STDC_VERSION__ >= 202311L)
@@ -165,6 +171,16 @@ MARKS_CHECKED uint32_t marks_failure_build(const uint8_t *word, size_t word_len,
  * Refusals: 1, 2, 4, 3 (fewer than MARKS_FAILURE_TABLES(m) entries). They change nothing. */
 MARKS_CHECKED uint32_t marks_failure_search(const uint8_t *word, size_t word_len, const uint8_t *text, size_t text_len, uint16_t *tables, size_t tables_len,
                                             uint32_t *finds, size_t finds_len, uint64_t *count, uint64_t *letters, uint64_t *failures);
+
+/* The rides in a text by their FIT headers, also where files were cut or stand one behind the other. A header is 12 or 14 bytes: its first byte is that
+ * size, bytes 4 to 7 say how many bytes of data follow it, low byte first, and bytes 8 to 11 are `.FIT`; behind the data is a check of two bytes. Each
+ * header that is wholly inside the text is listed: starts gets where it begins, kinds whether header, data and check end within the text,
+ * MARKS_RIDE_WHOLE, or not, MARKS_RIDE_CUT. Both lists get the first of them, rising, as many as fit the shorter one. What a header declares decides its
+ * kind and nothing else, and the check's value is not tested: a stranger may have written both. The first MARKS_RIDE_TABLES entries of tables are left as
+ * by marks_search for `.FIT`. The answer is how many headers are listed, fitting or not.
+ * Refusals: 4, 3 (fewer than MARKS_RIDE_TABLES entries). They change nothing. */
+MARKS_CHECKED uint32_t marks_salvage(const uint8_t *text, size_t text_len, uint16_t *tables, size_t tables_len, uint32_t *starts, size_t starts_len,
+                                     uint8_t *kinds, size_t kinds_len, uint64_t *count);
 
 /* Opens a stream: a searcher for a word of 1 to 64 bytes that has taken nothing, in the first MARKS_SEARCHER bytes of searcher.
  * Refusals: 1, 2 (longer than 64), 3 (fewer bytes lent). They change nothing. */

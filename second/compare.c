@@ -2,7 +2,7 @@
    offset, every byte of every lent buffer, and the guard zones before and behind each. The first difference is printed with its input and
    ends the run with status 1, and so does a refusal that an entry can give and that no case brought about, for files of each edition by
    itself, and so does a run where no failure oracle had a symbol arrow beside the spine, none two at one state, where every window that was
-   read whole was a find, or where a way in which a file of edition 2 can end was not met.
+   read whole was a find, or where a way in which a file of edition 2 can end was not met, or something that .FIT in a text can be of.
 
    compare [--seed N] [--seconds N] [--long]: the cases are the same for the same seed. --seconds goes on with mixed cases until so
    many seconds have passed; --long adds the costly ones.
@@ -42,7 +42,17 @@
      slip 236: past the worked examples, 13 leaves a letter in the word room on both sides
      slip 237: past the worked examples, both sides save a wrong check
      slip 238: past the worked examples, both sides show leftovers behind a check one byte late
-     slip 239: files of edition 2 that end inside the check are none of the cases */
+     slip 239: files of edition 2 that end inside the check are none of the cases
+     slip 348: past the worked examples, both sides count one ride fewer
+     slip 349: past the worked examples, both sides list the first ride one place late
+     slip 350: past the worked examples, both sides list the first ride with the other kind
+     slip 351: past the worked examples, salvage leaves a table with another letter on both sides
+     slip 352: past the worked examples, salvage changes the entry behind its tables on both sides
+     slip 353: past the worked examples, salvage changes the start behind those that are listed on both sides
+     slip 354: past the worked examples, salvage changes the kind behind those that are listed on both sides
+     slip 355: past the worked examples, both sides refuse a text that is too long with 3, where the tables are too short
+     slip 356: past the worked examples, both sides salvage with too short tables
+     slip 357: headers that end behind the text are none of the cases */
 #define _DEFAULT_SOURCE
 #include "entries.h"
 
@@ -236,6 +246,47 @@ static const char *const ending_name[ENDINGS] = {"no check",
                                                  "a wrong arrow, and the check at the end"};
 static uint64_t endings[ENDINGS][2];
 
+/* What .FIT in a text can be of: of no header as it is below 8, as another byte is where the size would be, as the header ends behind the
+   text; of a ride of each kind with a header of each size; of one that ends with the text, one byte behind it, or behind 32 bits and as
+   counted in 32 bits inside the text; of one that begins inside another's header, or inside a whole ride. Then that the one list or the
+   other is too short for the rides and shorter than the other, and a text that is too long with tables that are too short. How often each
+   was met. */
+enum met {
+    BELOW_8,
+    OTHER_SIZE,
+    HEADER_OUTSIDE,
+    SHORT_CUT,
+    SHORT_WHOLE,
+    LONG_CUT,
+    LONG_WHOLE,
+    ENDS_WITH_TEXT,
+    ONE_MISSING,
+    PAST_32_BITS,
+    IN_HEADER,
+    IN_RIDE,
+    STARTS_SHORTER,
+    KINDS_SHORTER,
+    LONG_AND_SHORT,
+    METS
+};
+
+static const char *const met_name[METS] = {".FIT below 8",
+                                           "another byte for the size",
+                                           "a header that ends behind the text",
+                                           "a cut ride, its header of 12",
+                                           "a whole ride, its header of 12",
+                                           "a cut ride, its header of 14",
+                                           "a whole ride, its header of 14",
+                                           "a ride that ends with the text",
+                                           "a ride of which one byte is missing",
+                                           "a ride that would end in the text in 32 bits alone",
+                                           "a ride that begins in another's header",
+                                           "a ride that begins in a whole one",
+                                           "too few starts, fewer than kinds",
+                                           "too few kinds, fewer than starts",
+                                           "too long a text with too short tables"};
+static uint64_t met[METS];
+
 static uint8_t *reserve(uint8_t *old, size_t bytes)
 {
     free(old);
@@ -323,7 +374,7 @@ static size_t first_other(const uint8_t *a, const uint8_t *b, size_t bytes)
 }
 
 /* says what is wrong with a slice after an answer, or nothing */
-static bool slice_differs(int s, uint32_t number, char *what, size_t room)
+static bool slice_differs(const struct asked *a, int s, const struct outcome *m, char *what, size_t room)
 {
     const struct zone *z = &zones[s];
     size_t all = z->at + z->bytes + GUARD, width = slice_width[s];
@@ -333,7 +384,7 @@ static bool slice_differs(int s, uint32_t number, char *what, size_t room)
                  z->bytes, z->marks[i], z->second[i], z->was[i]);
         return true;
     }
-    size_t behind = z->at + may_write(s, z->bytes / width, number) * width;
+    size_t behind = z->at + may_write(a->entry, s, a->len, m) * width;
     i = first_other(z->marks, z->was, z->at);
     if (i == z->at)
         i = behind + first_other(z->marks + behind, z->was + behind, all - behind);
@@ -467,6 +518,38 @@ static void slip_checked(const struct asked *a, struct outcome *m, struct outcom
         out->second[saved] = ++out->marks[saved];
     if (SLIP == 238 && m->number == 11 && m->offset + 1 < len)
         s->offset = ++m->offset;
+}
+
+/* the same change of a byte of a lent slice on both sides */
+static void change_both(int slice, size_t at)
+{
+    const struct zone *z = &zones[slice];
+    if (at < z->bytes)
+        z->second[z->at + at] = ++z->marks[z->at + at];
+}
+
+static void slip_salvage(const struct asked *a, struct outcome *m, struct outcome *s)
+{
+    bool done = m->number == 0, short_tables = a->len[TABLES] < entries_for(SALVAGE, RIDE_MARK_BYTES);
+    size_t fit = shorter(a->len[FINDS], a->len[RIDE_KINDS]), listed = done ? shorter(fit, (size_t)m->answer[0]) : 0;
+    if (SLIP == 348 && done && m->answer[0] > 0)
+        s->answer[0] = --m->answer[0];
+    if (SLIP == 349 && listed > 0)
+        change_both(FINDS, 0);
+    if (SLIP == 350 && listed > 0)
+        zones[RIDE_KINDS].second[zones[RIDE_KINDS].at] = zones[RIDE_KINDS].marks[zones[RIDE_KINDS].at] ^= 1;
+    if (SLIP == 351 && done)
+        leave_both(1, 0);
+    if (SLIP == 352 && done)
+        change_both(TABLES, entries_for(SALVAGE, RIDE_MARK_BYTES) * sizeof(uint16_t));
+    if (SLIP == 353 && done)
+        change_both(FINDS, listed * sizeof(uint32_t));
+    if (SLIP == 354 && done)
+        change_both(RIDE_KINDS, listed);
+    if (SLIP == 355 && m->number == 4 && short_tables)
+        say_both(3, 0, m, s);
+    if (SLIP == 356 && m->number == 3 && a->len[TEXT] == 0)
+        say_both(0, 0, m, s);
 }
 
 /* the mistakes of this file that happen after the call */
@@ -633,6 +716,76 @@ static void check_saved(const struct asked *a, struct lent l, const struct outco
         fail(a, "more than edition and check between a file of edition 2 and one of edition 1, given here as second opinion", m, &right);
 }
 
+/* counts what a ride's header shows, where it begins at a place and is wholly inside the text; where the ride ends */
+static uint64_t count_ride(const uint8_t *text, size_t n, size_t start)
+{
+    uint64_t end = start + text[start] + RIDE_CHECK_BYTES;
+    for (int i = 0; i < 4; i++)
+        end += (uint64_t)text[start + AT_DATA_SIZE + i] << 8 * i;
+    met[(text[start] == LONG_HEADER ? LONG_CUT : SHORT_CUT) + ride_is_whole(text, n, start)]++;
+    met[ENDS_WITH_TEXT] += end == n;
+    met[ONE_MISSING] += end == n + 1;
+    met[PAST_32_BITS] += end > UINT32_MAX && (uint32_t)end <= n;
+    return end;
+}
+
+/* where .FIT stands next from a place on; n where it does not */
+static size_t next_mark(const uint8_t *text, size_t n, size_t from)
+{
+    while (from + RIDE_MARK_BYTES <= n) {
+        const uint8_t *point = memchr(text + from, RIDE_MARK[0], n - RIDE_MARK_BYTES + 1 - from);
+        if (point == NULL)
+            return n;
+        if (memcmp(point, RIDE_MARK, RIDE_MARK_BYTES) == 0)
+            return (size_t)(point - text);
+        from = (size_t)(point - text) + 1;
+    }
+    return n;
+}
+
+/* counts what each .FIT in the text is of */
+static void count_marks(const uint8_t *text, size_t n)
+{
+    uint64_t headers = 0, rides = 0; /* where the headers so far and the whole rides so far end */
+    for (size_t q = next_mark(text, n, 0); q < n; q = next_mark(text, n, q + 1)) {
+        size_t start = q - AT_RIDE_MARK;
+        if (q < AT_RIDE_MARK)
+            met[BELOW_8]++;
+        else if (is_ride(text, n, start)) {
+            uint64_t end = count_ride(text, n, start);
+            met[IN_HEADER] += start < headers;
+            met[IN_RIDE] += start < rides;
+            headers = start + text[start];
+            rides = end <= n && end > rides ? end : rides;
+        } else
+            met[text[start] == LONG_HEADER ? HEADER_OUTSIDE : OTHER_SIZE] += SLIP != 357 || text[start] != LONG_HEADER;
+    }
+}
+
+/* What salvage is asked is asked of the library's search for .FIT, which must refuse alike and leave the tables alike. The rides are held
+   against the text. */
+static void check_salvage(const struct asked *a, struct lent l, const struct outcome *m)
+{
+    static uint8_t mark[] = RIDE_MARK;
+    const struct zone *tables = &zones[TABLES];
+    bool few_starts = a->len[FINDS] < a->len[RIDE_KINDS] && a->len[FINDS] < m->answer[0];
+    bool few_kinds = a->len[RIDE_KINDS] < a->len[FINDS] && a->len[RIDE_KINDS] < m->answer[0];
+    if (m->number == 0 && !lists_rides(&l, m->answer[0]))
+        fail(a, "both sides list other rides than those whose headers are in the text", m, m);
+    lend_again(a);
+    l.at[INPUT] = mark;
+    l.len[INPUT] = RIDE_MARK_BYTES;
+    l.len[FINDS] = 0;
+    struct outcome sought = ask_marks(SEARCH, &l);
+    if (sought.number != m->number || memcmp(tables->marks, tables->second, tables->at + tables->bytes + GUARD) != 0)
+        fail(a, "another refusal or other tables than of the library's search for .FIT, given here as second opinion", m, &sought);
+    if (m->number == 0)
+        count_marks(a->text, a->len[TEXT]);
+    met[STARTS_SHORTER] += m->number == 0 && few_starts;
+    met[KINDS_SHORTER] += m->number == 0 && few_kinds;
+    met[LONG_AND_SHORT] += m->number == 4 && a->len[TABLES] < entries_for(SALVAGE, RIDE_MARK_BYTES);
+}
+
 /* runs a case on both sides; ends the program at a difference. What the library left stays in zones[..].marks. */
 static struct outcome compare(const struct asked *a)
 {
@@ -652,10 +805,12 @@ static struct outcome compare(const struct asked *a)
         slip_failure(a, &m, &s);
     if (past_examples && (of_edition_2 || a->entry == SAVE_CHECKED))
         slip_checked(a, &m, &s);
+    if (past_examples && a->entry == SALVAGE)
+        slip_salvage(a, &m, &s);
     if (!same_outcome(&m, &s))
         fail(a, "the number, the answers or the offset", &m, &s);
     for (int i = 0; i < SLICES; i++)
-        if ((lent_slices[a->entry] & 1u << i) && !(a->inside && i == INPUT) && slice_differs(i, m.number, what, sizeof what))
+        if ((lent_slices[a->entry] & 1u << i) && !(a->inside && i == INPUT) && slice_differs(a, i, &m, what, sizeof what))
             fail(a, what, &m, &s);
     const char *wrong = wrong_in_itself(a->entry, &m, a->len);
     if (wrong != NULL)
@@ -674,6 +829,8 @@ static struct outcome compare(const struct asked *a)
         check_edition_2(a, for_second, &m);
     if (a->entry == SAVE_CHECKED)
         check_saved(a, for_second, &m);
+    if (a->entry == SALVAGE)
+        check_salvage(a, for_second, &m);
     seen[column_of(a->entry, a->input, a->len[INPUT])][m.number]++;
     return m;
 }
@@ -879,6 +1036,16 @@ static void set_taken(uint8_t *searcher, uint64_t taken)
 {
     for (int i = 0; i < 4; i++)
         searcher[AT_TAKEN + i] = (uint8_t)(taken >> (8 * i));
+}
+
+static struct outcome run_salvage(const uint8_t *text, size_t n, size_t starts, size_t kinds)
+{
+    struct asked a = ask(SALVAGE, NULL, 0, RIDE_MARK_BYTES);
+    a.text = text;
+    a.len[TEXT] = n;
+    a.len[FINDS] = starts;
+    a.len[RIDE_KINDS] = kinds;
+    return compare(&a);
 }
 
 /* build both oracles, save in each edition, load back; the last two are refused where it is one letter */
@@ -1554,6 +1721,87 @@ static void examples_of_failure(void)
     example_failure_rooms();
 }
 
+/* kinds: a w for each ride that is whole, a c for each that is cut; the starts belong to them */
+static void example_rides(const char *hex, const char *kinds, const uint32_t *starts)
+{
+    uint8_t text[64];
+    size_t n = from_hex(hex, text), count = strlen(kinds);
+    struct outcome o = run_salvage(text, n, count, count);
+    expect(o.number == 0 && o.answer[0] == count, hex);
+    for (size_t i = 0; i < count; i++) {
+        expect(memcmp(zones[FINDS].marks + zones[FINDS].at + 4 * i, starts + i, sizeof *starts) == 0, hex);
+        expect(zones[RIDE_KINDS].marks[zones[RIDE_KINDS].at + i] == (kinds[i] == 'w'), hex);
+    }
+}
+
+/* one header at the text's start */
+static void example_header(const char *hex, const char *kinds)
+{
+    example_rides(hex, kinds, (const uint32_t[]){0});
+}
+
+/* headers alone, with a byte of the check, with all of it, and with more; declared sizes that must not be believed, nor wrap */
+static void examples_of_headers(void)
+{
+    example_header("", "");
+    example_header("2E 46 49 54", "");
+    example_header("2E 46 49 54 2E 46 49 54 2E 46 49 54 2E 46 49 54", "");
+    example_header("0C 00 00 00 00 00 00 00 2E 46 49", "");
+    example_header("0C 00 00 00 00 00 00 00 2E 46 49 54", "c");
+    example_header("0C 00 00 00 00 00 00 00 2E 46 49 54 FF", "c");
+    example_header("0C 00 00 00 00 00 00 00 2E 46 49 54 FF FF", "w");
+    example_header("0C 00 00 00 00 00 00 00 2E 46 49 54 FF FF FF", "w");
+    example_header("0C 20 55 08 01 00 00 00 2E 46 49 54 FF FF", "c");
+    example_header("0C 20 55 08 01 00 00 00 2E 46 49 54 FF FF FF", "w");
+    example_header("0E 10 43 08 00 00 00 00 2E 46 49 54", "");
+    example_header("0E 10 43 08 00 00 00 00 2E 46 49 54 00", "");
+    example_header("0E 10 43 08 00 00 00 00 2E 46 49 54 00 00", "c");
+    example_header("0E 10 43 08 00 00 00 00 2E 46 49 54 12 34 FF", "c");
+    example_header("0E 10 43 08 00 00 00 00 2E 46 49 54 12 34 FF FF", "w");
+    example_header("0B 00 00 00 00 00 00 00 2E 46 49 54 FF FF FF FF", "");
+    example_header("0D 00 00 00 00 00 00 00 2E 46 49 54 FF FF FF FF", "");
+    example_header("0F 00 00 00 00 00 00 00 2E 46 49 54 FF FF FF FF", "");
+    example_header("0C 00 00 00 00 00 00 2E 46 49 54 FF FF FF FF", "");
+    example_header("0C 00 00 00 FF FF FF FF 2E 46 49 54 FF FF", "c");
+    example_header("0C 00 00 00 FE FF FF FF 2E 46 49 54 FF FF", "c");
+    example_header("0C 00 00 00 F2 FF FF FF 2E 46 49 54 FF FF", "c");
+    example_header("0C 00 00 00 00 00 00 80 2E 46 49 54 FF FF", "c");
+    example_header("0C 00 00 00 00 00 00 01 2E 46 49 54 FF FF FF", "c");
+    example_header("0C 00 00 00 00 01 00 00 2E 46 49 54 FF FF FF", "c");
+}
+
+/* two rides, the first whole and the second cut, with 0 to 39 table entries and lists of 0 to 3 entries each */
+static void example_ride_rooms(void)
+{
+    static const uint8_t two[] = "\x0C\0\0\0\0\0\0\0.FIT\xFF\xFF\x0E\0\0\0\1\0\0\0.FIT\0";
+    for (size_t c = 0; c < 40 * 4 * 4; c++) {
+        struct asked a = ask(SALVAGE, NULL, 0, RIDE_MARK_BYTES);
+        a.text = two;
+        a.len[TEXT] = sizeof two;
+        a.len[TABLES] = c / 16;
+        a.len[FINDS] = c / 4 % 4;
+        a.len[RIDE_KINDS] = c % 4;
+        struct outcome o = compare(&a);
+        expect(o.number == (c / 16 < 30 ? 3 : 0) && (o.number != 0 || o.answer[0] == 2), "two rides in every room and list");
+    }
+}
+
+/* Two files one behind the other, whole and cut; a header inside the data of a whole ride; headers that overlap; .FIT over and over, where
+   the second has a size before it; two bytes in front. */
+static void examples_of_salvage(void)
+{
+    examples_of_headers();
+    example_rides("0C 00 00 00 01 00 00 00 2E 46 49 54 AA FF FF 0E 00 00 00 00 00 00 00 2E 46 49 54 00 00 FF FF", "ww",
+                  (const uint32_t[]){0, 15});
+    example_rides("0C 00 00 00 01 00 00 00 2E 46 49 54 AA FF FF 0E 00 00 00 00 00 00 00 2E 46 49 54 00 00 FF", "wc",
+                  (const uint32_t[]){0, 15});
+    example_rides("0C 00 00 00 01 00 00 00 2E 46 49 54 AA FF FF 0E 00 00 00 00 00 00 00 2E 46 49 54 00", "w", (const uint32_t[]){0});
+    example_rides("0C 00 00 00 0C 00 00 00 2E 46 49 54 0C 00 00 00 FF FF FF FF 2E 46 49 54 FF FF", "wc", (const uint32_t[]){0, 12});
+    example_rides("0C 00 2E 46 49 54 0C 00 2E 46 49 54 0C 00 2E 46 49 54", "cc", (const uint32_t[]){0, 6});
+    example_rides("0C 00 00 00 2E 46 49 54 2E 46 49 54 2E 46 49 54", "c", (const uint32_t[]){0});
+    example_rides("0C 0C 0E 00 00 00 00 00 00 00 2E 46 49 54 00 00 FF FF", "w", (const uint32_t[]){2});
+    example_ride_rooms();
+}
 /* by the word alone, as one letter has no file */
 static void example_search_one_letter(void)
 {
@@ -1588,6 +1836,7 @@ static void examples(void)
     examples_of_failure();
     examples_of_loading();
     examples_of_streams();
+    examples_of_salvage();
 }
 
 /* ---- every word up to 8 letters over 3 ---- */
@@ -3334,6 +3583,497 @@ static void longest_texts(void)
     }
 }
 
+/* ---- rides by their FIT headers ---- */
+
+/* What a header may declare that begins at a place of a text of n bytes: what lets the ride end with the text, little less and little more,
+   and that with a bit too many or with its bytes at other places; what lets it end at 2^32, or a part of the sum; little, and much. */
+enum { DECLARED = 32 };
+
+static uint32_t declared(size_t n, size_t start, size_t size, size_t which)
+{
+    uint32_t before = (uint32_t)(start + size + RIDE_CHECK_BYTES), exact = (uint32_t)n - before;
+    const uint32_t sizes[DECLARED] = {exact,
+                                      exact - 1,
+                                      exact - 2,
+                                      exact - 3,
+                                      exact + 1,
+                                      exact + 2,
+                                      exact + 3,
+                                      exact + 12,
+                                      exact + 14,
+                                      exact + (1u << 8),
+                                      exact + (1u << 16),
+                                      exact + (1u << 24),
+                                      exact + (1u << 31),
+                                      exact << 8,
+                                      exact << 24,
+                                      exact << 24 | (exact & 0xFF00) << 8 | (exact >> 8 & 0xFF00) | exact >> 24,
+                                      0 - before,
+                                      1 - before,
+                                      0 - before - 1,
+                                      0 - (uint32_t)size - RIDE_CHECK_BYTES,
+                                      0 - (uint32_t)RIDE_CHECK_BYTES,
+                                      0 - (uint32_t)size,
+                                      0,
+                                      1,
+                                      2,
+                                      256,
+                                      65536,
+                                      MOST_TEXT,
+                                      MOST_TEXT + 1,
+                                      INT32_MAX,
+                                      1u << 31,
+                                      UINT32_MAX};
+    return sizes[which % DECLARED];
+}
+
+/* lists that are long enough for every .FIT of the text, or too short, each by itself */
+static struct outcome try_rides(const uint8_t *text, size_t n)
+{
+    size_t enough = n / RIDE_MARK_BYTES + below(3), starts = below(4) ? enough : below(4), kinds = below(4) ? enough : below(4);
+    return run_salvage(text, n, starts, kinds);
+}
+
+/* .FIT at q, so that below 8 the text begins inside the header; the text cut at every byte */
+static void one_header(size_t q, size_t size)
+{
+    uint8_t around[64], *header = around + 32, *text = header + AT_RIDE_MARK - q;
+    make_noise(around, sizeof around);
+    if (below(4))
+        memset(around, below(3) ? 0 : below(2) ? SHORT_HEADER : LONG_HEADER, sizeof around);
+    for (size_t n = 0; n <= q + 12; n++)
+        for (size_t which = 0; which < (n < q + RIDE_MARK_BYTES ? 1 : DECLARED); which++) {
+            put_header(header, size, declared(n, q - AT_RIDE_MARK, size, which));
+            try_rides(text, n);
+        }
+}
+
+/* each byte of a header, and of some bytes around it, with every value; the text ends so many bytes behind the header */
+static void every_value(size_t size, size_t behind)
+{
+    uint8_t text[32] = {0};
+    size_t n = 2 + size + behind;
+    for (size_t c = 0; c < 256 * n; c++) {
+        memset(text, 0, sizeof text);
+        put_header(text + 2, size, 1);
+        text[c / 256] = (uint8_t)c;
+        try_rides(text, n);
+    }
+}
+
+/* in the place of .FIT its letters changed in one bit or another, or exchanged, some of them or all */
+static void other_marks(size_t size)
+{
+    static const uint8_t bits[] = {0, 0x20, 0x80, 1};
+    uint8_t text[32] = {0}, *mark = text + AT_RIDE_MARK;
+    for (size_t number = 0; number < 8 * 8 * 8 * 8; number++) {
+        put_header(text, size, 0);
+        for (size_t i = 0, rest = number; i < RIDE_MARK_BYTES; i++, rest /= 8)
+            mark[i] = rest % 8 < 4 ? mark[i] ^ bits[rest % 8] : (uint8_t)RIDE_MARK[rest % 8 - 4];
+        try_rides(text, size + RIDE_CHECK_BYTES);
+    }
+}
+
+static void single_headers(void)
+{
+    static const uint8_t sizes[] = {0, 1, 8, 10, 11, 12, 13, 14, 15, 16, 28, 30, '.', 140, 142, 255};
+    for (size_t q = 0; q <= 20; q++)
+        for (size_t i = 0; i < sizeof sizes; i++)
+            one_header(q, sizes[i]);
+    for (size_t behind = 0; behind <= 4; behind++) {
+        every_value(SHORT_HEADER, behind);
+        every_value(LONG_HEADER, behind);
+    }
+    other_marks(SHORT_HEADER);
+    other_marks(LONG_HEADER);
+}
+
+struct piece {
+    const char *bytes;
+    size_t len;
+};
+
+/* every text of up to so many pieces, each of them one of a few, behind so many bytes that stay */
+static void every_text_of(const struct piece *pieces, size_t many, size_t longest, const char *front, size_t front_len)
+{
+    uint8_t text[128];
+    memcpy(text, front, front_len);
+    for (size_t k = 0, texts = 1; k <= longest; k++, texts *= many)
+        for (size_t number = 0; number < texts; number++) {
+            size_t n = front_len;
+            for (size_t i = 0, rest = number; i < k; i++, rest /= many) {
+                memcpy(text + n, pieces[rest % many].bytes, pieces[rest % many].len);
+                n += pieces[rest % many].len;
+            }
+            try_rides(text, n);
+        }
+}
+
+/* Five pieces of the first kind can be a header, and six a ride; of the second and the third, headers can overlap, and .FIT can be what one
+   declares; the last are letters where a header has .FIT. */
+static void texts_of_pieces(size_t more)
+{
+    static const struct piece rides[] = {{"\x0C", 1}, {"\x0E", 1}, {"\0\0\0", 3}, {"\1", 1}, {RIDE_MARK, RIDE_MARK_BYTES}};
+    static const struct piece short_ones[] = {{"\x0C", 1}, {"\0", 1}, {RIDE_MARK, RIDE_MARK_BYTES}};
+    static const struct piece long_ones[] = {{"\x0E", 1}, {"\2", 1}, {RIDE_MARK, RIDE_MARK_BYTES}};
+    static const struct piece letters[] = {{".", 1}, {"F", 1}, {"I", 1}, {"T", 1}, {"\x0C", 1}};
+    every_text_of(rides, 5, 8 + more, "", 0);
+    every_text_of(short_ones, 3, 11 + 2 * more, "", 0);
+    every_text_of(long_ones, 3, 11 + 2 * more, "", 0);
+    every_text_of(letters, 5, 6 + 2 * more, "\x0C\0\0\0\0\0\0\0", 8);
+}
+
+static void short_ride_texts(void)
+{
+    texts_of_pieces(0);
+}
+
+static void longer_ride_texts(void)
+{
+    texts_of_pieces(1);
+}
+
+/* ---- files of rides, one behind the other ---- */
+
+/* A ride file: its length. Its data are bytes by chance, now and then with a header or with .FIT among them; its check is right now and
+   then, and so is that of a header of 14. */
+static size_t put_ride(uint8_t *out, size_t data)
+{
+    size_t size = below(2) ? SHORT_HEADER : LONG_HEADER, room = data >= SHORT_HEADER ? data - SHORT_HEADER : 0;
+    make_noise(out, size + data + RIDE_CHECK_BYTES);
+    if (data >= SHORT_HEADER && below(3) == 0)
+        put_header(out + size + below(room + 1), below(2) ? SHORT_HEADER : LONG_HEADER, (uint32_t)below(2 * data));
+    if (data >= RIDE_MARK_BYTES && below(6) == 0)
+        memcpy(out + size + below(data - RIDE_MARK_BYTES + 1), RIDE_MARK, RIDE_MARK_BYTES);
+    put_header(out, size, (uint32_t)data);
+    if (size == LONG_HEADER && below(2))
+        seal(out, SHORT_HEADER);
+    return below(2) ? seal(out, size + data) : size + data + RIDE_CHECK_BYTES;
+}
+
+static size_t put_rides(uint8_t *out, size_t rides, size_t most_data)
+{
+    size_t n = 0;
+    for (size_t i = 0; i < rides; i++)
+        n += put_ride(out + n, some_length(most_data));
+    return n;
+}
+
+/* cut at the end and at the front at every byte, every byte taken away, and every byte changed, in a bit and to any */
+static void break_rides(uint8_t *text, size_t n)
+{
+    uint8_t other[400];
+    for (size_t at = 0; at < n; at++) {
+        uint8_t own = text[at];
+        try_rides(text, at);
+        try_rides(text + at, n - at);
+        memcpy(other, text, at);
+        memcpy(other + at, text + at + 1, n - at - 1);
+        try_rides(other, n - 1);
+        text[at] = own ^ (uint8_t)(1 << below(8));
+        try_rides(text, n);
+        text[at] = (uint8_t)chance();
+        try_rides(text, n);
+        text[at] = own;
+    }
+}
+
+static void chained_rides(void)
+{
+    uint8_t text[400];
+    for (int i = 0; i < 400; i++)
+        break_rides(text, put_rides(text, 1 + below(5), 60));
+}
+
+/* lists of every length up to some more than there are rides, each by itself */
+static void every_ride_list(const uint8_t *text, size_t n, size_t count)
+{
+    size_t all = count + 4;
+    for (size_t c = 0; c < all * all * FILLS; c++) {
+        struct asked a = ask(SALVAGE, NULL, 0, RIDE_MARK_BYTES);
+        a.text = text;
+        a.len[TEXT] = n;
+        a.len[FINDS] = c % all;
+        a.len[RIDE_KINDS] = c / all % all;
+        a.fill = (enum fill)(c / all / all);
+        a.nulls = below(2);
+        compare(&a);
+    }
+}
+
+/* a text, which may be empty, with tables of 0 to some more entries than are needed, and where more than 16 bits count them */
+static void rooms_around(const uint8_t *text, size_t n)
+{
+    static const size_t many[] = {65535, 65536, 65536 + 5, 65536 + 29, 65536 + 30, 131072};
+    for (size_t c = 0; c < (50 + sizeof many / sizeof *many) * FILLS * 9; c++) {
+        size_t tables = c / 9 / FILLS;
+        struct asked a = ask(SALVAGE, NULL, 0, RIDE_MARK_BYTES);
+        a.text = text;
+        a.len[TEXT] = n;
+        a.len[TABLES] = tables < 50 ? tables : many[tables - 50];
+        a.len[FINDS] = c % 3 * 2;
+        a.len[RIDE_KINDS] = c / 3 % 3 * 2;
+        a.fill = (enum fill)(c / 9 % FILLS);
+        a.nulls = below(2);
+        compare(&a);
+    }
+}
+
+static void rooms_of_rides(void)
+{
+    uint8_t text[200];
+    rooms_around(NULL, 0);
+    rooms_around((const uint8_t *)"no ride is here", 15);
+    rooms_around((const uint8_t *)"\x0C.FIT", 5);
+    rooms_around(text, put_overlapping(text, 3));
+    rooms_around(text, put_rides(text, 3, 20));
+}
+
+/* lists for no ride to nine, and tables */
+static void ride_lists_and_rooms(void)
+{
+    uint8_t text[2000];
+    rooms_of_rides();
+    for (size_t rides = 0; rides <= 9; rides++) {
+        every_ride_list(text, put_overlapping(text, rides), rides);
+        size_t n = put_rides(text, rides, 100);
+        every_ride_list(text, n, (size_t)run_salvage(text, n, 0, 0).answer[0]);
+    }
+}
+
+/* ---- many rides, and many .FIT ---- */
+
+/* exactly so many rides, behind one another, or overlapping; lists one short, exact, and one longer */
+static void so_many_rides(size_t rides, bool overlapping)
+{
+    size_t n = overlapping ? put_overlapping(long_text, rides) : 0;
+    for (size_t i = 0; i < rides && !overlapping; i++) {
+        memset(long_text + n, 0, 20);
+        put_header(long_text + n, i % 3 ? SHORT_HEADER : LONG_HEADER, i % 5 ? 2 : UINT32_MAX);
+        n += i % 3 ? 16 : 18;
+    }
+    size_t starts = rides + below(3), kinds = rides + below(3);
+    struct outcome o = run_salvage(long_text, n, starts > 0 ? starts - 1 : 0, kinds > 0 ? kinds - 1 : 0);
+    expect(o.answer[0] == rides, "so many rides");
+}
+
+/* .FIT over and over; behind so many of them a size is put before the next but one, which makes it a header's */
+static void dense_marks(size_t before, size_t behind, size_t size)
+{
+    size_t n = 0;
+    for (size_t i = 0; i < before + behind + 1; i++, n += RIDE_MARK_BYTES)
+        memcpy(long_text + n, RIDE_MARK, RIDE_MARK_BYTES);
+    memset(long_text + RIDE_MARK_BYTES * before, 0, RIDE_MARK_BYTES);
+    long_text[RIDE_MARK_BYTES * before] = (uint8_t)size;
+    struct outcome o = run_salvage(long_text, n, below(3), below(3));
+    expect(o.answer[0] == (n - RIDE_MARK_BYTES * before >= size && behind >= 2), ".FIT over and over");
+}
+
+static void many_rides(void)
+{
+    for (size_t rides = 0; rides <= 520; rides++)
+        so_many_rides(rides, rides % 2);
+    for (size_t power = 1024; power <= 65536; power *= 2)
+        for (size_t rides = power - 2; rides <= power + 2; rides++)
+            so_many_rides(rides, power > 8192 || below(2));
+    for (size_t before = 0; before <= 2100; before++)
+        dense_marks(before, below(8) ? 2 + below(3) : below(2000), before % 3 ? SHORT_HEADER : LONG_HEADER);
+    for (size_t power = 4096; power <= 65536; power *= 2)
+        for (size_t before = power / 4 - 5; before <= power / 4 + 2; before++)
+            dense_marks(before, 2 + below(3), SHORT_HEADER);
+    for (int i = 0; i < 60; i++)
+        dense_marks(below(40000), below(3000), SHORT_HEADER);
+}
+
+/* ---- headers near the seams of a text that is gone through in parts, wherever these are ---- */
+
+/* bytes without a ride */
+static void put_filler(uint8_t *out, size_t n)
+{
+    if (below(4) == 0)
+        memset(out, below(2) ? 0 : SHORT_HEADER, n);
+    else
+        make_noise(out, n);
+}
+
+/* a header that begins at a place of a text of n bytes, mostly of a ride that ends with the text */
+static void put_some_header(uint8_t *text, size_t n, size_t at)
+{
+    size_t size = below(2) ? SHORT_HEADER : LONG_HEADER;
+    put_header(text + at, size, declared(n, at, size, below(2) ? 0 : below(DECLARED)));
+}
+
+/* headers at a place and every so many bytes behind it */
+static void comb(size_t n, size_t first, size_t step)
+{
+    size_t enough = n / step + 2;
+    put_filler(long_text, n);
+    for (size_t at = first; at + SHORT_HEADER <= n; at += step)
+        put_some_header(long_text, n, at);
+    run_salvage(long_text, n, below(8) ? enough : below(enough), below(8) ? enough : below(enough));
+}
+
+/* one header by itself at each of these places, or with steps by chance between them, in a text that ends with it or a little behind it */
+static void sweep(size_t from, size_t to, size_t longest_step)
+{
+    enum { MOST_BEHIND = 40 };
+    put_filler(long_text, to + SHORT_HEADER + MOST_BEHIND);
+    for (size_t at = from; at < to; at += 1 + below(longest_step)) {
+        uint8_t kept[SHORT_HEADER];
+        size_t n = at + SHORT_HEADER + below(below(2) ? 5 : MOST_BEHIND + 1);
+        memcpy(kept, long_text + at, sizeof kept);
+        put_some_header(long_text, n, at);
+        run_salvage(long_text, n, 1 + below(2), 1 + below(2));
+        memcpy(long_text + at, kept, sizeof kept);
+    }
+}
+
+/* Around every multiple of so many bytes a header, as far from it in each of them: from wholly before it to wholly behind it. */
+static void around_multiples(size_t part, size_t n)
+{
+    for (size_t before = 0; before <= 2 * LONG_HEADER; before++) {
+        put_filler(long_text, n);
+        for (size_t seam = part; seam + LONG_HEADER + SHORT_HEADER <= n; seam += part)
+            put_some_header(long_text, n, seam + LONG_HEADER - before);
+        run_salvage(long_text, n, n / part, n / part);
+    }
+}
+
+/* Texts that end with a multiple of so many bytes, or some bytes before or behind it, where a header is just inside them, or a ride. */
+static void ends_near(size_t multiple)
+{
+    put_filler(long_text, multiple + LONG_HEADER);
+    for (size_t n = multiple - LONG_HEADER; n <= multiple + LONG_HEADER; n++)
+        for (size_t behind = 0; behind <= 4; behind += 2) {
+            uint8_t kept[SHORT_HEADER], *header = long_text + n - SHORT_HEADER - behind;
+            memcpy(kept, header, sizeof kept);
+            put_some_header(long_text, n, n - SHORT_HEADER - behind);
+            run_salvage(long_text, n, 1, 1);
+            memcpy(header, kept, sizeof kept);
+        }
+}
+
+/* A header at every place up to 140,000 with others at several distances, up to 41,000 with few others; and by itself around powers of two
+   and their multiples, and at one place of four up to 40,000. */
+static void ride_seams(void)
+{
+    static const size_t steps[] = {12, 13, 14, 15, 16, 17, 31, 61};
+    for (size_t i = 0; i < sizeof steps / sizeof *steps; i++)
+        for (size_t first = 0; first < steps[i]; first++)
+            comb(140000 + below(100), first, steps[i]);
+    for (size_t first = 0; first < 1013; first++)
+        comb(41000 + below(100), first, 1013);
+    for (size_t part = 256; part <= 131072; part *= 2) {
+        around_multiples(part, 2 * part < 140000 ? 140000 : 3 * part);
+        for (size_t multiple = part; multiple <= 3 * part && multiple <= 131072; multiple += part) {
+            sweep(multiple - 32, multiple + 20, 1);
+            ends_near(multiple);
+        }
+    }
+    for (size_t multiple = 4 * 4096; multiple <= 10 * 4096; multiple += 4096)
+        sweep(multiple - 32, multiple + 20, 1);
+    sweep(0, 40000, 7);
+}
+
+static void every_place(void)
+{
+    sweep(0, 70000, 1);
+}
+
+/* ---- texts with rides by chance ---- */
+
+enum { LONGEST_PIECE = 4096 };
+
+/* a ride, a header, a beginning of one, .FIT, or other bytes, at a place of a text of n bytes, and maybe behind its end; its length */
+static size_t put_ride_piece(uint8_t *text, size_t n, size_t at)
+{
+    uint8_t *out = text + at;
+    size_t len = some_length(60), far = some_length(LONGEST_PIECE), size = below(2) ? SHORT_HEADER : LONG_HEADER;
+    switch (below(10)) {
+    case 0: make_noise(out, len); return len;
+    case 1: memset(out, below(2) ? 0 : (int)size, len); return len;
+    case 2: make_noise(out, far); return far;
+    case 3: put_header(out, 10 + below(7), (uint32_t)below(100)); return SHORT_HEADER + below(3);
+    case 4: memcpy(out, RIDE_MARK, RIDE_MARK_BYTES); return RIDE_MARK_BYTES;
+    case 5: put_some_header(text, n, at); return below(SHORT_HEADER);
+    case 6: return put_overlapping(out, below(12)) - 2;
+    case 7: return put_ride(out, len);
+    case 8: put_header(out, size, (uint32_t)len); return size;
+    default: put_some_header(text, n, at); return SHORT_HEADER + below(5);
+    }
+}
+
+/* pieces one behind the other; there is room for one behind the text's end */
+static void make_ride_text(uint8_t *out, size_t n)
+{
+    for (size_t at = 0; at < n;)
+        at += put_ride_piece(out, n, at);
+}
+
+/* ---- the longest texts with rides ---- */
+
+/* headers near every multiple of 1,048,576, as far from it as is said, and one that ends with the text, or just not */
+static void rides_in_longest(uint8_t *text, size_t before, size_t size, size_t behind)
+{
+    make_noise(text, MOST_TEXT);
+    for (size_t seam = 1 << 20; seam < MOST_TEXT; seam += 1 << 20)
+        put_some_header(text, MOST_TEXT, seam - before);
+    size_t at = MOST_TEXT - SHORT_HEADER - behind;
+    put_header(text + at, size, declared(MOST_TEXT, at, size, 0));
+    run_salvage(text, MOST_TEXT, 20, 16 + below(5));
+}
+
+/* refused with 4 whatever the tables are */
+static void rides_past_longest(const uint8_t *text)
+{
+    static const size_t tables[] = {0, 29, 30, 31};
+    for (size_t i = 0; i < sizeof tables / sizeof *tables; i++) {
+        struct asked a = ask(SALVAGE, NULL, 0, RIDE_MARK_BYTES);
+        a.text = text;
+        a.len[TEXT] = MOST_TEXT + 1;
+        a.len[TABLES] = tables[i];
+        a.len[FINDS] = a.len[RIDE_KINDS] = 5;
+        expect(compare(&a).number == 4, "a text that is too long");
+    }
+}
+
+/* the longest text, full of rides whose headers overlap, and full of .FIT alone */
+static void most_rides(uint8_t *text)
+{
+    size_t rides = (MOST_TEXT - 8) / 6, n = put_overlapping(text, rides);
+    memset(text + n, 0, MOST_TEXT - n);
+    expect(run_salvage(text, MOST_TEXT, rides, rides + 1).answer[0] == rides, "overlapping rides in the longest text");
+    expect(run_salvage(text, MOST_TEXT, 2000, 1000).answer[0] == rides, "overlapping rides in the longest text");
+    for (size_t at = 0; at < MOST_TEXT; at += RIDE_MARK_BYTES)
+        memcpy(text + at, RIDE_MARK, RIDE_MARK_BYTES);
+    expect(run_salvage(text, MOST_TEXT, 3, 3).answer[0] == 0, ".FIT alone in the longest text");
+}
+
+static void longest_rides(void)
+{
+    static const size_t behind[] = {0, 1, 2, 3, 4, 8};
+    uint8_t *text = reserve(NULL, MOST_TEXT + LONGEST_PIECE);
+    for (size_t i = 0; i < sizeof behind / sizeof *behind; i++)
+        rides_in_longest(text, 3 * i, i % 3 ? SHORT_HEADER : LONG_HEADER, behind[i]);
+    make_ride_text(text, MOST_TEXT);
+    run_salvage(text, MOST_TEXT, MOST_TEXT / 100, MOST_TEXT / 100);
+    rides_past_longest(text);
+    most_rides(text);
+    free(text);
+}
+
+/* a header at each of the last places of the longest text, others at each place before a multiple of 1,048,576; and rides by chance */
+static void more_longest_rides(void)
+{
+    uint8_t *text = reserve(NULL, MOST_TEXT + LONGEST_PIECE);
+    for (size_t i = 0; i <= 40; i++) {
+        rides_in_longest(text, i, i % 2 ? SHORT_HEADER : LONG_HEADER, i / 2);
+        make_ride_text(text, MOST_TEXT - below(100));
+        run_salvage(text, MOST_TEXT - below(2), MOST_TEXT / 100, MOST_TEXT / 100);
+    }
+    free(text);
+}
+
 /* ---- texts at the limit and one past it ---- */
 
 static void texts_at_the_limit(void)
@@ -3412,11 +4152,14 @@ static void vast_slice(enum entry entry, int slice, size_t more, const uint8_t *
 {
     enum { LOOKED_AT = 65536 };
     static uint8_t room[2][LOOKED_AT * SLICES];
+    uint8_t rides[64];
+    size_t len = (UINT64_C(1) << 32) + more, bytes = len * slice_width[slice], rides_len = put_overlapping(rides, 3);
+    const uint8_t *text = entry == SALVAGE ? rides : (const uint8_t *)"abcabbba";
     struct asked a = ask(entry, input, input_len, m);
-    size_t len = (UINT64_C(1) << 32) + more, bytes = len * slice_width[slice];
     struct lent l[2];
     struct outcome o[2];
-    a.len[TEXT] = a.len[FINDS] = 8;
+    size_t text_len = a.len[TEXT] = entry == SALVAGE ? rides_len : 8;
+    a.len[FINDS] = a.len[RIDE_KINDS] = 8;
     a.len[OUT] = 4096;
     a.len[slice] = len;
     cases++;
@@ -3426,7 +4169,7 @@ static void vast_slice(enum entry entry, int slice, size_t more, const uint8_t *
             l[side].len[s] = a.len[s];
         }
         memcpy(l[side].at[INPUT], input, input_len);
-        memcpy(l[side].at[TEXT], "abcabbba", 8);
+        memcpy(l[side].at[TEXT], text, text_len);
         if (entry == TAKE)
             second_open(input, input_len, l[side].at[SEARCHER], SEARCHER_BYTES);
         o[side] = side == 0 ? ask_marks(entry, &l[side]) : ask_second(entry, &l[side]);
@@ -3442,7 +4185,7 @@ static void vast_slice(enum entry entry, int slice, size_t more, const uint8_t *
 }
 
 /* Also files of edition 2 of which 0, 1 or 2 bytes would be left behind the arrows, where the check is wrong, or 0 behind the check, if
-   they were counted in 32 bits. */
+   they were counted in 32 bits; and lists that would be too short for three rides, and other slices that would do. */
 static void vast_slices(void)
 {
     uint8_t file[MOST_FILE], checked[MOST_FILE];
@@ -3461,6 +4204,10 @@ static void vast_slices(void)
         vast_slice(LOAD, INPUT, more, checked, size, m);
         vast_slice(SEARCH_FILE, INPUT, more, checked, checked_size, m);
     }
+    for (size_t more = 0; more <= 30; more++)
+        for (int s = 0; s < SLICES; s++)
+            if (lent_slices[SALVAGE] & 1u << s)
+                vast_slice(SALVAGE, s, more, word, m, RIDE_MARK_BYTES);
 }
 
 /* ---- null pointers with length 0 ---- */
@@ -3479,7 +4226,7 @@ static void nulls_around(unsigned edition, const uint8_t *word, size_t m)
             a.searcher = entry == TAKE ? searcher : NULL;
             a.len[TEXT] = 13;
             a.len[OUT] = size;
-            a.len[FINDS] = 2;
+            a.len[FINDS] = a.len[RIDE_KINDS] = 2;
             a.nulls = true;
             for (int s = 0; s < SLICES; s++)
                 if (empty & 1u << s)
@@ -3616,6 +4363,23 @@ static void mixed_case(void)
     ask_mixed(entry, word, m, text, n);
 }
 
+/* rides in a text of at most so many bytes; tables, lists and what stands in them by chance */
+static void mixed_rides(size_t most)
+{
+    static uint8_t text[400000 + LONGEST_PIECE];
+    struct asked a = ask(SALVAGE, NULL, 0, RIDE_MARK_BYTES);
+    size_t n = some_length(most), enough = n / 20;
+    make_ride_text(text, n);
+    a.text = text;
+    a.len[TEXT] = n;
+    a.len[TABLES] = below(10) ? some_room(a.len[TABLES]) : below(60);
+    a.len[FINDS] = below(2) ? enough : some_length(enough);
+    a.len[RIDE_KINDS] = below(2) ? enough : some_length(enough);
+    a.fill = (enum fill)below(FILLS);
+    a.nulls = below(2);
+    compare(&a);
+}
+
 /* a search in a text that is long, or not quite */
 static void mixed_long_case(void)
 {
@@ -3655,13 +4419,18 @@ static void mixed_cases(void)
         mixed_case();
         if (i % 20 == 0)
             mixed_stream();
+        if (i % 5 == 0)
+            mixed_rides(600);
     }
 }
 
 static void mixed_long_cases(void)
 {
-    for (int i = 0; i < 20000; i++)
+    for (int i = 0; i < 20000; i++) {
         mixed_long_case();
+        if (i % 10 == 0)
+            mixed_rides(i % 100 == 0 ? 400000 : 70000);
+    }
 }
 
 static double until;
@@ -3672,8 +4441,11 @@ static void more_mixed_cases(void)
         for (int i = 0; i < 100; i++) {
             mixed_case();
             mixed_stream();
-            if (i % 10 == 0)
+            mixed_rides(600);
+            if (i % 10 == 0) {
                 mixed_long_case();
+                mixed_rides(70000);
+            }
         }
 }
 
@@ -3743,6 +4515,19 @@ static bool print_endings(void)
     return missing;
 }
 
+/* how often what .FIT can be of was met; whether something was not */
+static bool print_met(void)
+{
+    bool missing = false;
+    printf("salvaged:");
+    for (int i = 0; i < METS; i++) {
+        printf("%s %s %" PRIu64, i == 0 ? "" : ";", met_name[i], met[i]);
+        missing = missing || met[i] == 0;
+    }
+    printf("\n");
+    return missing;
+}
+
 /* how many failure oracles had what few words have, and how many windows were read whole without a find; whether there was none */
 static bool print_rare(void)
 {
@@ -3760,6 +4545,15 @@ static void all_parts(bool costly)
     if (SLIP == 31)
         return;
     past_examples = true;
+    part("rides: .FIT at 0 to 20, headers of each size, cut at each byte, with each size of the data, each byte with every value",
+         single_headers);
+    part("rides: every text of up to 8 of five pieces, of up to 11 of three, of up to 6 letters behind a header's beginning",
+         short_ride_texts);
+    part("rides: files one behind the other, cut, short of a byte and changed at every byte", chained_rides);
+    part("rides: lists and tables too short, exact and too long", ride_lists_and_rooms);
+    part("rides: as many as 520, and around powers of two; .FIT over and over", many_rides);
+    part("rides: headers at every place up to 140,000; by themselves around powers of two and their multiples", ride_seams);
+    part("rides: texts of the most bytes and of one more", longest_rides);
     part("every word of 1 to 8 letters over 3: build, save, load back, search", short_words);
     part("files of edition 2: every ending, every check, single bits, what a check does not see", checked_files);
     part("every word of 1 to 6 letters over 2 in every text of up to 10: search, with a file too, and failure search", short_texts);
@@ -3799,6 +4593,10 @@ static void all_parts(bool costly)
              longer_failure_oracles);
         part("words of the most letters and texts of the most bytes, by strangers: turbo", longest_hostiles);
         part("words of 2 to 16 letters, and longer ones, in long texts up to the most bytes", longest_texts);
+        part("rides: every text of up to 9 of five pieces, of up to 13 of three, of up to 8 letters behind a header's beginning",
+             longer_ride_texts);
+        part("rides: one header by itself at every place up to 70,000", every_place);
+        part("rides: more texts of the most bytes", more_longest_rides);
         part("300 a's in the longest text, of a's alone", hostile_text);
         part("4,096 a's in a text of 2,097,152 a's", hostile_word);
     }
@@ -3826,14 +4624,16 @@ int main(int argc, char **argv)
     for (size_t i = 0; i < NOISE; i++)
         noise[i] = (uint8_t)chance();
     all_parts(costly);
-    bool missing = print_seen(), unmet = print_endings(), rare = print_rare();
+    bool missing = print_seen(), unmet = print_endings(), rare = print_rare(), other = print_met();
     if (missing)
         printf("DIFFERENT: a refusal that can be given was never seen\n");
     else if (unmet)
         printf("DIFFERENT: a way in which a file of edition 2 can end was never met\n");
     else if (rare)
         printf("DIFFERENT: no failure oracle was seen that few words have, or no window that is read whole without a find\n");
+    else if (other)
+        printf("DIFFERENT: something that .FIT in a text can be of, or a list or text that salvage can be lent, was never met\n");
     else
         printf("second opinion: seed %" PRIu64 ", %" PRIu64 " cases, no difference, %.1f s\n", seed, cases, seconds() - begun);
-    return missing || unmet || rare ? 1 : 0;
+    return missing || unmet || rare || other ? 1 : 0;
 }

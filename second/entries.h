@@ -1,4 +1,4 @@
-/* The eleven entries of both sides by number, so that the comparison and the attack can ask either side the same thing in one line.
+/* The twelve entries of both sides by number, so that the comparison and the attack can ask either side the same thing in one line.
    This is all that the two share with each other; neither implementation sees it. */
 #ifndef ENTRIES_H
 #define ENTRIES_H
@@ -12,17 +12,19 @@
 #include <stdlib.h>
 #include <string.h>
 
-enum entry { BUILD, SAVE, SAVE_CHECKED, LOAD, SEARCH, TURBO, SEARCH_FILE, FAILURE_SEARCH, FAILURE_BUILD, OPEN, TAKE, ENTRIES };
+enum entry { BUILD, SAVE, SAVE_CHECKED, LOAD, SEARCH, TURBO, SEARCH_FILE, FAILURE_SEARCH, FAILURE_BUILD, OPEN, TAKE, SALVAGE, ENTRIES };
 
 static const char *const entry_name[ENTRIES] = {"build",       "save",        "save_checked", "load", "search", "turbo",
-                                                "search_file", "fail_search", "fail_build",   "open", "take"};
+                                                "search_file", "fail_search", "fail_build",   "open", "take",   "salvage"};
 
-/* the slices that an entry may be lent; input is the word, or the file of load and search_file; text is also the piece of take */
-enum slice { INPUT, TEXT, ROOM, OUT, TABLES, FINDS, SEARCHER, SLICES };
+/* the slices that an entry may be lent; input is the word, or the file of load and search_file; text is also the piece of take, and finds
+   are also the starts of salvage */
+enum slice { INPUT, TEXT, ROOM, OUT, TABLES, FINDS, SEARCHER, RIDE_KINDS, SLICES };
 
-static const char *const slice_name[SLICES] = {"word or file", "text or piece", "word room", "output", "tables", "list", "searcher"};
+static const char *const slice_name[SLICES] = {"word or file", "text or piece", "word room", "output",
+                                               "tables",       "list",          "searcher",  "kinds"};
 
-static const size_t slice_width[SLICES] = {1, 1, 1, 1, sizeof(uint16_t), sizeof(uint32_t), 1};
+static const size_t slice_width[SLICES] = {1, 1, 1, 1, sizeof(uint16_t), sizeof(uint32_t), 1, 1};
 
 static const unsigned lent_slices[ENTRIES] = {
     1 << INPUT | 1 << TABLES,
@@ -36,6 +38,7 @@ static const unsigned lent_slices[ENTRIES] = {
     1 << INPUT | 1 << TABLES,
     1 << INPUT | 1 << SEARCHER,
     1 << TEXT | 1 << FINDS | 1 << SEARCHER,
+    1 << TEXT | 1 << TABLES | 1 << FINDS | 1 << RIDE_KINDS,
 };
 
 static const unsigned read_slices = 1 << INPUT | 1 << TEXT;
@@ -55,19 +58,11 @@ static const unsigned can_give[ENTRIES] = {
     1 << 0 | 1 << 1 | 1 << 2 | 1 << 3,
     1 << 0 | 1 << 1 | 1 << 2 | 1 << 3,
     1 << 0 | 1 << 4 | 1 << 16,
+    1 << 0 | 1 << 3 | 1 << 4,
 };
 
 /* the refusals that change nothing, whichever entry gives them: they come before the rooms or are the rooms' own */
 static const unsigned changes_nothing = 1 << 1 | 1 << 2 | 1 << 3 | 1 << 4 | 1 << 7 | 1 << 8 | 1 << 16 | 1 << 17;
-
-/* How many of the elements that a slice is lent an entry may write when it answers with the number: none of an input, those of the
-   searcher itself and no byte behind it, and none beside a refusal that changes nothing. */
-static size_t may_write(int slice, size_t len, uint32_t number)
-{
-    if ((read_slices & 1u << slice) || (changes_nothing & 1u << number))
-        return 0;
-    return slice == SEARCHER && len > SEARCHER_BYTES ? SEARCHER_BYTES : len;
-}
 
 static bool makes_failure_oracle(enum entry entry)
 {
@@ -94,6 +89,32 @@ struct outcome {
     uint64_t answer[3];
     uint64_t offset;
 };
+
+static size_t shorter(size_t a, size_t b)
+{
+    return a < b ? a : b;
+}
+
+/* How many of the elements that it is lent salvage may write when it succeeds: the tables of .FIT, and of both lists as many as there are
+   rides, as far as they fit the shorter one. */
+static size_t salvage_may_write(int slice, const size_t *len, uint64_t count)
+{
+    size_t fit = shorter(len[FINDS], len[RIDE_KINDS]);
+    if (slice == TABLES)
+        return shorter(len[TABLES], entries_for(SALVAGE, RIDE_MARK_BYTES));
+    return count < fit ? (size_t)count : fit;
+}
+
+/* How many of the elements that a slice is lent an entry may write when it answers so: none of an input, those of the searcher itself and
+   no byte behind it, and none beside a refusal that changes nothing. */
+static size_t may_write(enum entry entry, int slice, const size_t *len, const struct outcome *o)
+{
+    if ((read_slices & 1u << slice) || (changes_nothing & 1u << o->number))
+        return 0;
+    if (entry == SALVAGE)
+        return salvage_may_write(slice, len, o->answer[0]);
+    return slice == SEARCHER ? shorter(len[SEARCHER], SEARCHER_BYTES) : len[slice];
+}
 
 static bool same_outcome(const struct outcome *a, const struct outcome *b)
 {
@@ -175,6 +196,45 @@ static const char *wrong_in_itself(enum entry entry, const struct outcome *o, co
     return NULL;
 }
 
+/* Whether the ride whose header begins at a place, wholly inside the text, has data and check there too. They are taken away from what is
+   left of the text, byte by byte of the declared size from the highest on, so that no sum can be too great. */
+static bool ride_is_whole(const uint8_t *text, size_t n, size_t start)
+{
+    size_t left = n - start - text[start];
+    for (int i = 3; i >= 0; i--) {
+        size_t part = (size_t)text[start + AT_DATA_SIZE + i] << 8 * i;
+        if (part > left)
+            return false;
+        left -= part;
+    }
+    return left >= RIDE_CHECK_BYTES;
+}
+
+/* whether a header begins at a place and is wholly inside the text */
+static bool is_ride(const uint8_t *text, size_t n, size_t at)
+{
+    size_t size = text[at];
+    if ((size != SHORT_HEADER && size != LONG_HEADER) || n - at < size)
+        return false;
+    return memcmp(text + at + AT_RIDE_MARK, RIDE_MARK, RIDE_MARK_BYTES) == 0;
+}
+
+/* whether there are so many rides in the text, and the first of them are listed with their kinds; found from their first bytes on */
+static bool lists_rides(const struct lent *l, uint64_t count)
+{
+    const uint8_t *text = l->at[TEXT], *kinds = l->at[RIDE_KINDS];
+    const uint32_t *starts = l->at[FINDS];
+    size_t n = l->len[TEXT], fit = shorter(l->len[FINDS], l->len[RIDE_KINDS]);
+    uint64_t found = 0;
+    for (size_t at = 0; at < n; at++)
+        if (is_ride(text, n, at)) {
+            if (found < fit && (starts[found] != at || kinds[found] != (ride_is_whole(text, n, at) ? WHOLE_RIDE : CUT_RIDE)))
+                return false;
+            found++;
+        }
+    return found == count;
+}
+
 /* whether the word stands in the text in so many places, and the first of them are listed; found by comparing letters */
 static bool lists_places(const struct lent *l, uint64_t count)
 {
@@ -188,6 +248,24 @@ static bool lists_places(const struct lent *l, uint64_t count)
             found++;
         }
     return found == count;
+}
+
+/* the first 12 bytes of a header: any byte for its size, what it declares, .FIT; those between stay as they are */
+static void put_header(uint8_t *at, size_t size, uint32_t data)
+{
+    at[0] = (uint8_t)size;
+    for (int i = 0; i < 4; i++)
+        at[AT_DATA_SIZE + i] = (uint8_t)(data >> 8 * i);
+    memcpy(at + AT_RIDE_MARK, RIDE_MARK, RIDE_MARK_BYTES);
+}
+
+/* so many rides whose headers overlap, each beginning 6 bytes behind the one before; how many bytes they have */
+static size_t put_overlapping(uint8_t *out, size_t rides)
+{
+    for (size_t i = 0; i <= rides; i++)
+        memcpy(out + 6 * i, i % 2 ? "\x0E\0.FIT" : "\x0C\0.FIT", 6);
+    memset(out + 6 * rides + 6, 0, 2);
+    return 6 * rides + 8;
 }
 
 /* ---- the table of a failure oracle, read as it is laid out: ten rows of m+1 entries ---- */
@@ -310,6 +388,10 @@ static const char *wrong_failure_table(const uint16_t *table, const uint8_t *wor
         case FAILURE_BUILD: o.number = SIDE##_failure_build(input, input_len, tables, tables_len, a); break;                               \
         case OPEN: o.number = SIDE##_open(input, input_len, l->at[SEARCHER], l->len[SEARCHER]); break;                                     \
         case TAKE: o.number = SIDE##_take(l->at[SEARCHER], l->len[SEARCHER], text, text_len, l->at[FINDS], l->len[FINDS], a); break;       \
+        case SALVAGE:                                                                                                                      \
+            o.number = SIDE##_salvage(text, text_len, tables, tables_len, l->at[FINDS], l->len[FINDS], l->at[RIDE_KINDS],                  \
+                                      l->len[RIDE_KINDS], a);                                                                              \
+            break;                                                                                                                         \
         case ENTRIES: break;                                                                                                               \
         }                                                                                                                                  \
         return o;                                                                                                                          \

@@ -1,4 +1,4 @@
-/* A target for a coverage-guided fuzzer (libFuzzer): its bytes become one call of one of the eleven entries, which the proved library and
+/* A target for a coverage-guided fuzzer (libFuzzer): its bytes become one call of one of the twelve entries, which the proved library and
    the second implementation both answer; whole outcomes must agree.
 
    What sees a stray access: the second implementation and this file are compiled with AddressSanitizer and UndefinedBehaviorSanitizer,
@@ -12,7 +12,8 @@
    Mistakes on purpose (-DSLIP=n) as in second.c, and
      slip 33: the library's tables are lent one entry too far up, so that it writes past the edge
      slip 34: the library's text is lent one byte too far up, so that it reads past the edge
-     slip 70: the library's searcher is lent one byte too far up, so that it reads past the edge */
+     slip 70: the library's searcher is lent one byte too far up, so that it reads past the edge
+     slip 358: the library's kinds are lent one byte too far up, so that it writes past the edge */
 #define _GNU_SOURCE
 #include "entries.h"
 
@@ -104,6 +105,7 @@ static void lend_library(const struct asked *a, int s, struct lent *l)
     for (size_t i = 0; i < bytes; i++)
         region[s].write[region[s].at + i] = before(a, s, i);
     bool slips = (SLIP == 33 && s == TABLES) || (SLIP == 34 && s == TEXT) || (SLIP == 70 && s == SEARCHER);
+    slips = slips || (SLIP == 358 && s == RIDE_KINDS);
     l->at[s] = a->nulls && bytes == 0 ? NULL : region[s].lent + region[s].at + (slips && !a->front ? slice_width[s] : 0);
 }
 
@@ -139,7 +141,7 @@ static void check_slice(const struct asked *a, int s, const struct lent *second,
     size_t bytes = a->len[s] * slice_width[s], from, to;
     if (memcmp(region[s].write + region[s].at, second->at[s], bytes) != 0)
         stop(a, "left otherwise: ", s, m, o);
-    for (size_t i = may_write(s, a->len[s], m->number) * slice_width[s]; i < bytes; i++)
+    for (size_t i = may_write(a->entry, s, a->len, m) * slice_width[s]; i < bytes; i++)
         if (region[s].write[region[s].at + i] != before(a, s, i))
             stop(a, "written where that may not be: ", s, m, o);
     beside(s, bytes, &from, &to);
@@ -201,6 +203,8 @@ static void call_both(const struct asked *a)
     for (int s = 0; s < SLICES; s++)
         if (is_lent(a, s))
             check_slice(a, s, &second, &m, &o);
+    if (a->entry == SALVAGE && m.number == 0 && !lists_rides(&second, o.answer[0]))
+        stop(a, "both sides list other rides than those whose headers are in the text", -1, &m, &o);
     if (makes_failure_oracle(a->entry) && m.number == 0 && (wrong = wrong_with_failure(a, &second, &o)) != NULL)
         stop(a, wrong, -1, &m, &o);
     for (int s = 0; s < SLICES; s++)
@@ -210,12 +214,12 @@ static void call_both(const struct asked *a)
 
 /* ---- from the fuzzer's bytes to a call ---- */
 
-/* the head: which call; flags; choices of tables, word room, output or searcher or a long text's length, and list; length of word, file or
-   searcher, two bytes */
+/* the head: which call; flags; choices of tables, of word room or kinds, of output or searcher or a long or made text's length, and list;
+   length of word, file or searcher, two bytes */
 enum { WHICH, FLAGS, TABLES_CHOICE, ROOM_CHOICE, OUT_CHOICE, LIST, INPUT_LOW, INPUT_HIGH, HEAD };
 
-/* the calls: eleven entries on what is there; two on the file of a word in either edition, and one on the searcher of a word, changed at a
-   few places; two on a file that is there but for its check */
+/* the calls: twelve entries on what is there; two on the file of a word in either edition, and one on the searcher of a word, changed at a
+   few places; two on a file that is there but for its check; one on a text that is made of rides and headers, as is said there */
 enum {
     LOAD_CHANGED = ENTRIES,
     SEARCH_FILE_CHANGED,
@@ -224,6 +228,7 @@ enum {
     LOAD_SEALED,
     SEARCH_FILE_SEALED,
     TAKE_CHANGED,
+    SALVAGE_MADE,
     CALLS
 };
 
@@ -237,6 +242,7 @@ static enum entry entry_of(unsigned call)
     case SEARCH_FILE_CHANGED_2:
     case SEARCH_FILE_SEALED: return SEARCH_FILE;
     case TAKE_CHANGED: return TAKE;
+    case SALVAGE_MADE: return SALVAGE;
     default: return (enum entry)call;
     }
 }
@@ -363,6 +369,51 @@ static size_t understand_input(const uint8_t *data, size_t size, unsigned call, 
     return m;
 }
 
+/* what four bytes make of a text: a byte over and over, a header with a size and with what it declares, .FIT, headers that overlap, a
+   header of a ride that ends with the text, or so many bytes before or behind it, one of a ride that ends so many bytes behind 2^32 */
+enum { PUT_FILLER, PUT_HEADER, PUT_MARK, PUT_OVERLAPPING, PUT_ENDING, PUT_WRAPPING, PIECES, LONGEST_PIECE = 20000 };
+
+/* puts a piece at a place of a text that will have n bytes: what, a number of two bytes, a value; its length */
+static size_t put_piece(uint8_t *text, size_t at, size_t n, const uint8_t *piece)
+{
+    uint32_t number = piece[1] * 256u + piece[2];
+    size_t size = number % 2 ? LONG_HEADER : SHORT_HEADER;
+    uint8_t *out = text + at, value = piece[3];
+    uint32_t before = (uint32_t)(at + size + RIDE_CHECK_BYTES);
+    memset(out, 0, SHORT_HEADER); /* what a header leaves is not what an input before left */
+    switch (piece[0] % PIECES) {
+    case PUT_FILLER: memset(out, value, number % LONGEST_PIECE); return number % LONGEST_PIECE;
+    case PUT_HEADER: put_header(out, value, number); return SHORT_HEADER;
+    case PUT_MARK: memcpy(out, RIDE_MARK, RIDE_MARK_BYTES); return RIDE_MARK_BYTES;
+    case PUT_OVERLAPPING: return put_overlapping(out, number % (LONGEST_PIECE / 6 - 1)) - 2;
+    case PUT_ENDING: put_header(out, size, (uint32_t)n - before + value - 128); return SHORT_HEADER;
+    default: put_header(out, size, 0 - before + value); return SHORT_HEADER;
+    }
+}
+
+/* all pieces, as far as there is room, in a text that will have n bytes; how many bytes it has */
+static size_t put_pieces(uint8_t *text, size_t n, const uint8_t *pieces, size_t pieces_len)
+{
+    size_t at = 0;
+    for (; pieces_len >= 4 && at < LONGEST_STRETCHED; pieces += 4, pieces_len -= 4)
+        at += put_piece(text, at, n, pieces);
+    return at < LONGEST_STRETCHED ? at : LONGEST_STRETCHED;
+}
+
+/* the text of a salvage: as it is there, or made of pieces and then short of a few bytes, by the choice of output */
+static void understand_rides(const uint8_t *data, size_t size, unsigned call, struct asked *a)
+{
+    static uint8_t text[LONGEST_STRETCHED + LONGEST_PIECE];
+    a->content[TEXT] = data + HEAD;
+    a->len[TEXT] = size - HEAD;
+    if (call == SALVAGE_MADE) {
+        size_t all = put_pieces(text, 0, data + HEAD, size - HEAD), cut = data[OUT_CHOICE] % 32;
+        a->content[TEXT] = text;
+        a->len[TEXT] = all > cut ? all - cut : all;
+        put_pieces(text, a->len[TEXT], data + HEAD, size - HEAD);
+    }
+}
+
 /* flags that ask for a long text */
 enum { STRETCHED = 0x0C };
 
@@ -386,9 +437,11 @@ static void understand(const uint8_t *data, size_t size, struct asked *a)
     unsigned call = data[WHICH] % CALLS;
     a->entry = entry_of(call);
     a->len[SEARCHER] = chosen(SEARCHER_BYTES, data[OUT_CHOICE]);
-    size_t m = 0;
+    size_t m = a->entry == SALVAGE ? RIDE_MARK_BYTES : 0;
     if (a->entry == TAKE)
         understand_searcher(data, size, call, a);
+    else if (a->entry == SALVAGE)
+        understand_rides(data, size, call, a);
     else
         m = understand_input(data, size, call, a);
     a->len[TABLES] = chosen(entries_for(a->entry, m), data[TABLES_CHOICE]) % (ROOM_BYTES / 2);
@@ -396,11 +449,12 @@ static void understand(const uint8_t *data, size_t size, struct asked *a)
     bool has_file = writes_file(a->entry) && m >= 1 && m <= MOST_LETTERS;
     a->len[OUT] = chosen(has_file ? file_in(a->entry == SAVE ? 1 : 2, data + HEAD, m, file) : 12, data[OUT_CHOICE]);
     a->len[FINDS] = data[LIST];
+    a->len[RIDE_KINDS] = chosen(data[LIST], data[ROOM_CHOICE]);
     a->fill = data[FLAGS];
     a->front = data[FLAGS] & 1;
     a->nulls = data[FLAGS] & 2;
     bool searches = a->entry == SEARCH || a->entry == TURBO || a->entry == FAILURE_SEARCH || a->entry == SEARCH_FILE;
-    if ((data[FLAGS] & STRETCHED) == STRETCHED && searches)
+    if ((data[FLAGS] & STRETCHED) == STRETCHED && (searches || a->entry == SALVAGE))
         stretch_text(a, m, data[OUT_CHOICE]);
     a->whole = (data[FLAGS] & 0xF0) == 0xF0 && (lent_slices[a->entry] & 1 << TEXT);
     if (a->whole)
@@ -772,6 +826,82 @@ static void seed_spellings(const uint8_t *word, size_t m)
     }
 }
 
+/* A text with rides as it is, in every choice of tables and kinds, where no room is a null pointer; cut before its end and behind its
+   beginning; and with one byte too many to be read. */
+static void seed_salvaged(const uint8_t *text, size_t n)
+{
+    for (uint8_t c = 0; c < CHOICES * CHOICES; c++)
+        seed_in(c % CHOICES, c / CHOICES, SALVAGE, 2 + c % 2, text, n, text, 0);
+    for (size_t cut = 1; cut < n && cut <= 20; cut++) {
+        seed(SALVAGE, 0, text, n - cut, text, 0);
+        seed(SALVAGE, 1, text + cut, n - cut, text, 0);
+    }
+    seed(SALVAGE, 0xF0, text, n, text, 0);
+    seed_in(ONE_SHORT, EXACT, SALVAGE, 0xF0, text, n, text, 0);
+    seed(SALVAGE, STRETCHED, text, n, text, 0);
+}
+
+/* a ride file: a header of either size, data that begin somewhat as devices write them, a check that is made as that of edition 2 */
+static size_t put_file(uint8_t *out, size_t size, size_t data)
+{
+    static const uint8_t front[] = {0x40, 0, 0, 0, 0, 4, 3, 4, 0x8C, 4, 4, 0x86, 1, 2, 0x84, 0, 1, 0, 0, 1, 0, 0, 0, 2, 0, 0, 0, 1, 0, 4};
+    for (size_t i = 0; i < size + data; i++)
+        out[i] = i >= size && i - size < sizeof front ? front[i - size] : stranger(TEXT, i, 0);
+    put_header(out, size, (uint32_t)data);
+    if (size == LONG_HEADER)
+        seal(out, SHORT_HEADER);
+    return seal(out, size + data);
+}
+
+/* headers of every size near those that there are, with sizes of the data that must not be believed or that wrap */
+static void seed_headers(void)
+{
+    static const uint32_t declared[] = {0, 1, 3, 255, 65536, 0x80000000, 0xFFFFFFF0, 0xFFFFFFF2, 0xFFFFFFFE, 0xFFFFFFFF};
+    uint8_t text[32] = {0};
+    for (size_t i = 0; i < sizeof declared / sizeof *declared; i++)
+        for (size_t size = SHORT_HEADER - 1; size <= LONG_HEADER + 1; size++) {
+            size_t front = i % 3, data = declared[i] < 4 ? declared[i] : 0;
+            memset(text, 0, sizeof text);
+            put_header(text + front, size, declared[i]);
+            seed(SALVAGE, i % 2, text, front + size - 1, text, 0);
+            seed(SALVAGE, i % 2, text, front + size, text, 0);
+            seed(SALVAGE, i % 2, text, front + size + data + RIDE_CHECK_BYTES - 1, text, 0);
+            seed(SALVAGE, i % 2, text, front + size + data + RIDE_CHECK_BYTES, text, 0);
+        }
+}
+
+/* a header of a ride that ends with the text, around a power of two */
+static void seed_far(size_t power)
+{
+    for (size_t at = power - 30; at <= power + 10; at++) {
+        size_t half = at / 2, rest = at - half;
+        const uint8_t far[] = {PUT_FILLER, (uint8_t)(half / 256), (uint8_t)half, 0, PUT_FILLER, (uint8_t)(rest / 256), (uint8_t)rest, 12,
+                               PUT_ENDING, 0, (uint8_t)at, 128};
+        seed(SALVAGE_MADE, at % 2, far, sizeof far, far, 0);
+    }
+}
+
+/* Texts with rides: files one behind the other, with a header inside another's data, headers that overlap, and all of it as pieces. */
+static void seed_rides(void)
+{
+    static const uint8_t made[] = {PUT_HEADER, 0, 2, 12, PUT_FILLER, 0, 4, 7, PUT_ENDING, 0, 0, 128, PUT_ENDING, 0, 1, 129, PUT_MARK, 0,
+                                   0, 0, PUT_OVERLAPPING, 0, 3, 0, PUT_WRAPPING, 0, 0, 0, PUT_WRAPPING, 0, 1, 20, PUT_HEADER, 0, 9, 13,
+                                   PUT_FILLER, 0, 20, 12, PUT_ENDING, 0, 0, 127, PUT_FILLER, 0, 2, 0};
+    uint8_t text[256];
+    size_t n = put_file(text, LONG_HEADER, 40);
+    n += put_file(text + n, SHORT_HEADER, 60);
+    put_header(text + 20, SHORT_HEADER, UINT32_MAX);
+    seed_salvaged(text, n);
+    seed_salvaged(text, put_overlapping(text, 6));
+    seed_headers();
+    for (size_t len = 4; len <= sizeof made; len += 4) {
+        seed(SALVAGE_MADE, len % 8 == 0, made, len, made, 0);
+        seed(SALVAGE_MADE, STRETCHED, made + sizeof made - len, len, made, 0);
+    }
+    for (size_t power = 4096; power <= 32768; power *= 2)
+        seed_far(power);
+}
+
 static void write_seeds(void)
 {
     static const char *const words[] = {"", "a", "ab", "aa", "aaa", "aba", "abc", "abbbaab", "abcacdace", "abaababaabaab"};
@@ -839,6 +969,7 @@ static void write_seeds(void)
     for (size_t i = 0; i < sizeof read_whole / sizeof *read_whole; i++)
         seed_read_whole(read_whole[i][0], read_whole[i][1]);
     seed_spellings((const uint8_t *)"abbbaab", 7);
+    seed_rides();
     for (size_t i = 0; i < sizeof periodic / sizeof *periodic; i++)
         seed_periodic(periodic[i][0], periodic[i][1]);
     for (size_t i = 0; i < sizeof hostile / sizeof *hostile; i++)

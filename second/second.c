@@ -1,8 +1,8 @@
 /* The second implementation: what an oracle is by the suffix rule, a supply by 001's definition, an occurrence by comparing bytes at
    each place, a border by comparing the word's beginning with its end, the letters read by going through the published steps, what a
    stream, or a text read so far, ends with by comparing the word's beginnings, the longest first; a failure oracle is the list of the
-   arrows that its rule adds, in their order; a file's check goes through its bits. Nothing here is clever, so that it can be held against
-   the scope document and the requests line by line.
+   arrows that its rule adds, in their order; a file's check goes through its bits; a ride is looked for at every place of the text. Nothing
+   here is clever, so that it can be held against the scope document and the requests line by line.
 
    Compiled with -DSLIP=n it has one mistake on purpose, to show that the comparison finds it (tools/second-opinion --slips). The mistakes:
      slip 1: the letters of a file are asked for after the rooms (5 and 3 exchanged)
@@ -206,8 +206,116 @@
      slip 228: 13 leaves the file's word in the word room
      slip 229: the file's last two bytes are judged as the check before the rooms
      slip 230: the file's last two bytes are judged as the check before the arrows
-   slip 31, slip 32, slip 67, slip 68, slip 69, slip 84, slip 85, slip 116 to slip 120, slip 140 to slip 144, slip 182 to slip 190 and
-   slip 231 to slip 239 stand in compare.c, slip 33, slip 34 and slip 70 in fuzz.c. */
+     slip 240: the size of a header is not judged
+     slip 241: a header of 13 bytes is listed
+     slip 242: a header of 15 bytes is listed
+     slip 243: a header of 11 bytes is listed
+     slip 244: a header of 12 bytes is not listed
+     slip 245: a header of 14 bytes is not listed
+     slip 246: of a header's size only the low four bits are looked at
+     slip 247: a header's size is looked for one byte late
+     slip 248: for .FIT below 8 a header's size is looked for before the text
+     slip 249: .FIT below 8 is taken for that of a header at the text's start
+     slip 250: .FIT at 8 is taken for one below 8
+     slip 251: of .FIT the point is not compared
+     slip 252: of .FIT the last letter is not compared
+     slip 253: .fit is taken for .FIT
+     slip 254: a header whose second byte is zero is not listed
+     slip 255: a header of 14 bytes with a wrong check of its own is not listed
+     slip 256: a header that says there is no data is not listed
+     slip 257: a header that declares more data than a text may have is not listed
+     slip 258: a header of 14 bytes that ends behind the text is listed as cut
+     slip 259: a header that ends with the text is not listed
+     slip 260: a header of 12 bytes is not listed where fewer than 14 are inside the text
+     slip 261: a header of 14 bytes is listed where 13 are inside the text
+     slip 262: where a ride ends is counted in 32 bits
+     slip 263: data and check of a ride are added in 32 bits
+     slip 264: the data size is read as a signed number
+     slip 265: the data size is read high byte first
+     slip 266: of the data size three bytes are read
+     slip 267: of the data size two bytes are read
+     slip 268: the data size is read one byte late
+     slip 269: a ride that ends with the text is cut
+     slip 270: a ride of which one byte is missing is whole
+     slip 271: a ride ends before its check
+     slip 272: where a ride ends its header is left out
+     slip 273: where a ride ends its header counts 12 bytes, whatever it says
+     slip 274: where a ride ends its header counts 14 bytes, whatever it says
+     slip 275: where a ride ends its start is left out
+     slip 276: a ride is whole only where it ends with the text
+     slip 277: a ride is whole only where its check is right
+     slip 278: a ride without data is cut
+     slip 279: a ride with another header in its data is cut
+     slip 280: whole and cut are exchanged
+     slip 281: a ride with a header of 12 bytes is cut
+     slip 282: headers inside the data of a whole ride are not listed
+     slip 283: headers that begin inside another header are not listed
+     slip 284: nothing is listed behind a cut ride
+     slip 285: starts are the places of .FIT
+     slip 286: cut rides are not listed
+     slip 287: behind .FIT twelve bytes are passed over
+     slip 288: kinds are filled where there is no room for the starts
+     slip 289: starts are filled where there is no room for the kinds
+     slip 290: the last entry of a full list of rides is written over
+     slip 291: the last rides are listed and not the first
+     slip 292: rides are counted as far as they fit
+     slip 293: every .FIT is counted
+     slip 294: the entry behind the last start is cleared
+     slip 295: the entry behind the last kind is cleared
+     slip 296: a start is listed behind the end of the shorter list
+     slip 297: a kind is listed behind the end of the shorter list
+     slip 298: lists that are too short for the rides are refused with 3
+     slip 299: the length of the starts is taken in 32 bits
+     slip 300: the length of the kinds is taken in 32 bits
+     slip 301: salvaging judges 3 before 4
+     slip 302: salvaging takes a text one byte too long
+     slip 303: salvaging refuses a text of just as many bytes as may be
+     slip 304: salvaging judges 3 at 24 table entries
+     slip 305: salvaging refuses 30 table entries
+     slip 306: salvaging clears the tables where it refuses with 3
+     slip 307: salvaging clears the starts where it refuses with 3
+     slip 308: salvaging clears the kinds where it refuses with 4
+     slip 309: salvaging answers beside 3
+     slip 310: salvaging answers beside 4
+     slip 311: salvaging takes the text's length in 32 bits
+     slip 312: salvaging takes the tables' length in 32 bits
+     slip 313: salvaging takes the tables' length in 16 bits
+     slip 314: salvaging leaves the tables as they were
+     slip 315: salvaging leaves the tables of .FIT and not of its mirror
+     slip 316: salvaging clears an entry behind its tables
+     slip 317: salvaging answers a text shorter than a header before the tables are filled
+     slip 318: salvaging leaves the tables as they were where there is no ride
+     slip 319: salvaging leaves the tables as they were where a list has no entry
+     slip 320: salvaging leaves what stood in the tables' last two rows
+     slip 321: .FIT across a multiple of 4,096 is lost
+     slip 322: a header across a multiple of 8,192 is lost
+     slip 323: .FIT whose last byte is at a multiple of 16,384 is lost
+     slip 324: a header whose first byte is just before a multiple of 32,768 is lost
+     slip 325: .FIT across a multiple of 65,536 is lost
+     slip 326: a header across a multiple of 1,000 is lost
+     slip 327: a header across a multiple of 4,093 is lost
+     slip 328: a header across the place 37,777 is lost
+     slip 329: .FIT at a multiple of 4,096 is listed twice
+     slip 330: .FIT that ends before a multiple of 8,192 is listed twice
+     slip 331: a header in the last 14 bytes before a multiple of 16,384 is listed twice
+     slip 332: .FIT across a multiple of 65,536 is listed twice
+     slip 333: a data size across a multiple of 4,096 is read up to there
+     slip 334: a ride is judged by the next multiple of 32,768 and not by the text's end
+     slip 335: a ride whose header is across a multiple of 2,048 is cut
+     slip 336: starts are counted in 16 bits
+     slip 337: starts are counted from the multiple of 16,384 before them
+     slip 338: less than 12 bytes behind the last multiple of 4,096 are not looked at
+     slip 339: the last header of a text of a multiple of 8,192 bytes is lost
+     slip 340: nothing is listed from 65,536 on
+     slip 341: a header across a multiple of 1,048,576 is lost
+     slip 342: the last header of the longest text is lost
+     slip 343: of every 4,096 bytes 256 .FIT are looked at
+     slip 344: of every 4,096 bytes 1,022 .FIT are looked at
+     slip 345: the only .FIT of a text is lost where it is across a multiple of 4,096
+     slip 346: at most 255 rides are counted
+     slip 347: rides are counted in 16 bits
+   slip 31, slip 32, slip 67, slip 68, slip 69, slip 84, slip 85, slip 116 to slip 120, slip 140 to slip 144, slip 182 to slip 190,
+   slip 231 to slip 239 and slip 348 to slip 357 stand in compare.c, slip 33, slip 34, slip 70 and slip 358 in fuzz.c. */
 #include "second.h"
 
 #include <stdbool.h>
@@ -916,6 +1024,252 @@ static void failure_steps(struct failure_search *f)
     }
 }
 
+/* ---- rides by their headers ---- */
+
+struct rides {
+    const uint8_t *text;
+    size_t n;
+    uint32_t *starts;
+    size_t starts_len;
+    uint8_t *kinds;
+    size_t kinds_len;
+    uint64_t count;
+    uint64_t from; /* no ride that begins before is listed; only mistakes on purpose change it */
+};
+
+/* whether a multiple of so many bytes parts the bytes from .. to-1; only mistakes on purpose go through a text in parts */
+static bool crosses(size_t from, size_t to, size_t part)
+{
+    return from / part != (to - 1) / part;
+}
+
+static bool is_ride_mark(const uint8_t *at)
+{
+    switch (SLIP) {
+    case 251: return memcmp(at + 1, "FIT", 3) == 0;
+    case 252: return memcmp(at, ".FI", 3) == 0;
+    case 253: return memcmp(at, ".FIT", 4) == 0 || memcmp(at, ".fit", 4) == 0;
+    default: return memcmp(at, RIDE_MARK, RIDE_MARK_BYTES) == 0;
+    }
+}
+
+static bool is_header_size(size_t size)
+{
+    switch (SLIP) {
+    case 240: return true;
+    case 241: return size >= 12 && size <= 14;
+    case 242: return size == 12 || size == 14 || size == 15;
+    case 243: return size == 12 || size == 14 || size == 11;
+    case 244: return size == 14;
+    case 245: return size == 12;
+    case 246: return size % 16 == 12 || size % 16 == 14;
+    default: return size == SHORT_HEADER || size == LONG_HEADER;
+    }
+}
+
+/* how many bytes of a header are asked for inside the text: all of it */
+static size_t bytes_inside(size_t size)
+{
+    switch (SLIP) {
+    case 246: return size % 16;
+    case 258: return 12;
+    case 259: return size + 1;
+    case 260: return 14;
+    case 261: return size == 14 ? 13 : size;
+    default: return size;
+    }
+}
+
+/* how many bytes of data a header declares, low byte first */
+static uint64_t data_size(const struct rides *r, size_t start)
+{
+    const uint8_t *bytes = r->text + start + AT_DATA_SIZE + (SLIP == 268);
+    size_t at = start + AT_DATA_SIZE, many = SLIP == 266 ? 3 : SLIP == 267 ? 2 : 4;
+    uint64_t size = 0;
+    for (size_t i = 0; i < many; i++)
+        if (SLIP != 333 || !crosses(at, at + i + 1, 4096))
+            size += (uint64_t)bytes[i] << 8 * (SLIP == 265 ? 3 - i : i);
+    return SLIP == 264 ? (uint64_t)(int32_t)size : size;
+}
+
+/* where a ride ends, as its header says: behind header, data and check */
+static uint64_t ride_end(const struct rides *r, size_t start)
+{
+    uint64_t header = r->text[start], data = data_size(r, start), end = start + header + data + RIDE_CHECK_BYTES;
+    switch (SLIP) {
+    case 262: return (uint32_t)end;
+    case 263: return start + header + (uint32_t)(data + RIDE_CHECK_BYTES);
+    case 269: return end + 1;
+    case 270: return end - 1;
+    case 271: return end - RIDE_CHECK_BYTES;
+    case 272: return end - header;
+    case 273: return end - header + 12;
+    case 274: return end - header + 14;
+    case 275: return end - start;
+    default: return end;
+    }
+}
+
+/* the mistakes that call a whole ride cut */
+static bool is_called_cut(const struct rides *r, size_t start, uint64_t end)
+{
+    const uint8_t *ride = r->text + start;
+    switch (SLIP) {
+    case 276: return end != r->n;
+    case 277: return other_check(ride, (size_t)end - RIDE_CHECK_BYTES - start);
+    case 278: return data_size(r, start) == 0;
+    case 279:
+        for (size_t q = start + ride[0]; q + 4 + RIDE_CHECK_BYTES <= end; q++)
+            if (is_ride_mark(r->text + q) && is_header_size(r->text[q - 8]))
+                return true;
+        return false;
+    case 281: return ride[0] == 12;
+    case 334: return end > (start / 32768 + 1) * 32768;
+    case 335: return crosses(start, start + 12, 2048);
+    default: return false;
+    }
+}
+
+static bool is_whole(const struct rides *r, size_t start)
+{
+    uint64_t end = ride_end(r, start);
+    return (end <= r->n && !is_called_cut(r, start, end)) != (SLIP == 280);
+}
+
+/* the mistakes that leave a header out for what it says */
+static bool is_left_out(const struct rides *r, size_t start)
+{
+    const uint8_t *header = r->text + start;
+    switch (SLIP) {
+    case 254: return header[1] == 0;
+    case 255: return header[0] == 14 && (header[12] != 0 || header[13] != 0) && other_check(header, 12);
+    case 256: return data_size(r, start) == 0;
+    case 257: return data_size(r, start) > MOST_TEXT;
+    case 286: return !is_whole(r, start);
+    default: return start < r->from;
+    }
+}
+
+/* where the header of the .FIT at q begins */
+static size_t start_of(size_t q)
+{
+    return SLIP == 249 && q < 8 ? 0 : q - AT_RIDE_MARK;
+}
+
+/* whether the .FIT at q is that of a header, wholly inside the text */
+static bool has_header(const struct rides *r, size_t q)
+{
+    if (q < AT_RIDE_MARK + (SLIP == 250) && SLIP != 248 && SLIP != 249)
+        return false;
+    size_t start = start_of(q), size = r->text[start + (SLIP == 247)];
+    return is_header_size(size) && start + bytes_inside(size) <= r->n && !is_left_out(r, start);
+}
+
+/* how many .FIT there are from a place on and before another */
+static size_t marks_between(const struct rides *r, size_t from, size_t to)
+{
+    size_t many = 0;
+    for (size_t q = from; q < to; q++)
+        many += is_ride_mark(r->text + q);
+    return many;
+}
+
+/* the mistakes that lose a header for its place in the text */
+static bool is_lost(const struct rides *r, size_t q)
+{
+    size_t start = q - 8, behind = q + 4, n = r->n;
+    switch (SLIP) {
+    case 321: return crosses(q, behind, 4096);
+    case 322: return crosses(start, behind, 8192);
+    case 323: return (q + 3) % 16384 == 0;
+    case 324: return (start + 1) % 32768 == 0;
+    case 325: return crosses(q, behind, 65536);
+    case 326: return crosses(start, behind, 1000);
+    case 327: return crosses(start, behind, 4093);
+    case 328: return start < 37777 && behind > 37777;
+    case 338: return n % 4096 < 12 && behind > n - n % 4096;
+    case 339: return n % 8192 == 0 && q + 12 > n;
+    case 340: return q >= 65536;
+    case 341: return crosses(start, behind, 1048576);
+    case 342: return n == MOST_TEXT && q + 12 > n;
+    case 343: return marks_between(r, q - q % 4096, q) >= 256;
+    case 344: return marks_between(r, q - q % 4096, q) >= 1022;
+    case 345: return crosses(q, behind, 4096) && marks_between(r, 0, n - 3) == 1;
+    default: return false;
+    }
+}
+
+/* the mistakes that list a header twice */
+static bool is_doubled(size_t q)
+{
+    switch (SLIP) {
+    case 329: return q % 4096 == 0;
+    case 330: return (q + 4) % 8192 == 0;
+    case 331: return (q - 8) % 16384 >= 16384 - 14 && (q + 3) % 16384 >= 16384 - 14;
+    case 332: return crosses(q, q + 4, 65536);
+    default: return false;
+    }
+}
+
+/* before which place no ride is listed any more behind this one */
+static uint64_t passed_over(const struct rides *r, size_t start)
+{
+    switch (SLIP) {
+    case 282: return is_whole(r, start) ? ride_end(r, start) : 0;
+    case 283: return start + r->text[start];
+    case 284: return is_whole(r, start) ? 0 : UINT64_MAX;
+    default: return 0;
+    }
+}
+
+static uint32_t listed_start(size_t start)
+{
+    switch (SLIP) {
+    case 285: return (uint32_t)(start + 8);
+    case 336: return (uint16_t)start;
+    case 337: return (uint32_t)(start % 16384);
+    default: return (uint32_t)start;
+    }
+}
+
+/* makes room at the end of a full list by leaving out its first entry, where the last rides are listed */
+static void move_up(struct rides *r, size_t fit)
+{
+    memmove(r->starts, r->starts + 1, (fit - 1) * sizeof *r->starts);
+    memmove(r->kinds, r->kinds + 1, fit - 1);
+}
+
+/* the shorter list decides */
+static void list_ride(struct rides *r, size_t start)
+{
+    size_t fit = r->starts_len < r->kinds_len ? r->starts_len : r->kinds_len, at = (size_t)r->count;
+    if ((SLIP == 290 || SLIP == 291) && fit > 0 && at >= fit) {
+        if (SLIP == 291)
+            move_up(r, fit);
+        at = fit - 1;
+    }
+    if (at < (SLIP == 289 ? r->starts_len : fit + (SLIP == 296 && fit > 0)))
+        r->starts[at] = listed_start(start);
+    if (at < (SLIP == 288 ? r->kinds_len : fit + (SLIP == 297 && fit > 0)))
+        r->kinds[at] = is_whole(r, start) ? WHOLE_RIDE : CUT_RIDE;
+    if ((SLIP != 292 || r->count < fit) && (SLIP != 346 || r->count < 255))
+        r->count++;
+    r->from = passed_over(r, start);
+}
+
+static void list_rides(struct rides *r)
+{
+    for (size_t q = 0; q + RIDE_MARK_BYTES <= r->n; q++) {
+        if (!is_ride_mark(r->text + q) || !has_header(r, q) || is_lost(r, q))
+            continue;
+        list_ride(r, start_of(q));
+        if (is_doubled(q))
+            list_ride(r, start_of(q));
+        if (SLIP == 287)
+            q += 11;
+    }
+}
+
 /* ---- streams ---- */
 
 static uint64_t bytes_taken(const uint8_t *searcher)
@@ -1013,7 +1367,7 @@ static uint64_t take_piece(uint8_t *searcher, const uint8_t *piece, size_t piece
     return SLIP == 60 && count > finds_len ? finds_len : count;
 }
 
-/* ---- the eleven entries ---- */
+/* ---- the twelve entries ---- */
 
 uint32_t second_build(const uint8_t *word, size_t word_len, uint16_t *tables, size_t tables_len, uint64_t *m)
 {
@@ -1287,6 +1641,83 @@ uint32_t second_failure_search(const uint8_t *word, size_t word_len, const uint8
     *count = f.count;
     *letters = SLIP == 181 ? f.failures : f.letters;
     *failures = SLIP == 181 ? f.letters : f.failures;
+    return 0;
+}
+
+static uint32_t refuse_salvaging(size_t text_len, size_t tables_len)
+{
+    size_t need = SLIP == 304 ? 24 : entries(RIDE_MARK_BYTES) + (SLIP == 305);
+    bool too_small = (SLIP == 312 ? (uint32_t)tables_len : SLIP == 313 ? (uint16_t)tables_len : tables_len) < need;
+    if (SLIP == 301 && too_small)
+        return 3;
+    if ((SLIP == 311 ? (uint32_t)text_len : text_len) > MOST_TEXT + (SLIP == 302) - (SLIP == 303))
+        return 4;
+    return too_small ? 3 : 0;
+}
+
+/* the mistakes of a refusal that changes something */
+static void slip_refused(uint32_t no, const struct rides *r, uint16_t *tables, size_t tables_len, uint64_t *count)
+{
+    if (SLIP == 306 && no == 3)
+        clear(tables, tables_len * sizeof *tables);
+    if (SLIP == 307 && no == 3)
+        clear(r->starts, r->starts_len * sizeof *r->starts);
+    if (SLIP == 308 && no == 4)
+        clear(r->kinds, r->kinds_len);
+    if ((SLIP == 309 && no == 3) || (SLIP == 310 && no == 4))
+        *count = 0;
+}
+
+/* whether the tables are filled: always */
+static bool fills_tables(const struct rides *r, size_t tables_len)
+{
+    switch (SLIP) {
+    case 304: return tables_len >= entries(RIDE_MARK_BYTES);
+    case 314: return false;
+    case 317: return r->n >= 12;
+    case 318: return r->count > 0;
+    case 319: return r->starts_len > 0 && r->kinds_len > 0;
+    default: return true;
+    }
+}
+
+/* the tables, as a search for .FIT leaves them */
+static void leave_ride_tables(uint16_t *tables, size_t tables_len)
+{
+    const uint8_t *mark = (const uint8_t *)RIDE_MARK;
+    uint8_t mirrored[RIDE_MARK_BYTES];
+    uint16_t own[6 * (RIDE_MARK_BYTES + 1)];
+    mirror(mark, RIDE_MARK_BYTES, mirrored);
+    make_oracle(SLIP == 315 ? mark : mirrored, RIDE_MARK_BYTES);
+    write_tables(SLIP == 315 ? mark : mirrored, RIDE_MARK_BYTES, own);
+    memcpy(tables, own, (SLIP == 320 ? 20 : entries(RIDE_MARK_BYTES)) * sizeof *own);
+    if (SLIP == 316 && tables_len > entries(RIDE_MARK_BYTES))
+        tables[entries(RIDE_MARK_BYTES)] = 0;
+}
+
+uint32_t second_salvage(const uint8_t *text, size_t text_len, uint16_t *tables, size_t tables_len, uint32_t *starts, size_t starts_len,
+                        uint8_t *kinds, size_t kinds_len, uint64_t *count)
+{
+    struct rides r = {.text = text, .n = text_len, .starts = starts, .starts_len = starts_len, .kinds = kinds, .kinds_len = kinds_len};
+    uint32_t no = refuse_salvaging(text_len, tables_len);
+    if (no != 0) {
+        slip_refused(no, &r, tables, tables_len, count);
+        return no;
+    }
+    if (SLIP == 299)
+        r.starts_len = (uint32_t)starts_len;
+    if (SLIP == 300)
+        r.kinds_len = (uint32_t)kinds_len;
+    list_rides(&r);
+    if (fills_tables(&r, tables_len))
+        leave_ride_tables(tables, tables_len);
+    if (SLIP == 294 && r.count < starts_len)
+        starts[r.count] = 0;
+    if (SLIP == 295 && r.count < kinds_len)
+        kinds[r.count] = 0;
+    if (SLIP == 298 && (r.count > starts_len || r.count > kinds_len))
+        return 3;
+    *count = SLIP == 293 ? marks_between(&r, 0, text_len < 3 ? 0 : text_len - 3) : SLIP == 347 ? (uint16_t)r.count : r.count;
     return 0;
 }
 

@@ -1,4 +1,4 @@
-/* A second opinion on the library: the same eleven entries, written once more from the scope document and the requests, and from
+/* A second opinion on the library: the same twelve entries, written once more from the scope document and the requests, and from
    docs/TABLE.md and docs/FILE.md where those leave the layout of the tables and of a searcher open, as plainly as can be.
    It shares no code and no definition with the proved library, is quadratic where that is simpler, and keeps its oracles in static
    memory (one caller at a time). Each answers the refusal's number, 0 for success; what is answered beside it goes through the last
@@ -39,6 +39,12 @@ static inline size_t long_from(size_t m)
    ends with the last byte taken. */
 enum { AT_LETTERS = 0, AT_BORDERS = 64, AT_LENGTH = 128, AT_KEPT = 129, AT_TAKEN = 130 };
 
+/* A ride file, as far as the request tells it: a header of 12 or 14 bytes, whose first byte is that size, has at bytes 4 to 7 how many
+   bytes of data follow it, low byte first, and .FIT at bytes 8 to 11; two bytes of a check are behind the data. Then the kinds of rides. */
+enum { SHORT_HEADER = 12, LONG_HEADER = 14, AT_DATA_SIZE = 4, AT_RIDE_MARK = 8, RIDE_MARK_BYTES = 4, RIDE_CHECK_BYTES = 2 };
+#define RIDE_MARK ".FIT"
+enum { CUT_RIDE = 0, WHOLE_RIDE = 1 };
+
 uint32_t second_build(const uint8_t *word, size_t word_len, uint16_t *tables, size_t tables_len, uint64_t *m);
 
 uint32_t second_save(const uint8_t *word, size_t word_len, uint16_t *tables, size_t tables_len, uint8_t *out, size_t out_len,
@@ -71,6 +77,9 @@ uint32_t second_failure_search(const uint8_t *word, size_t word_len, const uint8
 
 /* how many windows the search with a failure oracle has read to their first letter so far, in all calls, without a find there */
 uint64_t second_read_without_find(void);
+
+uint32_t second_salvage(const uint8_t *text, size_t text_len, uint16_t *tables, size_t tables_len, uint32_t *starts, size_t starts_len,
+                        uint8_t *kinds, size_t kinds_len, uint64_t *count);
 
 uint32_t second_open(const uint8_t *word, size_t word_len, uint8_t *searcher, size_t searcher_len);
 

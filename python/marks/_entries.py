@@ -82,6 +82,12 @@ def search(engine: str, word: bytes, text: Lent, table: "array[int]", finds: "ar
     return count, letters
 
 
+def salvage(text: Lent, starts: "array[int]", kinds: "array[int]") -> int:
+    """How many headers of rides the text has, the first of them listed: where each begins, and 1 where its ride ends within the text."""
+    count, = _asked(LIBRARY.marks_salvage, text, tables(len(b".FIT")), starts, kinds, answers=1)
+    return count
+
+
 def open_searcher(word: "Union[bytes, Lent]") -> "array[int]":
     searcher = room("B", SEARCHER)
     _asked(LIBRARY.marks_open, word, searcher, answers=0)

@@ -67,6 +67,10 @@ class Lent:
     def copy(self) -> bytes:
         return self._view.tobytes()
 
+    def copy_part(self, start: int, end: int) -> bytes:
+        """The bytes from one place up to another; both must be within these."""
+        return ctypes.string_at(self._address + start, end - start)
+
     def buffer_info(self) -> Tuple[int, int]:
         """The address and the length, as array.array tells them."""
         return self._address, self._length

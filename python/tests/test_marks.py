@@ -21,7 +21,7 @@ from pathlib import Path
 from unittest import mock
 
 import marks
-from marks import Mark, Stream, _entries, _files, _lent, _reading, _refused, _search
+from marks import Mark, Ride, Stream, _entries, _files, _lent, _reading, _refused, _salvage, _search
 from marks._library import LIBRARY
 from marks._refusals import REFUSALS
 
@@ -42,6 +42,21 @@ def checked(body):
         for _ in range(8):
             rest = rest >> 1 ^ (0xA001 if rest & 1 else 0)
     return bytes(body) + rest.to_bytes(2, "little")
+
+
+def fit(data, header=14, declared=None):
+    """A ride whose header declares the data that it has, or so many bytes; its check is not right, as nobody tests it."""
+    size = len(data) if declared is None else declared
+    return bytes([header, 32, 84, 8]) + size.to_bytes(4, "little") + b".FIT" + bytes(header - 12) + data + b"\0\0"
+
+
+def rides_plainly(text):
+    rides = []
+    for start in (at - 8 for at in plainly(b".FIT", text) if at >= 8):
+        header, declared = text[start], int.from_bytes(text[start + 4:start + 8], "little")
+        if header in (12, 14) and start + header <= len(text):
+            rides.append(Ride(start, start + header + declared + 2 <= len(text), header, declared))
+    return rides
 
 
 class Slow:
@@ -232,6 +247,7 @@ class Buffers(unittest.TestCase):
         try:
             for lent in text, memoryview(text)[1:]:
                 Mark(b"RIDE").count(lent)
+                marks.salvage(lent)
             self.assertLess(tracemalloc.get_traced_memory()[1], MEBI)
         finally:
             tracemalloc.stop()
@@ -248,7 +264,7 @@ class Buffers(unittest.TestCase):
         text.append(0)
         next(Mark(b"a").find_iter(text))  # and before the second
         text.append(0)
-        for use in Mark(b"a").find, Mark(b"a").count, Stream(b"a").take, Mark:
+        for use in Mark(b"a").find, Mark(b"a").count, Stream(b"a").take, Mark, marks.salvage:
             use(text)
             text.append(0)
         with self.assertRaises(marks.Refused):
@@ -257,7 +273,7 @@ class Buffers(unittest.TestCase):
 
     def test_others_are_refused_plainly(self):
         mark, stream = Mark(b"a"), Stream(b"a")
-        for use in Mark, Stream, Mark.from_file, mark.find, mark.find_iter, mark.count, stream.take:
+        for use in Mark, Stream, Mark.from_file, mark.find, mark.find_iter, mark.count, stream.take, marks.salvage:
             with self.assertRaisesRegex(TypeError, "is a str, .* encode it first"):
                 use("a")
             with self.assertRaisesRegex(TypeError, "buffer protocol, not int"):
@@ -399,6 +415,107 @@ class Streams(unittest.TestCase):
         self.assertEqual(stream.take(b"..RIDE"), [6])
 
 
+class Rides(unittest.TestCase):
+    def test_headers_of_12_and_14(self):
+        for header in 12, 14:
+            ride = fit(b"abc", header)
+            for text, expected in (
+                (ride, [(0, True, header, 3)]),
+                (b".." + ride + b"..", [(2, True, header, 3)]),
+                (ride + ride, [(0, True, header, 3), (len(ride), True, header, 3)]),
+                (ride[:-1], [(0, False, header, 3)]),
+                (ride[:header], [(0, False, header, 3)]),
+                (ride[:header - 1], []),
+                (ride[1:], []),
+                (fit(b"", header), [(0, True, header, 0)]),
+            ):
+                self.assertEqual(marks.salvage(text), expected)
+        for first in 0, 11, 13, 15, 46, 255:
+            self.assertEqual(marks.salvage(bytes([first]) + fit(b"abc")[1:]), [])
+        for text in b"", b".FIT", b"\x0c" * 7 + b".FIT" + bytes(20):
+            self.assertEqual(marks.salvage(text), [])
+
+    def test_cut_at_every_byte(self):
+        text = b"..." + fit(b"first", 12) + fit(b"second" + fit(b"within", 14) + b".FIT") + fit(b"", 12) + b"." + fit(b"last", 14)
+        self.assertEqual([ride.whole for ride in marks.salvage(text)], 5 * [True])
+        for at in range(len(text) + 1):
+            self.assertEqual(marks.salvage(text[:at]), rides_plainly(text[:at]))
+            self.assertEqual(marks.salvage(text[at:]), rides_plainly(text[at:]))
+
+    def test_a_size_that_nothing_has(self):
+        for header in 12, 14:
+            for declared in 0xFFFFFFFF, 2**32 - header - 2, 2**32 - header, 2**31, 2**24:
+                text = b"......" + fit(bytes(1000), header, declared)
+                tracemalloc.start()
+                try:
+                    self.assertEqual(marks.salvage(text), [(6, False, header, declared)])
+                    self.assertLess(tracemalloc.get_traced_memory()[1], MEBI // 16)
+                finally:
+                    tracemalloc.stop()
+
+    def test_across_the_seams_of_parts(self):
+        chance = random.Random(5)
+        for _ in range(200):
+            pieces = [chance.choice((fit(bytes(chance.randrange(9)), chance.choice((12, 14)), chance.choice((None, 30, 60, 0xFFFFFFFF))),
+                                     bytes(chance.randrange(20)), b"\x0e..\x0c....FIT", b".FIT")) for _ in range(12)]
+            text = b"".join(pieces)[:chance.randrange(200)]
+            for part in 14, 15, 16, 27, 40, 100:
+                with mock.patch.object(_salvage, "_LONGEST_PART", part):
+                    self.assertEqual(marks.salvage(text), rides_plainly(text))
+
+    def test_across_the_longest_text_of_an_entry(self):
+        seam, text = 16 * MEBI, bytearray(17 * MEBI)
+        for start in range(seam - 15, seam + 2):
+            for header, too_many in (12, 1), (14, 0):
+                declared = len(text) - start - header - 2 + too_many
+                text[start:start + header] = fit(b"", header, declared)[:-2]
+                self.assertEqual(marks.salvage(text), [(start, too_many == 0, header, declared)])
+                text[start:start + header] = bytes(header)
+
+    def test_beyond_two_seams(self):
+        text, starts = bytearray(33 * MEBI), (0, 16 * MEBI - 13, 16 * MEBI + 1, 32 * MEBI - 26, 32 * MEBI - 12, 33 * MEBI - 16)
+        left = [len(text) - start - 16 for start in starts]
+        for start, declared in zip(starts, left):
+            text[start:start + 14] = fit(b"", 14, declared)[:-2]
+        with memoryview(text) as whole, whole[:-1] as cut:
+            for lent, kind in (whole, True), (cut, False):
+                self.assertEqual(marks.salvage(lent), [(start, kind, 14, declared) for start, declared in zip(starts, left)])
+
+    def test_more_than_a_list_has_room_for(self):
+        for text in fit(b"", 12) * 5000, b".FIT\x0c\0" * 5000, (b".FIT\x0c\0" * 64)[:-1], (b".FIT\x0c\0" * 68)[:-1]:
+            self.assertEqual(marks.salvage(text), rides_plainly(text))
+
+    def test_both_lists_get_as_many_as_fit_the_shorter(self):
+        text = fit(b"abc") + fit(b"abcd", 12) + fit(b"ab")[:-1]
+        for starts_len, kinds_len in (0, 0), (3, 0), (0, 3), (1, 2), (2, 1), (2, 4), (4, 4):
+            starts, kinds = array.array("I", [7] * starts_len), array.array("B", [7] * kinds_len)
+            self.assertEqual(_entries.salvage(_lent.Lent(text, "text"), starts, kinds), 3)
+            fit_both = min(3, starts_len, kinds_len)
+            self.assertEqual(starts.tolist(), [0, 19, 37][:fit_both] + [7] * (starts_len - fit_both))
+            self.assertEqual(kinds.tolist(), [1, 1, 0][:fit_both] + [7] * (kinds_len - fit_both))
+
+    def test_of_every_kind_of_buffer(self):
+        text = fit(b"abcd") + fit(b"", 12)[:12]
+        expected = [(0, True, 14, 4), (20, False, 12, 0)]
+        numbers = array.array("I", text)
+        for lent in (bytearray(text), memoryview(b"x" + text)[1:], numbers, memoryview(numbers).cast("B").cast("B", (8, 4)),
+                     (ctypes.c_uint32 * 8).from_buffer(numbers)):
+            self.assertEqual(marks.salvage(lent), expected)
+        with tempfile.TemporaryFile() as file:
+            file.write(bytes(MEBI) + text)
+            file.flush()
+            with mmap.mmap(file.fileno(), 0, access=mmap.ACCESS_READ) as mapped:
+                self.assertEqual([ride.start for ride in marks.salvage(mapped)], [MEBI, MEBI + 20])
+
+    def test_a_ride_is_a_tuple_of_what_is_known(self):
+        ride, = marks.salvage(fit(b"abc"))
+        self.assertEqual(repr(ride), "Ride(start=0, whole=True, header=14, declared=3)")
+        self.assertIs(ride.whole, True)
+        for again in copy.copy(ride), pickle.loads(pickle.dumps(ride)):
+            self.assertEqual((type(again), again), (Ride, ride))
+        self.assertEqual((Ride.__module__, marks.salvage.__module__), ("marks", "marks"))
+
+
 # a file, the number that it is refused with, and where: those of docs/FILE.md, then more of edition 2
 BROKEN = (
     ("01 80", 5, 2),
@@ -465,6 +582,11 @@ class Refusals(unittest.TestCase):
         for engine, entries in ("backward", 17), ("turbo", 17), ("failure", 29):
             self.refuses(3, None, _entries.search, engine, word, _lent.Lent(b"ab", "text"), _entries.room("H", entries), finds)
         self.refuses(3, None, lambda: _entries._asked(LIBRARY.marks_failure_build, word, _entries.room("H", 29), answers=1))
+        starts, kinds = _entries.room("I", 1), _entries.room("B", 1)
+        self.refuses(4, None, _entries.salvage, text, starts, kinds)
+        for given, entries, number in (text, 0, 4), (b"", 29, 3), (b"", 0, 3):
+            self.refuses(number, None,
+                         lambda: _entries._asked(LIBRARY.marks_salvage, given, _entries.room("H", entries), starts, kinds, answers=1))
         for entry, size in (LIBRARY.marks_save, 7), (LIBRARY.marks_save_checked, 9):
             out = _entries.room("B", size - 1)
             self.refuses(12, None, lambda: _entries._asked(entry, word, _entries.tables(2), out, answers=1))

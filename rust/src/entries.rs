@@ -1,6 +1,6 @@
 //! The exported entries over lent slices, as they are. Every one may be handed any slices: it answers, or refuses with its number of the table, and with the
-//! offset where a file is at fault, and leaves what its promise says. Nothing is allocated. [`Mark`](crate::Mark) and [`Stream`](crate::Stream) are easier to
-//! use.
+//! offset where a file is at fault, and leaves what its promise says. Nothing is allocated. [`Mark`](crate::Mark), [`Stream`](crate::Stream) and
+//! [`rides`](crate::rides()) are easier to use.
 
 #![allow(unsafe_code)]
 
@@ -97,6 +97,17 @@ extern "C" {
         piece_len: usize,
         finds: *mut u32,
         finds_len: usize,
+        count: *mut u64,
+    ) -> u32;
+    fn marks_salvage(
+        text: *const u8,
+        text_len: usize,
+        tables: *mut u16,
+        tables_len: usize,
+        starts: *mut u32,
+        starts_len: usize,
+        kinds: *mut u8,
+        kinds_len: usize,
         count: *mut u64,
     ) -> u32;
 }
@@ -355,6 +366,48 @@ pub fn take(searcher: &mut [u8], piece: &[u8], finds: &mut [u32]) -> Result<usiz
     // SAFETY: `searcher`, `piece` and `finds` are slices, handed over with their lengths, and `count` is a local: what is written is borrowed here alone.
     let said = unsafe {
         marks_take(searcher.as_mut_ptr(), searcher.len(), piece.as_ptr(), piece.len(), finds.as_mut_ptr(), finds.len(), &raw mut count)
+    };
+    told(said, count).map(size)
+}
+
+/// The rides in a text by their FIT headers: where each begins in `starts`, and in `kinds` whether header, data and check end within the text, as the number
+/// of its [`RideKind`](crate::RideKind). Both get the first of them, rising, as many as fit the shorter one; what is behind them stays as it was. The first
+/// [`RIDE_TABLES`](crate::RIDE_TABLES) entries of `tables` are left as by [`search`] for `.FIT`. The answer is how many are listed, fitting or not.
+///
+/// A header is 12 or 14 bytes that are wholly inside the text: its first byte is that size, bytes 4 to 7 say how many bytes of data follow it, low byte first,
+/// and bytes 8 to 11 are `.FIT`; behind the data is a check of two bytes. What it declares decides its kind and nothing else, and the check is not tested.
+///
+/// ```
+/// use marks::{entries::salvage, RideKind, RIDE_TABLES};
+///
+/// // a ride of three bytes, and one that declares four billion of them
+/// let text = b"\x0c\x10\0\0\x03\0\0\0.FITabc##\x0c\x10\0\0\xff\xff\xff\xff.FITab";
+/// let (mut tables, mut starts, mut kinds) = ([0; RIDE_TABLES], [9; 3], [9; 3]);
+/// assert_eq!(salvage(text, &mut tables, &mut starts, &mut kinds)?, 2);
+/// assert_eq!(starts, [0, 17, 9]);
+/// assert_eq!(kinds, [RideKind::Whole as u8, RideKind::Cut as u8, 9]);
+/// # Ok::<(), marks::Refusal>(())
+/// ```
+///
+/// # Errors
+///
+/// The refusals 4 and 3, the latter where there are fewer entries than [`RIDE_TABLES`](crate::RIDE_TABLES); they change nothing.
+pub fn salvage(text: &[u8], tables: &mut [u16], starts: &mut [u32], kinds: &mut [u8]) -> Result<usize, Refusal> {
+    let mut count = 0;
+    // SAFETY: `text`, `tables`, `starts` and `kinds` are slices, handed over with their lengths, and `count` is a local: what is written is borrowed here
+    // alone.
+    let said = unsafe {
+        marks_salvage(
+            text.as_ptr(),
+            text.len(),
+            tables.as_mut_ptr(),
+            tables.len(),
+            starts.as_mut_ptr(),
+            starts.len(),
+            kinds.as_mut_ptr(),
+            kinds.len(),
+            &raw mut count,
+        )
     };
     told(said, count).map(size)
 }

@@ -35,8 +35,20 @@
 //! # Ok::<(), marks::Refusal>(())
 //! ```
 //!
+//! A ride file that was cut, or several in one upload, are listed by their headers: [`rides()`] over bytes, [`rides_in`] over what can be read. Each [`Ride`]
+//! is whole or cut, by the size that its header declares, and that is all that the size is believed for.
+//!
+//! ```
+//! use marks::{rides, RideKind};
+//!
+//! // a header of 12 bytes, three bytes of data and a check of two; then a ride of which all but the header is lost
+//! let upload = b"\x0c\x10\0\0\x03\0\0\0.FITabc##\x0c\x10\0\0\xff\xff\xff\xff.FIT";
+//! let found: Vec<_> = rides(upload).map(|ride| (ride.start, ride.kind, ride.declared)).collect();
+//! assert_eq!(found, [(0, RideKind::Whole, 3), (17, RideKind::Cut, 0xffff_ffff)]);
+//! ```
+//!
 //! What is refused is refused with a number of one table, [`Refusal`]; nothing panics, and no declared number is acted on before it is
-//! checked. A refused file comes with the offset at which it is broken, in a [`LoadError`]. [`entries`] has the eleven entries themselves,
+//! checked. A refused file comes with the offset at which it is broken, in a [`LoadError`]. [`entries`] has the twelve entries themselves,
 //! over slices that the caller lends.
 
 #![deny(unsafe_code)]
@@ -46,10 +58,14 @@ mod engine;
 pub mod entries;
 mod finds;
 mod finds_in;
+mod headers;
 mod load_error;
 mod mark;
 mod parts;
 mod refusal;
+mod ride;
+mod rides;
+mod rides_in;
 mod search;
 mod shown;
 mod stream;
@@ -62,6 +78,9 @@ pub use finds_in::FindsIn;
 pub use load_error::LoadError;
 pub use mark::Mark;
 pub use refusal::Refusal;
+pub use ride::{Ride, RideKind};
+pub use rides::{rides, Rides};
+pub use rides_in::{rides_in, RidesIn};
 pub use stream::{Each, Stream};
 pub use taken::Taken;
 
@@ -71,7 +90,7 @@ pub const LONGEST_WORD: usize = 4_096;
 /// The shortest word that is saved, in bytes. A shorter one can be looked for all the same.
 pub const LEAST_SAVED: usize = 2;
 
-/// The longest text that one call of an entry takes, in bytes, or one searcher in all. [`Mark`] and [`Stream`] take longer ones, in parts.
+/// The longest text that one call of an entry takes, in bytes, or one searcher in all. [`Mark`], [`Stream`] and [`rides()`] take longer ones, in parts.
 pub const LONGEST_TEXT: usize = 16_777_216;
 
 /// The longest word of a [`Stream`], in bytes.
@@ -82,6 +101,9 @@ pub const SEARCHER: usize = 134;
 
 /// So many bytes are room enough for the file of any word, in either edition.
 pub const LONGEST_FILE: usize = 5 * LONGEST_WORD + 3;
+
+/// How many entries [`entries::salvage`] takes for the table of `.FIT`.
+pub const RIDE_TABLES: usize = table_room(4);
 
 /// How many entries the table of a word of m letters takes.
 #[must_use]

@@ -22,17 +22,19 @@ pub(crate) struct Parts<R> {
     least: usize,
     start: u64,
     filled: usize,
+    /// How many letters of the part at hand were in the one before it too.
+    kept: usize,
     /// Whether the source has ended, and by which error, until that was told.
     ended: bool,
     failed: Option<io::Error>,
 }
 
 impl<R: Read> Parts<R> {
-    /// The parts for a mark of so many letters, at least one.
+    /// The parts for a mark of so many letters, at least one; or for headers of rides, where the longest has so many.
     pub fn new(source: R, letters: usize) -> Parts<R> {
         let (common, part) = (letters - 1, LEAST_PART.max(PART_FOR_A_LETTER * letters));
         let least = letters.div_ceil(NEW_OF_LETTERS);
-        Parts { source, room: vec![0; common + part], common, least, start: 0, filled: 0, ended: false, failed: None }
+        Parts { source, room: vec![0; common + part], common, least, start: 0, filled: 0, kept: 0, ended: false, failed: None }
     }
 
     /// Goes on to the next part. Whether there is one; else nothing is at hand in which a mark could stand. What came before an error is a part, too.
@@ -40,7 +42,7 @@ impl<R: Read> Parts<R> {
         let kept = self.filled.min(self.common);
         self.room.copy_within(self.filled - kept..self.filled, 0);
         self.start += (self.filled - kept) as u64;
-        self.filled = kept;
+        (self.filled, self.kept) = (kept, kept);
         while !self.ended && self.filled - kept < self.least {
             match read(&mut self.source, &mut self.room[self.filled..]) {
                 Ok(more) => (self.filled, self.ended) = (self.filled + more, more == 0),
@@ -53,9 +55,19 @@ impl<R: Read> Parts<R> {
         }
     }
 
+    /// How many letters a part has at most.
+    pub fn longest(&self) -> usize {
+        self.room.len()
+    }
+
     /// The part at hand. There is none before the first.
     pub fn at_hand(&self) -> &[u8] {
         &self.room[..self.filled]
+    }
+
+    /// How many of its first letters were in the part before it too.
+    pub fn kept(&self) -> usize {
+        self.kept
     }
 
     /// The place of its first letter.
@@ -69,7 +81,8 @@ impl<R: Read> Parts<R> {
     }
 }
 
-fn read(source: &mut impl Read, room: &mut [u8]) -> io::Result<usize> {
+/// Reads once, however often that is interrupted.
+pub(crate) fn read(source: &mut impl Read, room: &mut [u8]) -> io::Result<usize> {
     loop {
         match source.read(room) {
             Err(error) if error.kind() == ErrorKind::Interrupted => {}

@@ -1,7 +1,8 @@
 //! A header that declares four billion letters costs six bytes: the file goes on in memory that cannot be read, and the rooms cannot be touched at all. So with
 //! a searcher that is refused: the piece and the list cannot be touched, and no byte behind it can. So with a search that is refused. An offset is written only
-//! by the refusals that have one. And a thread of 64 KiB has stack enough for a search.
-use marks::{entries, failure_table_room, table_room, Refusal, LONGEST_TEXT, LONGEST_WORD, SEARCHER};
+//! by the refusals that have one. Rides are listed without a look behind the text, whatever their headers declare. And a thread of 64 KiB has stack enough for
+//! a search.
+use marks::{entries, failure_table_room, table_room, Refusal, LONGEST_TEXT, LONGEST_WORD, RIDE_TABLES, SEARCHER};
 use std::{ffi::c_void, ptr};
 
 const PAGE: usize = 65_536;
@@ -79,6 +80,17 @@ extern "C" {
         piece_len: usize,
         finds: *mut u32,
         finds_len: usize,
+        count: *mut u64,
+    ) -> u32;
+    fn marks_salvage(
+        text: *const u8,
+        text_len: usize,
+        tables: *mut u16,
+        tables_len: usize,
+        starts: *mut u32,
+        starts_len: usize,
+        kinds: *mut u8,
+        kinds_len: usize,
         count: *mut u64,
     ) -> u32;
 }
@@ -267,6 +279,67 @@ fn a_refused_failure_oracle_touches_nothing() {
     assert_eq!(failure_with_all_forbidden(LONGEST_WORD, LONGEST_TEXT, room - 1), 3);
 }
 
+/// Lists rides where nothing can be touched, the text and the tables having so many elements. What it says.
+fn salvage_with_all_forbidden(text_len: usize, tables_len: usize) -> u32 {
+    let [text, tables, starts, kinds] = [(); 4].map(|()| forbidden_behind_a_page(1));
+    let mut count = 99;
+    // SAFETY: as above.
+    let refused = unsafe { marks_salvage(text, text_len, tables.cast(), tables_len, starts.cast(), 1 << 10, kinds, 1 << 10, &mut count) };
+    assert_eq!(count, 99);
+    refused
+}
+
+#[test]
+fn refused_listing_of_rides_touches_nothing() {
+    assert_eq!(salvage_with_all_forbidden(LONGEST_TEXT + 1, 0), 4);
+    assert_eq!(salvage_with_all_forbidden(usize::MAX >> 1, RIDE_TABLES), 4);
+    assert_eq!(salvage_with_all_forbidden(LONGEST_TEXT, RIDE_TABLES - 1), 3);
+    assert_eq!(salvage_with_all_forbidden(0, 0), 3);
+}
+
+/// Lists the rides of a text behind which nothing can be touched, nor behind the tables, nor behind lists for one ride. The count, the start and the kind.
+fn salvage_with_forbidden_rest(bytes: &[u8]) -> (u64, u32, u8) {
+    let [text, tables, starts, kinds] = [(); 4].map(|()| forbidden_behind_a_page(1));
+    let mut count = 99;
+    // SAFETY: the entry is lent the last bytes of four pages, which may be read and written, and is not to touch those behind them.
+    unsafe {
+        let (text, tables) = (text.sub(bytes.len()), tables.cast::<u16>().sub(RIDE_TABLES));
+        let (start, kind) = (starts.cast::<u32>().sub(1), kinds.sub(1));
+        ptr::copy_nonoverlapping(bytes.as_ptr(), text, bytes.len());
+        assert_eq!(marks_salvage(text, bytes.len(), tables, RIDE_TABLES, start, 1, kind, 1, &mut count), 0);
+        (count, *start, *kind)
+    }
+}
+
+#[test]
+fn no_byte_behind_a_text_is_read_whatever_its_headers_declare() {
+    for declared in [0u32, 1, 2, 1 << 16, 1 << 24, u32::MAX - 15, u32::MAX] {
+        for bytes in [12, 14] {
+            let header = [&[bytes, 0x10, 0, 0][..], &declared.to_le_bytes(), b".FIT\0\0"].concat();
+            let text = [b"..", &header[..usize::from(bytes)]].concat();
+            assert_eq!(salvage_with_forbidden_rest(&text), (1, 2, 0));
+            assert_eq!(salvage_with_forbidden_rest(&[&text[..], b"##"].concat()), (1, 2, u8::from(declared == 0)));
+            assert_eq!(salvage_with_forbidden_rest(&text[..text.len() - 1]).0, 0);
+            assert_eq!(salvage_with_forbidden_rest(&[&text[..], &header[..usize::from(bytes)]].concat()).0, 2);
+        }
+    }
+}
+
+#[test]
+fn lists_of_no_entries_and_a_text_of_no_bytes_may_be_null() {
+    let (mut tables, mut count) = ([0; RIDE_TABLES], 99);
+    let header = b"\x0c\x10\0\0\0\0\0\0.FIT";
+    for (text, bytes, rides) in [(ptr::null(), 0, 0), (header.as_ptr(), header.len(), 1)] {
+        // SAFETY: what is null has no elements.
+        let said =
+            unsafe { marks_salvage(text, bytes, tables.as_mut_ptr(), RIDE_TABLES, ptr::null_mut(), 0, ptr::null_mut(), 0, &mut count) };
+        assert_eq!((said, count), (0, rides));
+    }
+    // SAFETY: as above.
+    let said = unsafe { marks_salvage(ptr::null(), 0, ptr::null_mut(), 0, ptr::null_mut(), 0, ptr::null_mut(), 0, &mut count) };
+    assert_eq!((said, count), (3, 1));
+}
+
 #[test]
 fn a_text_below_the_word_is_not_looked_at() {
     let (text, finds) = (forbidden_behind_a_page(1), forbidden_behind_a_page(1));
@@ -302,4 +375,14 @@ fn a_thread_of_64_kib_has_stack_enough() {
             assert!(count.is_ok_and(|count| count >= 2));
         }
     }
+}
+
+/// The same of listing rides, in a long text that is full of headers.
+#[test]
+fn a_thread_of_64_kib_has_stack_enough_for_rides() {
+    let text = b"\x0c\0.FIT".repeat(100_000);
+    let (mut starts, mut kinds) = (vec![0; 100_000], vec![0; 100_000]);
+    let list = move || entries::salvage(&text, &mut [0; RIDE_TABLES], &mut starts, &mut kinds);
+    let count = std::thread::Builder::new().stack_size(1 << 16).spawn(list).unwrap().join().unwrap();
+    assert_eq!(count, Ok(99_999));
 }

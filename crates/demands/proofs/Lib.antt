@@ -10,3 +10,4 @@ pub mod HostileText
 pub mod OneLetterMarks
 pub mod FailureOracle
 pub mod EditionTwo
+pub mod SalvageLister

@@ -1,5 +1,5 @@
 -- Every example of the table holds: the checker computes the rules, the supplies, the searches, the tables, the files, their
--- checks, the refusals and the pieces, and compares.
+-- checks, the refusals, the pieces and the rides, and compares.
 use lib.Dec.{T}
 use Rattle.words.specs.Lists.{from, only, first}
 use Rattle.words.specs.Words.{same, stands, occurrences}
@@ -24,6 +24,9 @@ use Rattle.editions.specs.Either.{asPlain, endingEither, verdictEither}
 use Rattle.mark_files.specs.Load.{loadWithin}
 use Rattle.mark_files.specs.Save.{saveIn}
 use Rattle.finds.specs.Finds.{filled}
+use Rattle.two_lists.specs.TwoLists.{filledTo}
+use Rattle.rides.specs.Rides.{dotFit, allowed, dataSize, headerInside, inHeader, kindOf, ridesAt, rides}
+use Rattle.salvage.specs.Salvage.{salvageSays}
 use Rattle.pieces.specs.Kept.{kept}
 use Rattle.stream.specs.Searchers.{searcherOf, after, finds, makeable}
 use Rattle.stream.specs.Pieces.{joined}
@@ -44,6 +47,7 @@ unfolding from only first same stands occurrences longestWord longestText longes
     groups spellNumber refuses see seeNumber numberAt edition stepsFrom spellSteps ownSteps body spell
     frontWithin twoAt arrowsAt ending asPlain endingEither verdictEither loadWithin saveIn
     shifted fed digits bitsOf check sealed
+    filledTo dotFit allowed dataSize headerInside inHeader kindOf ridesAt rides salvageSays
     is isNone walked empty has failsTo joined gives isRefused isRefusedAt loadInRooms leaves refusesIn refusesToSave shows isDoneWith
     takenInTurn holds allHold word digit bytes table
 examples-hold = tt

@@ -17,7 +17,7 @@ use Prim.Native.Char.{code}
 use Prim.Native.String.{String}
 use lib.ListN.{length, replicate}
 use lib.Dec.{eqb, ltb}
-use Rattle.words.specs.Words.{Word, Place, letter, same, occurrences}
+use Rattle.words.specs.Words.{Word, Place, letter, mirror, same, occurrences}
 use Rattle.words.specs.Limits.{longestWord}
 use Rattle.oracle.specs.Arrows.{State, Delta, target, walk}
 use Rattle.oracle.specs.SuffixRule.{suffixRule, extraArrows, oracle}
@@ -39,6 +39,8 @@ use Rattle.answers.specs.Answers.{Answer, done, refused, refusedAt}
 use Rattle.mark_files.specs.Load.{Outcome, loadSays}
 use Rattle.mark_files.specs.Save.{saveIn}
 use Rattle.finds.specs.Finds.{filled}
+use Rattle.rides.specs.Rides.{dotFit, rides, starts, kinds}
+use Rattle.salvage.specs.Salvage.{dotFitRoom, salvageSays}
 use Rattle.stream.specs.declared.Searcher.{Searcher}
 use Rattle.stream.specs.Pieces.{joined}
 use Rattle.stream.specs.Opening.{openSays}
@@ -89,6 +91,12 @@ pub data Example : Type 0 where
   letThrough : (start : List ℕ) (m : ℕ) → Example
   -- a word and the pieces of a text, what is found in each of them, and how many letters are kept at the end
   inPieces : (word : Word) (pieces : List Word) (found : List (List Place)) (keep : ℕ) → Example
+  -- a text, and where its rides begin and their kinds
+  ridesOf : (text : Word) (begin kind : List ℕ) → Example
+  -- a text, two lists, how many rides are counted, and the lists as they are left; the tables are those of `.FIT`'s mirror
+  salvages : (text : Word) (S K : List ℕ) (count : ℕ) (S′ K′ : List ℕ) → Example
+  -- a text, refused with a number in so many table entries, which leaves them and both lists as they were
+  salvageRefused : (text : Word) (entries number : ℕ) → Example
 
 unfoldable pub is : Option ℕ → ℕ → Bool
 is none y = false
@@ -222,6 +230,13 @@ holds (roomRefused f m n) =
     isRefused (o .answer) n && leaves m 9 o
 holds (letThrough start m) = shows (frontEither longestWord (start ++ replicate m 97) 0) m (length start)
 holds (inPieces w l found k) = takenInTurn (openSays w .searcher) l found k
+holds (ridesOf t s k) = same (starts (rides t)) s && same (kinds (rides t)) k
+holds (salvages t S K n S′ K′) =
+    let o = salvageSays t (replicate dotFitRoom 9) S K in
+    isDoneWith (o .answer) n && (same (o .tables) (tableOf (mirror dotFit)) && (same (o .starts) S′ && same (o .kinds) K′))
+holds (salvageRefused t e n) =
+    let o = salvageSays t (replicate e 9) (9 ∷ []) (9 ∷ []) in
+    isRefused (o .answer) n && (same (o .tables) (replicate e 9) && (same (o .starts) (9 ∷ []) && same (o .kinds) (9 ∷ [])))
 
 unfoldable pub allHold : List Example → Bool
 allHold [] = true
@@ -349,4 +364,20 @@ table =
     ∷ arrowsRefused (bytes "01 07 61 62 62 62 61 61 62 04 00 00 01 03 01 01 01 00 2A 2A") 7 11 18
     ∷ inPieces (word "aba") (word "ab" ∷ word "" ∷ word "ab" ∷ word "a" ∷ []) ([] ∷ [] ∷ (0 ∷ []) ∷ (2 ∷ []) ∷ []) 1
     ∷ inPieces (word "aa") (word "a" ∷ word "aaaa" ∷ word "b" ∷ []) ([] ∷ (0 ∷ 1 ∷ 2 ∷ 3 ∷ []) ∷ [] ∷ []) 0
+    ∷ ridesOf (bytes "0C 10 64 00 02 00 00 00 2E 46 49 54 61 62 00 00") (0 ∷ []) (1 ∷ [])
+    ∷ ridesOf (bytes "0C 10 64 00 02 00 00 00 2E 46 49 54 61 62 00") (0 ∷ []) (0 ∷ [])
+    ∷ ridesOf (bytes "0C 10 64 00 00 00 00 00 2E 46 49 54") (0 ∷ []) (0 ∷ [])
+    ∷ ridesOf (bytes "0E 10 64 00 00 00 00 00 2E 46 49 54 00 00 00 00") (0 ∷ []) (1 ∷ [])
+    ∷ ridesOf (bytes "0E 10 64 00 00 00 00 00 2E 46 49 54 00 00") (0 ∷ []) (0 ∷ [])
+    ∷ ridesOf (bytes "0E 10 64 00 00 00 00 00 2E 46 49 54 00") [] []
+    ∷ ridesOf (bytes "0D 10 64 00 00 00 00 00 2E 46 49 54 00 00 00 00") [] []
+    ∷ ridesOf (bytes "0E 10 64 00 00 00 00 2E 46 49 54 00 00 00 00") [] []
+    ∷ ridesOf (bytes "0C 10 64 00 FF FF FF FF 2E 46 49 54 61 62 00 00") (0 ∷ []) (0 ∷ [])
+    ∷ ridesOf (bytes "0C 10 64 00 00 02 00 00 2E 46 49 54 61 62 00 00") (0 ∷ []) (0 ∷ [])
+    ∷ salvages (bytes "0C 00 00 00 00 00 00 00 2E 46 49 54 00 00 0E 00 00 00 09 00 00 00 2E 46 49 54 00 00") (7 ∷ 7 ∷ 7 ∷ []) (7 ∷ []) 2
+    (0 ∷ 7 ∷ 7 ∷ []) (1 ∷ [])
+    ∷ salvages (bytes "0C 00 00 00 00 00 00 00 2E 46 49 54 00 00 0E 00 00 00 09 00 00 00 2E 46 49 54 00 00") (7 ∷ 7 ∷ []) (7 ∷ 7 ∷ 7 ∷ []) 2
+    (0 ∷ 14 ∷ []) (1 ∷ 0 ∷ 7 ∷ [])
+    ∷ salvages (bytes "2E 46 49 54") (7 ∷ []) (7 ∷ []) 0 (7 ∷ []) (7 ∷ [])
+    ∷ salvageRefused (bytes "0C 10 64 00 02 00 00 00 2E 46 49 54 61 62 00 00") 29 3
     ∷ []

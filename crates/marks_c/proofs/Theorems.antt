@@ -18,6 +18,8 @@ use Rattle.failure_entries.specs.FailureBuild.{failureBuildSays}
 use Rattle.failure_entries.specs.FailureSearch.{failureSearchSays}
 use Rattle.failure_entries.proofs.BuildSays.{failure-build-numbers}
 use Rattle.failure_entries.proofs.SearchSays.{failure-search-numbers}
+use Rattle.salvage.specs.Salvage.{salvageSays}
+use Rattle.salvage.proofs.SalvageSays.{salvage-numbers}
 use Rattle.editions.specs.Editions.{plain, checked}
 use Rattle.mark_files.specs.Save.{saveSays, saveCheckedSays}
 use Rattle.mark_files.specs.Load.{loadSays}
@@ -31,6 +33,7 @@ use Rattle.searcher_bytes.proofs.OpenBytesSays.{open-numbers}
 use Rattle.searcher_bytes.proofs.TakeBytesSays.{take-numbers}
 use Rattle.marks_c.specs.Streams.{openCallSays, takeCallSays}
 use Rattle.marks_c.specs.FailureCalls.{failureBuildCallSays, failureSearchCallSays}
+use Rattle.marks_c.specs.SalvageCalls.{salvageCallSays}
 use Rattle.marks_c.specs.Calls.{resultOf, offsetGiven, saveCheckedCallSays}
 use Rattle.marks_c.specs.Calls.{buildCallSays, saveCallSays, loadCallSays, searchCallSays, turboCallSays, searchFileCallSays}
 
@@ -88,6 +91,11 @@ pub failure-search-done : (word text : Word) (T : List ℕ) (F : List Place) (c 
     → (failureSearchCallSays word text T F c l f .result ≡ 0) ↔ Succeeds (failureSearchSays word text T F .answer)
 unfolding oneOf
 failure-search-done word text T F c l f = done-exactly (1 ∷ 2 ∷ 4 ∷ 3 ∷ []) [] refl refl _ (failure-search-numbers word text T F)
+
+pub salvage-done : (text : Word) (T : List ℕ) (S : List Place) (K : List ℕ) (c : ℕ)
+    → (salvageCallSays text T S K c .result ≡ 0) ↔ Succeeds (salvageSays text T S K .answer)
+unfolding oneOf
+salvage-done text T S K c = done-exactly (4 ∷ 3 ∷ []) [] refl refl _ (salvage-numbers text T S K)
 
 pub search-file-done : (file : List ℕ) (text : Word) (R T : List ℕ) (F : List Place) (c l : ℕ) (p : Place)
     → (searchFileCallSays file text R T F c l p .result ≡ 0) ↔ Succeeds (searchFileSays file text R T F .answer)

@@ -10,6 +10,7 @@ ghost use Rattle.marks_c.specs.Calls.{searchFileCall, searchFileCallSays
 ghost use Rattle.failure_entries.specs.FailureSearch.{failureAnswer};
 ghost use Rattle.marks_c.specs.FailureCalls.{failureBuildCallSays, failureCountGiven, failureLettersGiven, failuresGiven};
 ghost use Rattle.marks_c.specs.FailureCalls.{failureSearchCall, failureSearchCallSays};
+ghost use Rattle.marks_c.specs.SalvageCalls.{salvageCall, salvageCallSays};
 ghost use Rattle.marks_c.specs.Streams.{openCall, openCallSays, takeCall, takeCallSays};
 
 // What C is told of an answer: the number that is returned, and the size where the entry is done.
@@ -233,6 +234,21 @@ pub extern "C" fn marks_failure_search(
 {
     let searched = failure_entries::failure_search(word, text, tables, finds);
     tell_failures(searched, count, letters, failures)
+}
+
+#[no_mangle]
+pub extern "C" fn marks_salvage(
+    text: &[u8],
+    tables: &mut [u16],
+    starts: &mut [u32],
+    kinds: &mut [u8],
+    count: &mut u64,
+) -> u32
+    ensures { λ r. ⌜ salvageCall r (now (tables .exit)) (now (starts .exit)) (now (kinds .exit)) (now (count .exit))
+        ≡ salvageCallSays (now (text .entry)) (now (tables .entry)) (now (starts .entry)) (now (kinds .entry)) (now (count .entry)) ⌝ }
+{
+    let listed = salvage::salvage(text, tables, starts, kinds);
+    tell_size(listed, count)
 }
 
 #[no_mangle]

@@ -1,6 +1,6 @@
-//! speed [TABLE..]: measures `build`, `load`, `search`, `turbo`, `take` and the failure oracle on this machine, damages files and counts
-//! what becomes of them, and prints the tables of docs/SPEED.md, or those that are named, each between two lines that name it. Run it by
-//! `tools/speed`.
+//! speed [TABLE..]: measures `build`, `load`, `search`, `turbo`, `take`, `salvage` and the failure oracle on this machine, damages files and
+//! counts what becomes of them, and prints the tables of docs/SPEED.md, or those that are named, each between two lines that name it. Run it
+//! by `tools/speed`.
 
 mod arrows;
 mod clock;
@@ -14,8 +14,10 @@ mod lookup;
 mod pieces;
 mod plain;
 mod plain_forward;
+mod plain_rides;
 mod plain_stream;
 mod rivals;
+mod salvage;
 
 use clock::{best, ms};
 use marks::entries::{build, load, save, search, Tally};
@@ -243,6 +245,7 @@ const TABLES: &[(&str, fn())] = &[
     ("periodic", periodic_times),
     ("pieces", pieces::piece_times),
     ("faces", faces::face_times),
+    ("salvage", salvage::listing_times),
     ("failure", failure::random_times),
     ("failure_hostile", failure::hostile_times),
     ("failure_build", failure::build_times),

@@ -14,12 +14,15 @@ fn count(mut first_from: impl FnMut(usize) -> Option<usize>) -> u64 {
     count
 }
 
+/// The first find of memmem from a place on, which is not behind the text.
+pub fn memmem_from(word: &[u8], text: &[u8], at: usize) -> Option<usize> {
+    // SAFETY: the rest of the text and the word are whole slices.
+    let found = unsafe { memmem(text[at..].as_ptr(), text.len() - at, word.as_ptr(), word.len()) };
+    (!found.is_null()).then(|| found as usize - text.as_ptr() as usize)
+}
+
 pub fn memmem_count(word: &[u8], text: &[u8]) -> u64 {
-    count(|at| {
-        // SAFETY: the rest of the text and the word are whole slices.
-        let found = unsafe { memmem(text[at..].as_ptr(), text.len() - at, word.as_ptr(), word.len()) };
-        (!found.is_null()).then(|| found as usize - text.as_ptr() as usize)
-    })
+    count(|at| memmem_from(word, text, at))
 }
 
 #[cfg(with_memchr)]

@@ -100,7 +100,7 @@ fn a_name_takes_one_line_whatever_it_is() {
     here.marks(&["fi\nnd"]).is_with(
         2,
         "",
-        "marks: $'fi\\nnd': there is no such command; it is find, save, check, show or help; marks --help has more\n",
+        "marks: $'fi\\nnd': there is no such command; it is find, salvage, save, check, show or help; marks --help has more\n",
     );
     // bash takes the names back
     let line = format!("'{MARKS}' find -l aba $'a\\nride:7' $'c\\x1b[2J' $'r\\xe9sum\\xe9' $'$\\'x\\''");

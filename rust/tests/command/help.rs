@@ -3,8 +3,8 @@
 use crate::{told, Folder, Said};
 use marks::{LONGEST_FILE, LONGEST_WORD};
 
-const COMMANDS: [&str; 5] = ["find", "save", "check", "show", "help"];
-const OPTIONS: [&str; 22] = [
+const COMMANDS: [&str; 6] = ["find", "salvage", "save", "check", "show", "help"];
+const OPTIONS: [&str; 25] = [
     "hex",
     "mark",
     "hex-offsets",
@@ -20,6 +20,9 @@ const OPTIONS: [&str; 22] = [
     "json",
     "engine",
     "stats",
+    "unsized",
+    "extract",
+    "all",
     "force",
     "edition",
     "dot",
@@ -82,7 +85,7 @@ fn help_is_asked_for_in_every_way() {
     here.marks(&["help", "fnid"]).is_with(
         2,
         "",
-        "marks: fnid: there is no such command; it is find, save, check, show or help; marks --help has more\n",
+        "marks: fnid: there is no such command; it is find, salvage, save, check, show or help; marks --help has more\n",
     );
     // nothing asked for is no success
     let short = ask(&["-h"]);
@@ -137,10 +140,14 @@ fn bash_completes_the_line() {
     };
     let engines = ["auto", "backward", "turbo", "failure"];
     assert_eq!(offered(&["marks", ""]), COMMANDS);
-    assert_eq!(offered(&["marks", "s"]), ["save", "show"]);
+    assert_eq!(offered(&["marks", "s"]), ["salvage", "save", "show"]);
     assert_eq!(offered(&["marks", "help", "c"]), ["check"]);
     assert_eq!(offered(&["marks", "save", "-"]), ["-x", "--hex", "-f", "--force", "--edition", "-h", "--help", "-V", "--version"]);
     assert_eq!(offered(&["marks", "save", "--edition", ""]), ["1", "2"]);
+    assert_eq!(offered(&["marks", "salvage", "--"]).len(), 10);
+    assert_eq!(offered(&["marks", "salvage", "--ex"]), ["--extract"]);
+    assert_eq!(offered(&["marks", "salvage", "--extract", "oth"]), ["other"]);
+    assert_eq!(offered(&["marks", "salvage", "--extract", "=", "oth"]), ["other"]);
     assert_eq!(offered(&["marks", "find", "--st"]), ["--stats"]);
     assert_eq!(offered(&["marks", "show", "--f"]), ["--failure"]);
     assert_eq!(offered(&["marks", "-c", "find", "--engine", "=", "turbo", "--max"]), ["--max-count"]);
@@ -167,9 +174,12 @@ fn zsh_and_fish_take_their_completions() {
             said.is(0, "");
         }
     }
-    let asked = "HOME=$PWD fish --no-config -c 'source marks.fish; complete -C \"marks find --engine t\"; complete -C \"marks sa\"'";
-    if let Some(said) = judged(&here, "fish", asked) {
-        said.is(0, "turbo\thow to search; without it, auto\nsave\twrite the mark file that finds WORD\n");
+    let asked = ["marks find --engine t", "marks sa", "marks salvage --ex"].map(|line| format!("complete -C \"{line}\"")).join("; ");
+    let asked = format!("HOME=$PWD fish --no-config -c 'source marks.fish; {asked}'");
+    if let Some(said) = judged(&here, "fish", &asked) {
+        let [engine, salvage] = ["turbo\thow to search; without it, auto", "salvage\tlist the rides by FIT headers, whole or cut"];
+        let [save, extract] = ["save\twrite the mark file that finds WORD", "--extract\twrite each ride to a file of its own in DIR"];
+        said.is(0, &format!("{engine}\n{salvage}\n{save}\n{extract}\n"));
     }
     here.marks(&["--generate", "complete-csh"]).is_with(
         2,

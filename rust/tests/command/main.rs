@@ -4,16 +4,21 @@
 mod answers;
 mod endings;
 mod engines;
+mod extract;
 mod find;
 mod folders;
 mod help;
 mod jobs;
 mod mark_files;
 mod places;
+mod salvage;
 mod save;
 mod seams;
 mod usage;
 mod words;
+
+#[path = "../fit/mod.rs"]
+mod fit;
 
 use std::{
     ffi::OsStr,

@@ -17,7 +17,7 @@ fn options_stand_anywhere_up_to_two_hyphens() {
 #[test]
 fn what_cannot_be_done_is_said_with_what_to_do() {
     let here = Folder::new("usage").with("ride", "ababa");
-    let commands = "it is find, save, check, show or help; marks --help has more";
+    let commands = "it is find, salvage, save, check, show or help; marks --help has more";
     let options = "marks --help lists the options, and -- goes before a word that begins with - and is none";
     let save = "it takes a WORD and the file to write; as in marks save -x 2e464954 fit.mark";
     let show = "it takes one MARKFILE; name one that marks save wrote, or - for standard input";
@@ -50,7 +50,7 @@ fn what_cannot_be_done_is_said_with_what_to_do() {
         (&["find", "--failure", "a", "ride"], "find: --failure is for show; leave it out"),
         (&["show", "--failure=yes", "ride"], "--failure: it takes no value; leave = and what follows out"),
         (&["check", "-x", "ride"], "check: --hex is for find and save; leave it out"),
-        (&["find", "-f", "a", "ride"], "find: --force is for save; leave it out"),
+        (&["find", "-f", "a", "ride"], "find: --force is for save and salvage; leave it out"),
         (&["save", "-c", "a", "b"], "save: --count is for find; leave it out"),
         (&["check", "--engine", "turbo", "ride"], "check: --engine is for find; leave it out"),
         (&["save", "a"], &format!("save: {save}")),

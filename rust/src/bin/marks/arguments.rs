@@ -7,6 +7,7 @@ use crate::{
     names,
     options::Words,
     oracle::Kind,
+    salvage,
     save::Edition,
     trouble::Trouble,
     word::Word,
@@ -22,6 +23,7 @@ pub enum Command {
         kind: String,
     },
     Find(find::Asked),
+    Salvage(salvage::Asked),
     Save {
         word: Word,
         edition: Edition,
@@ -58,6 +60,7 @@ pub fn command(words: impl Iterator<Item = OsString>) -> Result<Command, Trouble
     }
     match name.to_str() {
         Some("find") => find::Asked::of(words).map(Command::Find),
+        Some("salvage") => salvage::Asked::of(words).map(Command::Salvage),
         Some("save") => save(words),
         Some("check") => check(words),
         Some("show") => show(words),

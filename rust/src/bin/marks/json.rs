@@ -3,11 +3,16 @@
 use crate::names::is_unseen;
 use std::{ffi::OsStr, os::unix::ffi::OsStrExt};
 
-/// The member that names a file: `"file":"ride"`, or its bytes in hex digits where they are not UTF-8.
+/// The member that names a file which was read: `"file":"ride"`, or its bytes in hex digits where they are not UTF-8.
 pub fn file(name: &OsStr) -> String {
+    member("file", name)
+}
+
+/// The same under another name of the member.
+pub fn member(member: &str, name: &OsStr) -> String {
     match name.to_str() {
-        Some(text) => format!("\"file\":{}", string(text)),
-        None => format!("\"file_hex\":\"{}\"", name.as_bytes().iter().map(|byte| format!("{byte:02x}")).collect::<String>()),
+        Some(text) => format!("\"{member}\":{}", string(text)),
+        None => format!("\"{member}_hex\":\"{}\"", name.as_bytes().iter().map(|byte| format!("{byte:02x}")).collect::<String>()),
     }
 }
 

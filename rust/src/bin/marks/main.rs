@@ -1,5 +1,6 @@
-//! marks: finds byte marks in files of any size, and saves, checks and shows them. The proved library does the finding, saving and loading;
-//! the program takes the command line apart, reads, prints, and says what went wrong and what to do.
+//! marks: finds byte marks in files of any size, and saves, checks and shows them; lists the rides in broken files, and writes them out. The
+//! proved library does the finding, listing, saving and loading; the program takes the command line apart, reads, prints, and says what went
+//! wrong and what to do.
 #![deny(unsafe_code)]
 
 mod arguments;
@@ -19,7 +20,9 @@ mod names;
 mod options;
 mod oracle;
 mod output;
+mod place;
 mod progress;
+mod salvage;
 mod save;
 mod show;
 mod trouble;
@@ -34,7 +37,7 @@ use trouble::Trouble;
 /// What the status says.
 #[derive(PartialEq)]
 enum Answer {
-    /// Found, all good, or done.
+    /// Found, listed, all good, or done.
     Yes,
     No,
     /// Found, which was all that was asked for: trouble on the way does not matter.
@@ -59,6 +62,7 @@ fn run(command: Command, output: &mut Output) -> Result<Answer, Trouble> {
             return Ok(if find::find(asked, output)? { Answer::YesInAnyCase } else { Answer::No });
         }
         Command::Find(asked) => return find::find(asked, output).map(answer),
+        Command::Salvage(asked) => return Ok(answer(salvage::salvage(&asked, output))),
         Command::Save { word, edition, out, force } => save::save(&word, edition, &out, force, output)?,
         Command::Check { files } => return Ok(answer(check::check(&files, output))),
         Command::Show { file, kind, dot } => show::show(&file, kind, dot, output)?,

@@ -26,6 +26,14 @@ pub fn shown(name: &OsStr) -> String {
     }
 }
 
+/// A name and what ends it: `end`, or a NUL behind its raw bytes.
+pub fn ended(name: &OsStr, null: bool, end: u8) -> Vec<u8> {
+    match null {
+        true => [raw(name), b"\0"].concat(),
+        false => [shown(name).as_bytes(), &[end]].concat(),
+    }
+}
+
 /// Whether a character does something else than stand in its place: it moves the cursor, ends a line, or turns the direction of text.
 pub fn is_unseen(letter: char) -> bool {
     letter.is_control() || matches!(letter, '\u{200e}' | '\u{200f}' | '\u{2028}'..='\u{202e}' | '\u{2066}'..='\u{2069}')

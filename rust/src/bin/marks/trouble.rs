@@ -39,6 +39,11 @@ impl Trouble {
         }
     }
 
+    /// A file that would be read while what it answers is written to it.
+    pub fn is_output(of: String) -> Trouble {
+        Trouble::new(of, "it is also the output", "write that elsewhere")
+    }
+
     pub fn writing(of: String, error: &io::Error) -> Trouble {
         match error.kind() {
             ErrorKind::NotFound | ErrorKind::NotADirectory => {

@@ -4,7 +4,7 @@ use super::{
     lines::{Style, What},
     Asked, Wanted,
 };
-use crate::{names, options::Words, trouble::Trouble, word::Word};
+use crate::{input, names, options::Words, trouble::Trouble, word::Word};
 use marks::Engine;
 use std::{
     ffi::{OsStr, OsString},
@@ -60,13 +60,12 @@ fn style(words: &Words) -> Result<Style, Trouble> {
     Ok(Style { what, names: false, null: words.has("null"), json: words.has("json"), stats: words.has("stats"), most })
 }
 
-/// Standard input can be read once.
+/// The mark file or one of the files is standard input, not both.
 fn one_reads_standard_input(wanted: &Wanted, files: &[OsString]) -> Result<(), Trouble> {
     let of_mark = matches!(wanted, Wanted::File(file) if names::is_standard(file));
-    match (of_mark, files.iter().filter(|file| names::is_standard(file)).count()) {
-        (true, 1..) => Err(Trouble::new("find", "- is both the mark file and a FILE", "name one of them")),
-        (false, 2..) => Err(Trouble::new("find", "- is given twice", "standard input can be read once")),
-        _ => Ok(()),
+    match of_mark && files.iter().any(|file| names::is_standard(file)) {
+        true => Err(Trouble::new("find", "- is both the mark file and a FILE", "name one of them")),
+        false => input::standard_once("find", files),
     }
 }
 

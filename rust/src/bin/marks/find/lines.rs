@@ -70,7 +70,7 @@ impl<'a> Lines<'a> {
     pub fn new(name: &'a OsStr, style: &'a Style) -> Lines<'a> {
         let front = match (style.json, style.names) {
             (true, _) => format!("{{{},", json::file(name)).into_bytes(),
-            (false, true) => named(name, style, b':'),
+            (false, true) => names::ended(name, style.null, b':'),
             (false, false) => Vec::new(),
         };
         Lines { style, name, front }
@@ -89,7 +89,7 @@ impl<'a> Lines<'a> {
         match self.style.what {
             What::Counts => self.number("count", format_args!("{found}"), out),
             What::Names if found > 0 && self.style.json => out.extend(format!("{{{}}}\n", json::file(self.name)).bytes()),
-            What::Names if found > 0 => out.extend(named(self.name, self.style, b'\n')),
+            What::Names if found > 0 => out.extend(names::ended(self.name, self.style.null, b'\n')),
             _ => {}
         }
     }
@@ -110,14 +110,6 @@ impl<'a> Lines<'a> {
             false => writeln!(out, "{number}"),
         };
         written.expect("there is room in memory");
-    }
-}
-
-/// A name and what ends it.
-fn named(name: &OsStr, style: &Style, end: u8) -> Vec<u8> {
-    match style.null {
-        true => [names::raw(name), b"\0"].concat(),
-        false => [names::shown(name).as_bytes(), &[end]].concat(),
     }
 }
 

@@ -1,7 +1,12 @@
 //! The search of one file, and what it has to say as it goes.
 
 use super::lines::{told, Lines, Stats, Style};
-use crate::{input, names, output::Output, trouble::Trouble};
+use crate::{
+    input::{self, Source},
+    names,
+    output::Output,
+    trouble::Trouble,
+};
 use marks::{Engine, FindsIn, Mark};
 use std::{
     ffi::OsStr,
@@ -48,8 +53,7 @@ pub fn search(mark: &Mark, name: &OsStr, style: &Style, listener: &dyn Listener)
     match input::open(name) {
         // what is printed would be found in its turn, without end
         Ok(input) if input.is_output && style.lists_finds() => {
-            let trouble = Trouble::new(names::shown(name), "it is also the output", "write that elsewhere");
-            listener.hear(Said::Trouble(trouble));
+            listener.hear(Said::Trouble(Trouble::is_output(names::shown(name))));
         }
         Ok(input) => {
             let watched = Watched { source: input.source, size: input.size, read: 0, listener };
@@ -67,7 +71,7 @@ pub fn search(mark: &Mark, name: &OsStr, style: &Style, listener: &dyn Listener)
 
 /// A file whose reading is watched.
 struct Watched<'a> {
-    source: Box<dyn Read>,
+    source: Source,
     size: Option<u64>,
     read: u64,
     listener: &'a dyn Listener,

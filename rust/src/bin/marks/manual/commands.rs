@@ -2,7 +2,7 @@
 
 use super::Command;
 
-pub static COMMANDS: [Command; 5] = [
+pub static COMMANDS: [Command; 6] = [
     Command {
         name: "find",
         forms: &[
@@ -13,6 +13,25 @@ pub static COMMANDS: [Command; 5] = [
             "Each find is a line with its offset, counted from 0; finds may overlap. With several files, or with -r, the file's name and a \
              colon stand before it. The file - is standard input. Files of any size are searched in little memory, and what comes slowly \
              is searched and printed as it comes.",
+            "A file that cannot be read is said on standard error, and the next one is taken.",
+        ],
+        of_commands: false,
+    },
+    Command {
+        name: "salvage",
+        forms: &[("FILE..", "list the rides by FIT headers, whole or cut")],
+        more: &[
+            "Each ride is a line with four words: where its header begins, counted from 0; whole or cut, or unsized where --unsized is given; \
+             how many bytes of it are there; and how many it has by its header. Both numbers are of header, data and check together, so \
+             without --unsized they are equal exactly where the ride is whole. With several files the file's name and a colon stand before it. The file - is standard input.",
+            "A header is 12 or 14 bytes: its first byte is that size, bytes 4 to 7 declare how many bytes of data follow it, low byte \
+             first, and bytes 8 to 11 are .FIT; behind the data is a check of two bytes. Each header that is wholly in the file is listed, \
+             also one in the data of another ride. The ride is whole where header, data and check end within the file. Else it is cut, \
+             and what is there of it goes up to the next header that is listed, or to the end of the file.",
+            "A stranger may have written the header. So the size that it declares is believed for the kind of the ride and for nothing \
+             else, and the check is not tested: a ride that is whole can be damaged all the same.",
+            "Regular files and disks of any size are gone over in little memory. Standard input, and what else cannot be read at any \
+             place, is read whole into memory first, as the length of all decides the kinds.",
             "A file that cannot be read is said on standard error, and the next one is taken.",
         ],
         of_commands: false,

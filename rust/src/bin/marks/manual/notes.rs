@@ -7,7 +7,8 @@ pub const ONE_LINE: &str = "finds byte marks in files of any size, with a proved
 
 pub const DESCRIPTION: &str =
     "marks looks for a word of bytes in files, whatever else is in them, and prints every place where it stands. A \
-     mark that is looked for often can be saved as a mark file, which is its index.";
+     mark that is looked for often can be saved as a mark file, which is its index. Of ride files that were cut, or that \
+     stand one behind the other, it lists the rides by their headers, and writes each to a file of its own.";
 
 /// Sections of the man page and of the long help: their titles and paragraphs.
 pub const SECTIONS: [(&str, &[&str]); 3] = [
@@ -40,18 +41,20 @@ pub const SECTIONS: [(&str, &[&str]); 3] = [
 
 /// Each status and when it is given.
 pub const STATUS: [(&str, &str); 4] = [
-    ("0", "something was found, all mark files are good, or it is done"),
-    ("1", "nothing was found, or a mark file is refused by check"),
+    ("0", "something was found or listed, all mark files are good, or it is done"),
+    ("1", "nothing was found or listed, or a mark file is refused by check"),
     ("2", "trouble: it is said on standard error"),
     ("141", "whoever read the output went away, as with marks find .. | head"),
 ];
 
 /// Lines to try, and what they do.
-pub const EXAMPLES: [(&str, &str); 6] = [
+pub const EXAMPLES: [(&str, &str); 8] = [
     ("marks find -x 2e464954 upload.fit", "each offset of the bytes .FIT"),
     ("marks save -x 2e464954 fit.mark", "the index of a mark, as a file"),
     ("marks find -c -m fit.mark *.fit", "how often, in each"),
     ("marks find -rl -j0 RIDE uploads", "the files below uploads that have RIDE, on all processors"),
     ("marks find -rl0 RIDE | xargs -0 ls -l", "the same below the current folder, handed to another program"),
+    ("marks salvage upload.fit", "the rides in it, whole or cut"),
+    ("marks salvage --extract rides card.img", "each of them as a file in the folder rides"),
     ("marks check fit.mark other.mark", "good and what it finds, or why it is refused, and where"),
 ];

@@ -1,17 +1,18 @@
 //! The options, in the order in which they are told.
 
 use super::{
-    values::{EDITION, ENGINE, GENERATED, JOBS, MARKFILE, MOST},
+    values::{EDITION, ENGINE, FOLDER, GENERATED, JOBS, MARKFILE, MOST},
     Known,
 };
 
 const FIND: &[&str] = &["find"];
-const ALL: &[&str] = &["find", "save", "check", "show", "help"];
+const LISTING: &[&str] = &["find", "salvage"];
+const ALL: &[&str] = &["find", "salvage", "save", "check", "show", "help"];
 
 /// What an option has where nothing is said of it.
 const PLAIN: Known = Known { short: None, long: "", value: None, commands: &[], line: "", more: "" };
 
-pub static OPTIONS: [Known; 22] = [
+pub static OPTIONS: [Known; 25] = [
     Known {
         short: Some(b'x'),
         long: "hex",
@@ -65,24 +66,31 @@ pub static OPTIONS: [Known; 22] = [
         line: "search N files at once, 0: one for each processor",
         more: "The output is the same as with one.",
     },
-    Known { short: Some(b'H'), long: "with-filename", commands: FIND, line: "print the file's name too, as with several files", ..PLAIN },
-    Known { short: Some(b'I'), long: "no-filename", commands: FIND, line: "never print it", ..PLAIN },
+    Known {
+        short: Some(b'H'),
+        long: "with-filename",
+        commands: LISTING,
+        line: "print the file's name too, as with several files",
+        ..PLAIN
+    },
+    Known { short: Some(b'I'), long: "no-filename", commands: LISTING, line: "never print it", ..PLAIN },
     Known {
         short: Some(b'0'),
         long: "null",
-        commands: FIND,
+        commands: LISTING,
         line: "a NUL behind each name, which is printed raw",
         more: "It stands in the place of the colon, or with -l of the end of line, so that any name can be read back, as by xargs -0.",
         ..PLAIN
     },
     Known {
         long: "json",
-        commands: FIND,
+        commands: LISTING,
         line: "print each answer as a JSON object on a line",
         more: "A find is {\"file\":NAME,\"at\":OFFSET}, with -c a file {\"file\":NAME,\"count\":N}, with -l {\"file\":NAME}. With --stats \
                there is for each file also {\"file\":NAME,\"found\":N,\"bytes\":N,\"letters\":N}, behind its answers, with --engine \
-               failure \"failures\":N in it too. A name that is not UTF-8 is given in hex digits, as \"file_hex\" in the place of \
-               \"file\". Standard input is -.",
+               failure \"failures\":N in it too. A ride of salvage is {\"file\":NAME,\"start\":OFFSET,\"kind\":\"whole\",\
+               \"bytes\":N,\"of\":N}, or \"kind\":\"cut\" or \"unsized\", with --extract also \"out\":NAME, the file that was written. A name that is not \
+               UTF-8 is given in hex digits, as \"file_hex\" in the place of \"file\", and so is \"out\". Standard input is -.",
         ..PLAIN
     },
     Known {
@@ -107,12 +115,42 @@ pub static OPTIONS: [Known; 22] = [
         ..PLAIN
     },
     Known {
+        long: "unsized",
+        commands: &["salvage"],
+        line: "take a size of 0 for one that was never written",
+        more: "A head unit that dies in mid-ride may leave a header whose size nobody has written. By what it says the ride has no data, and is \
+               whole where two bytes follow it. With this option such a ride is called unsized, and goes up to the next header that is \
+               listed or the end of FILE, as a cut one does.",
+        ..PLAIN
+    },
+    Known {
+        long: "extract",
+        value: Some(FOLDER),
+        commands: &["salvage"],
+        line: "write each ride to a file of its own in DIR",
+        more:
+            "The files are called NAME.START.fit: the name of FILE without its folders, or standard-input, and where the ride begins. DIR \
+               is made where it is missing and there is a ride. A whole ride is written from its header to its check, a cut one up to the \
+               next header that is listed or the end of FILE. Each file is whole or not there at all. All rides of FILE are looked at \
+               before one is written: where a file is there already, and where FILE is one that --all is for, nothing of it is written.",
+        ..PLAIN
+    },
+    Known {
+        long: "all",
+        commands: &["salvage"],
+        line: "write also where FILE has rides beyond measure",
+        more: "Without it nothing is written of a FILE that lists more than 1,000 rides, or whose rides are more than twice its bytes \
+               together, as those are that have others in their data: a stranger could fill the disk with it.",
+        ..PLAIN
+    },
+    Known {
         short: Some(b'f'),
         long: "force",
-        commands: &["save"],
-        line: "write over OUT where it is there already",
-        more: "Its permissions are kept. Where OUT is a symbolic link, the file that it leads to is replaced. A terminal, a pipe or a \
-               device is written to as it is.",
+        commands: &["save", "salvage"],
+        line: "write over what is there already",
+        more: "Its permissions are kept. Where the OUT of save is a symbolic link, the file that it leads to is replaced; a terminal, a \
+               pipe or a device is written to as it is. In the DIR of salvage a symbolic link itself is replaced, so that nothing \
+               outside of it is written.",
         ..PLAIN
     },
     Known {

@@ -34,6 +34,14 @@ pub const JOBS: Value = Value {
     advice_of_two: "choose one",
 };
 
+pub const FOLDER: Value = Value {
+    name: "DIR",
+    kind: Kind::File,
+    missing: "no directory follows it",
+    advice: "name the directory to write to",
+    advice_of_two: "choose one",
+};
+
 pub const EDITION: Value =
     Value { name: "N", kind: Kind::OneOf(&["1", "2"]), missing: "no number follows it", advice: "", advice_of_two: "choose one" };
 

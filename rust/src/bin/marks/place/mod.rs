@@ -1,24 +1,26 @@
 //! Putting a file in its place, whole or not at all: it is written beside its place and brought to the disk, then given its name, and then
-//! that the folder has it is brought to the disk too.
+//! that the folder has it is brought to the disk too. What is in it is written by a function that is handed the open file.
 
-use super::temporary::Temporary;
+mod temporary;
+
+use crate::{names, trouble::Trouble};
 use std::{
+    ffi::OsStr,
     fs::{self, File, Metadata, OpenOptions},
-    io::{self, ErrorKind, Write},
+    io::{self, ErrorKind},
     path::{Path, PathBuf},
 };
+use temporary::Temporary;
 
 /// From link to link it goes at most so often, as the system has it.
 const MOST_LINKS: usize = 40;
 
 /// Writes a file that is not there. Whatever has the name already, or gets it meanwhile, is left as it is.
-pub fn create(out: &Path, bytes: &[u8]) -> io::Result<()> {
-    match fs::symlink_metadata(out) {
-        Ok(_) => return Err(ErrorKind::AlreadyExists.into()),
-        Err(error) if error.kind() == ErrorKind::NotFound => {}
-        Err(error) => return Err(error),
+pub fn create(out: &Path, write: impl FnOnce(&mut File) -> io::Result<()>) -> io::Result<()> {
+    if if_there(fs::symlink_metadata(out))?.is_some() {
+        return Err(ErrorKind::AlreadyExists.into());
     }
-    give_name(Temporary::beside(out, bytes, None)?, out)?;
+    give_name(Temporary::beside(out, write, None)?, out)?;
     sync_folder(out)
 }
 
@@ -39,18 +41,29 @@ fn reserve(temporary: Temporary, out: &Path) -> io::Result<()> {
 }
 
 /// Writes a file in the place of the one that is there, if one is. What is no regular file is written to as it is.
-pub fn replace(out: &Path, bytes: &[u8]) -> io::Result<()> {
-    let old = match fs::metadata(out) {
-        Ok(old) => Some(old),
-        Err(error) if error.kind() == ErrorKind::NotFound => None,
-        Err(error) => return Err(error),
-    };
+pub fn replace(out: &Path, write: impl FnOnce(&mut File) -> io::Result<()>) -> io::Result<()> {
+    let old = if_there(fs::metadata(out))?;
     match followed(out)? {
         Some(end) if old.as_ref().is_none_or(Metadata::is_file) => {
-            Temporary::beside(&end, bytes, old.as_ref())?.rename(&end)?;
+            Temporary::beside(&end, write, old.as_ref())?.rename(&end)?;
             sync_folder(&end)
         }
-        _ => OpenOptions::new().append(true).open(out)?.write_all(bytes),
+        _ => write(&mut OpenOptions::new().append(true).open(out)?),
+    }
+}
+
+/// Writes a file in the place of whatever has its name, be that a link: what a link leads to is left as it is, so nothing outside the folder is written.
+pub fn replace_name(out: &Path, write: impl FnOnce(&mut File) -> io::Result<()>) -> io::Result<()> {
+    let old = if_there(fs::symlink_metadata(out))?.filter(Metadata::is_file);
+    Temporary::beside(out, write, old.as_ref())?.rename(out)?;
+    sync_folder(out)
+}
+
+/// Nothing, where that is missing which was asked about.
+fn if_there(said: io::Result<Metadata>) -> io::Result<Option<Metadata>> {
+    match said {
+        Err(error) if error.kind() == ErrorKind::NotFound => Ok(None),
+        said => said.map(Some),
     }
 }
 
@@ -85,18 +98,34 @@ fn sync_folder(out: &Path) -> io::Result<()> {
     }
 }
 
+/// Why a file was not written, and what else could be named where something has its name already.
+pub fn trouble(out: &OsStr, error: &io::Error, other: &str) -> Trouble {
+    let shown = names::shown(out);
+    match error.kind() {
+        ErrorKind::AlreadyExists if Path::new(out).is_dir() => Trouble::new(shown, "it is a directory", "name a file in it"),
+        ErrorKind::AlreadyExists => Trouble::new(shown, "it is there already", format!("name another {other}, or write over it with -f")),
+        ErrorKind::StorageFull => Trouble::new(shown, "the disk is full", "make room and run it again"),
+        _ => Trouble::writing(shown, error),
+    }
+}
+
 #[cfg(test)]
 mod tests {
     use super::{reserve, Temporary};
-    use std::{env, fs, io::ErrorKind, process};
+    use std::{
+        env, fs,
+        io::{ErrorKind, Write},
+        process,
+    };
 
     #[test]
     fn a_reserved_name_is_replaced_and_one_that_is_taken_is_not() {
         let folder = env::temp_dir().join(format!("marks-reserve-{}", process::id()));
         fs::create_dir(&folder).unwrap();
         let out = folder.join("out");
-        reserve(Temporary::beside(&out, b"new", None).unwrap(), &out).unwrap();
-        let taken = reserve(Temporary::beside(&out, b"newer", None).unwrap(), &out).unwrap_err();
+        let with = |bytes: &'static [u8]| Temporary::beside(&out, |file| file.write_all(bytes), None).unwrap();
+        reserve(with(b"new"), &out).unwrap();
+        let taken = reserve(with(b"newer"), &out).unwrap_err();
         assert_eq!((fs::read(&out).unwrap(), taken.kind()), (b"new".to_vec(), ErrorKind::AlreadyExists));
         assert_eq!(fs::read_dir(&folder).unwrap().count(), 1);
         fs::remove_dir_all(&folder).unwrap();

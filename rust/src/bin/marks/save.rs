@@ -1,16 +1,8 @@
 //! `marks save`: the file from which `find -m` finds a word.
 
-mod place;
-mod temporary;
-
-use crate::{names, output::Output, trouble::Trouble, word::Word};
+use crate::{names, output::Output, place, trouble::Trouble, word::Word};
 use marks::{Mark, Refusal};
-use std::{
-    ffi::OsStr,
-    io::{self, ErrorKind},
-    os::unix::ffi::OsStrExt,
-    path::Path,
-};
+use std::{ffi::OsStr, fs::File, io::Write, os::unix::ffi::OsStrExt, path::Path};
 
 /// The editions of a mark file: the second ends with a check of all bytes before it.
 #[derive(Clone, Copy)]
@@ -28,8 +20,9 @@ pub fn save(word: &Word, edition: Edition, out: &OsStr, force: bool, output: &mu
         output.bytes(&file);
         return Ok(());
     }
-    let written = if force { place::replace(Path::new(out), &file) } else { place::create(Path::new(out), &file) };
-    written.map_err(|error| trouble(out, &error))
+    let write = |to: &mut File| to.write_all(&file);
+    let written = if force { place::replace(Path::new(out), write) } else { place::create(Path::new(out), write) };
+    written.map_err(|error| place::trouble(out, &error, "file"))
 }
 
 fn file_of(mark: &Mark, edition: Edition) -> Result<Vec<u8>, Refusal> {
@@ -42,14 +35,4 @@ fn file_of(mark: &Mark, edition: Edition) -> Result<Vec<u8>, Refusal> {
 /// The names that the system has for standard output. Opened by one of them, a file would not be written to where the output has come to.
 fn is_standard_output(out: &OsStr) -> bool {
     ["/dev/stdout", "/dev/fd/1", "/proc/self/fd/1"].iter().any(|name| out == *name)
-}
-
-fn trouble(out: &OsStr, error: &io::Error) -> Trouble {
-    let shown = names::shown(out);
-    match error.kind() {
-        ErrorKind::AlreadyExists if Path::new(out).is_dir() => Trouble::new(shown, "it is a directory", "name a file in it"),
-        ErrorKind::AlreadyExists => Trouble::new(shown, "it is there already", "name another file, or write over it with -f"),
-        ErrorKind::StorageFull => Trouble::new(shown, "the disk is full", "make room and run it again"),
-        _ => Trouble::writing(shown, error),
-    }
 }

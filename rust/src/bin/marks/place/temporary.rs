@@ -1,9 +1,9 @@
 //! A file under a name of its own beside its place, which goes away unless it is put there.
 
-use super::place::folder_of;
+use super::folder_of;
 use std::{
     fs::{self, File, Metadata, OpenOptions},
-    io::{self, ErrorKind, Write},
+    io::{self, ErrorKind},
     os::unix::fs::{fchown, MetadataExt},
     path::{Path, PathBuf},
     process,
@@ -15,12 +15,12 @@ pub struct Temporary {
 
 impl Temporary {
     /// Such a file, brought to the disk. Where it is to replace another, it has its permissions before it has any bytes.
-    pub fn beside(out: &Path, bytes: &[u8], old: Option<&Metadata>) -> io::Result<Temporary> {
+    pub fn beside(out: &Path, write: impl FnOnce(&mut File) -> io::Result<()>, old: Option<&Metadata>) -> io::Result<Temporary> {
         let (temporary, mut file) = Temporary::new(folder_of(out))?;
         if let Some(old) = old {
             take_after(&file, old)?;
         }
-        file.write_all(bytes)?;
+        write(&mut file)?;
         file.sync_all()?;
         Ok(temporary)
     }
