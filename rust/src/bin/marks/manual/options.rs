@@ -150,7 +150,7 @@ pub static OPTIONS: [Known; 25] = [
         line: "write over what is there already",
         more: "Its permissions are kept. Where the OUT of save is a symbolic link, the file that it leads to is replaced; a terminal, a \
                pipe or a device is written to as it is. In the DIR of salvage a symbolic link itself is replaced, so that nothing \
-               outside of it is written.",
+               outside of it is written, and no FILE that is named is written over.",
         ..PLAIN
     },
     Known {
