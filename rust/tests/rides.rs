@@ -1,8 +1,10 @@
 //! The rides in texts of any length, and in what sources give: what must be listed is computed plainly, from the words of the rule.
 mod fit;
+mod sources;
 
 use fit::{header, listed, pieces_of_headers, records, ride, Listed, Random};
 use marks::{rides, rides_in, Ride, RideKind};
+use sources::{Boasting, Failing};
 use std::io::{self, ErrorKind, Read};
 
 /// The parts of a text, and of what a source gives that fills the room which it is lent, meet 13 bytes behind multiples of this.
@@ -240,21 +242,6 @@ fn a_source_that_ends_before_its_length_is_an_error_behind_its_rides() {
     assert_eq!(told.next().unwrap().unwrap_err().to_string(), "the source ended before its length, 17 bytes");
 }
 
-/// Gives so many bytes of a text, then fails once, then would go on.
-struct Failing<'a>(&'a [u8], usize);
-
-impl Read for Failing<'_> {
-    fn read(&mut self, room: &mut [u8]) -> io::Result<usize> {
-        if self.1 == 0 {
-            self.1 = usize::MAX;
-            return Err(ErrorKind::ConnectionReset.into());
-        }
-        let given = (&mut self.0).take(self.1 as u64).read(room)?;
-        self.1 -= given;
-        Ok(given)
-    }
-}
-
 #[test]
 fn rides_before_a_failing_read_are_told_then_the_error_then_nothing() {
     let text = [ride(12, b"abc"), ride(14, b"def"), ride(12, b"")].concat();
@@ -267,15 +254,6 @@ fn rides_before_a_failing_read_are_told_then_the_error_then_nothing() {
     }
     let mut failing = rides_in(Failing(&text, 5), text.len() as u64);
     assert_eq!(failing.next().unwrap().unwrap_err().kind(), ErrorKind::ConnectionReset);
-}
-
-/// Says that it read more than it was asked for.
-struct Boasting;
-
-impl Read for Boasting {
-    fn read(&mut self, room: &mut [u8]) -> io::Result<usize> {
-        Ok(room.len() + 1)
-    }
 }
 
 #[test]

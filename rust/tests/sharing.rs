@@ -1,5 +1,8 @@
 //! One mark for all threads, and what a mark is beside its finds: compared, hashed, shown; the finds of a source that fails; the examples.
+mod sources;
+
 use marks::{Engine, Finds, Mark, Refusal, Stream};
+use sources::{Boasting, Failing};
 use std::{
     collections::HashSet,
     io::{self, ErrorKind, Read},
@@ -71,21 +74,6 @@ fn the_first_place_that_is_not_before_another() {
     assert_eq!(LAP.find_at(text, usize::MAX), None);
 }
 
-/// Gives so many bytes of a text, then fails once, then would go on.
-struct Failing<'a>(&'a [u8], usize);
-
-impl Read for Failing<'_> {
-    fn read(&mut self, room: &mut [u8]) -> io::Result<usize> {
-        if self.1 == 0 {
-            self.1 = usize::MAX;
-            return Err(ErrorKind::ConnectionReset.into());
-        }
-        let given = (&mut self.0).take(self.1 as u64).read(room)?;
-        self.1 -= given;
-        Ok(given)
-    }
-}
-
 #[test]
 fn finds_before_a_failing_read_are_told_then_the_error_then_nothing() {
     let text = b"lap-lap-lap-lap";
@@ -128,15 +116,6 @@ fn a_short_mark_is_told_as_soon_as_it_is_there() {
     let mut source = Dripping(b"..eightone..");
     assert_eq!(mark.find_in(&mut source).next().unwrap().unwrap(), 2);
     assert_eq!(source.0, b"..");
-}
-
-/// Says that it read more than it was asked for.
-struct Boasting;
-
-impl Read for Boasting {
-    fn read(&mut self, room: &mut [u8]) -> io::Result<usize> {
-        Ok(room.len() + 1)
-    }
 }
 
 #[test]

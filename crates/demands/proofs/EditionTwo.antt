@@ -106,8 +106,8 @@ empty-string = Checks.check-of-nothing
 -- ── 'After the arrows, missing ones (10) being judged first: fewer than two bytes is 5, a differing check is a new 13 (offset: the first
 --    check byte), bytes behind it 11 (offset: the first of them).' ──
 
--- of every file, with rooms for every word; with less, 3 may come before. `AllRead file w p`: it says 2, and its arrows, which end before p,
--- are all of w's own
+-- of every file, with rooms for every word; with less, 3 may come before. `AllRead file w p`: it says 2, and its arrows, which end before
+-- p, are all of w's own
 module _ (file R T : List ℕ) (fits : longestWord ≤ length R) (enough : room longestWord ≤ length T) where
   told : {r : ℕ} {p q : Place} → FaultEither file r p q → loadSays file R T .answer ≡ refusedAt r p
   told {r} {p} {q} f = refused-exactly file R T fits enough r p .1 (q, f)

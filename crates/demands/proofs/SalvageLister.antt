@@ -101,7 +101,7 @@ module _ (t : Word) where
   pub early-not-listed : (q : Place) → q < 8 → ridesAt t (q ∷ []) ≡ []
   early-not-listed q h = ride-told t q (sym (too-early t q h))
 
-  -- nor is a header that the text's end cuts
+  -- nor does a header that the text's end cuts
   pub cut-header-not-listed : (s : Place) → length t < s + letter t s → List·Memᴰ s (starts (rides t)) → ⊥
   cut-header-not-listed s h m = let i = listed-exactly t s .0 m .inside in omega (arith, h, i)
 

@@ -101,8 +101,8 @@ module _ (file : List ℕ) (text : Word) (R T : List ℕ) (F : List Place) where
   -- ── 'Numbers and their order stay.' ──────────────────────────────────────
 
   -- Which number a file shows is said by crates/loaded/specs, and since edition 2 by crates/editions/specs over it; the order is that of
-  -- the constructors of `LoadCase`, as it was. As before, any two files that declare a bad number in the same field have one outcome, and its
-  -- offset is one too.
+  -- the constructors of `LoadCase`, as it was. As before, any two files that declare a bad number in the same field have one outcome, and
+  -- its offset is one too.
   module _ (file′ : List ℕ) {i m j i′ m′ j′ : ℕ}
       (edition-read : EditionRead file i) (length-read : Reads file i m j) (bad : BadLength m)
       (edition-read′ : EditionRead file′ i′) (length-read′ : Reads file′ i′ m′ j′) (bad′ : BadLength m′) where
