@@ -1,0 +1,9 @@
+pub mod Bits
+pub mod Counting
+pub mod Targets
+pub mod CompactRows
+pub mod ReadBack
+pub mod Few
+pub mod Theorems
+pub mod Ranking
+pub mod Looking

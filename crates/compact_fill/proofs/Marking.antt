@@ -1,0 +1,198 @@
+-- MARKING: one bit more tells of one arrow more. A state's arrows are marked one after the other (`MarkedSome`), and its set then has the
+-- letters of all of them; state by state (`MarkedUpTo`) all words become those of the arrows, as numbers of 64 bits are told by their bits.
+use mathlib.Core.Path.{_≡_, refl, sym, ap, _∙_}
+use mathlib.Core.Logic.{_≢_, by-cases}
+use mathlib.Core.Bool.{Bool, true, false, _||_}
+use mathlib.Core.Option.{Option, none, some}
+use mathlib.Core.List.{List}
+use Prim.Native.Nat.{ℕ, zero, suc, _+_, _*_, _/_, _%_, _^_, _≤_, _<_}
+use native.Mathlib.Nat.{zero-div}
+use native.Mathlib.Numerals.{add-one}
+use native.Mathlib.Decide.{decLt, ℕ-discrete}
+use native.Mathlib.Omega.{arith}
+use lib.ListN.{length, set, replicate, length-set, length-replicate}
+use lib.Seq.{getD-set-same, getD-set-other, ext-getD}
+use lib.Bits.{bitOr, or-lt}
+use lib.Dec.{eqb}
+use lib.Pow.{pow-lt, pow-pos}
+use borrow.Author.Tests.{eqb-true, eq-eqb, ne-eqb}
+use Rattle.words.specs.Lists.{at}
+use Rattle.words.specs.Words.{Letter, Word}
+use Rattle.words.proofs.Lists.{true-not-false}
+use Rattle.words.proofs.Loops.{zeros-at}
+use Rattle.oracle.specs.Arrows.{State, Delta}
+use Rattle.oracle.specs.SuffixRule.{oracle}
+use Rattle.oracle.proofs.Targets.{never}
+use Rattle.compact.specs.Compact.{setsRoom, numberOf, isArrow, setWord, setsFrom, bitAt, marked, inSet}
+use Rattle.compact.proofs.Bits.{bits-small, same-bits, or-bit}
+use Rattle.compact.proofs.Counting.{shifted-one}
+use Rattle.compact.proofs.Targets.{there}
+use Rattle.compact.proofs.CompactRows.{sets-size, word-at}
+use Rattle.compact.proofs.ReadBack.{word-told, word-small}
+use Rattle.compact_fill.specs.Filling.{outTargets, letterInto, FirstForm, Words, Marked, MarkedState}
+use Rattle.compact_fill.proofs.OutArrows.{out-leads, arrow-among}
+
+or-false : (b : Bool) → b || false ≡ b
+or-false true = refl
+or-false false = refl
+
+or-assoc : (a b c : Bool) → (a || b) || c ≡ a || (b || c)
+or-assoc true b c = refl
+or-assoc false b c = refl
+
+-- two numbers are the same exactly if a function that tells them apart says so
+same-test : (a b c d : ℕ) → (a ≡ b → c ≡ d) → (c ≡ d → a ≡ b) → eqb a b ≡ eqb c d
+same-test a b c d f g = by-cases (ℕ-discrete a b)
+    (λ e. eq-eqb a b e ∙ sym (eq-eqb c d (f e)))
+    (λ e. ne-eqb a b e ∙ sym (ne-eqb c d (λ q. e (g q))))
+
+-- ── One bit ────────────────────────────────────────────────────────────────
+
+pub bit-set : (Z : List ℕ) (g : ℕ) → g / 64 < length Z → Marked Z g (set Z (g / 64) (bitOr (at Z (g / 64)) (1 * 2 ^ (g % 64) % 2 ^ 64)))
+bit-set Z g h = rw (shifted-one (g % 64) (omega arith)) (record {
+  size = length-set Z (g / 64) w;
+  small = λ s i. by-cases (ℕ-discrete i (g / 64))
+      (λ e. rw (e, getD-set-same Z (g / 64) w 0 h) (or-lt 64 _ _ (s (g / 64)) (pow-lt {i = g % 64} {j = 64} (omega arith))))
+      (λ e. rw (getD-set-other Z (g / 64) i w 0 e) (s i));
+  told = λ k. by-cases (ℕ-discrete (k / 64) (g / 64)) (λ e. same k e) (λ e. other k e);
+})
+  where
+    w : ℕ
+    w = bitOr (at Z (g / 64)) (2 ^ (g % 64))
+
+    same : (k : ℕ) → k / 64 ≡ g / 64 → marked (set Z (g / 64) w) k ≡ marked Z k || eqb g k
+    same k e =
+        rw (e, getD-set-same Z (g / 64) w 0 h)
+        (or-bit (at Z (g / 64)) (g % 64) (k % 64)
+        ∙ ap (λ (t : Bool). bitAt (at Z (g / 64)) (k % 64) || t) (same-test (g % 64) (k % 64) g k (λ q. omega arith) (λ q. omega arith)))
+
+    other : (k : ℕ) → k / 64 ≢ g / 64 → marked (set Z (g / 64) w) k ≡ marked Z k || eqb g k
+    other k e = rw (getD-set-other Z (g / 64) (k / 64) w 0 e, ne-eqb g k (λ q. e (sym (ap (λ (i : ℕ). i / 64) q)))) (sym (or-false (marked Z k)))
+
+-- ── One state ──────────────────────────────────────────────────────────────
+
+-- whether c is among the letters of the first j arrows of x
+pub among : Word → State → Letter → ℕ → Bool
+among p x c zero = false
+among p x c (suc j) = among p x c j || eqb (letterInto p (at (outTargets p x) j)) c
+
+-- the first j arrows of x are marked
+pub record MarkedSome (p : Word) (x : State) (Z Z′ : List ℕ) (j : ℕ) : Type 0 where
+  pub size : length Z′ ≡ length Z
+  pub small : Words Z → Words Z′
+  pub own : (c : Letter) → c < 256 → inSet Z′ x c ≡ inSet Z x c || among p x c j
+  pub others : (g : ℕ) → g / 256 ≢ x → marked Z′ g ≡ marked Z g
+
+module _ {p : Word} {x : State} {Z : List ℕ} where
+  pub marked-none : MarkedSome p x Z Z 0
+  unfolding among
+  marked-none = record { size = refl; small = λ s. s; own = λ c l. sym (or-false (inSet Z x c)); others = λ g h. refl }
+
+  -- one more
+  pub marked-one : {Z′ Z″ : List ℕ} {j : ℕ} {d : Letter} → MarkedSome p x Z Z′ j → d ≡ letterInto p (at (outTargets p x) j) → letterInto p (at (outTargets p x) j) < 256
+      → Marked Z′ (numberOf x d) Z″ → MarkedSome p x Z Z″ (j + 1)
+  unfolding among
+  marked-one {Z′} {Z″} {j} {d} M e byte K = rw (add-one j) (record {
+    size = K .size ∙ M .size;
+    small = λ s. K .small (M .small s);
+    own = λ c l.
+        K .told (numberOf x c)
+        ∙ ap (λ (t : Bool). inSet Z′ x c || t) (same-test (numberOf x d) (numberOf x c) d c (λ q. omega arith) (λ q. omega arith) ∙ ap (λ (i : ℕ). eqb i c) e)
+        ∙ ap (λ (t : Bool). t || eqb (letterInto p (at (outTargets p x) j)) c) (M .own c l)
+        ∙ or-assoc (inSet Z x c) (among p x c j) _;
+    others = λ g h. K .told g ∙ rw (ne-eqb (numberOf x d) g (λ q. h (omega (arith, e)))) (or-false (marked Z′ g)) ∙ M .others g h;
+  })
+
+-- none of them
+among-none : (p : Word) (x : State) (c : Letter) (k : ℕ) → ((j : ℕ) → j < k → letterInto p (at (outTargets p x) j) ≢ c) → among p x c k ≡ false
+unfolding among
+among-none p x c zero f = refl
+among-none p x c (suc k) f = rw (among-none p x c k (λ j h. f j (omega arith)), ne-eqb _ c (f k (omega arith)))
+
+-- one of them
+among-some : (p : Word) (x : State) (c : Letter) (k j : ℕ) → j < k → letterInto p (at (outTargets p x) j) ≡ c → among p x c k ≡ true
+unfolding among
+among-some p x c zero j h e = absurd (omega arith)
+among-some p x c (suc k) j h e = by-cases (ℕ-discrete j k) (λ q. last q) (λ q. rw (among-some p x c k j (omega arith) e))
+  where
+    or-true : (b : Bool) → b || true ≡ true
+    or-true true = refl
+    or-true false = refl
+
+    last : j ≡ k → among p x c k || eqb (letterInto p (at (outTargets p x) k)) c ≡ true
+    last q = rw (← q, eq-eqb _ c e) (or-true (among p x c j))
+
+-- all of them are the arrows of x
+module _ {p : Word} {L : List ℕ} {m : ℕ} (F : FirstForm p L m) (x : State) (h : x < m) where
+  all-among : (c : Letter) → among p x c (length (outTargets p x)) ≡ isArrow (oracle p x c)
+  unfolding isArrow
+  all-among c = by (oracle p x c) refl
+    where
+      by : (o : Option State) → oracle p x c ≡ o → among p x c (length (outTargets p x)) ≡ isArrow o
+      by none e = among-none p x c _ (λ j l q. never e (rw q at (out-leads F x h j l .leads)))
+      by (some y) e = let A = arrow-among F x h c y e in among-some p x c _ (A .index) (A .below) (rw (A .here) (sym (A .on)))
+
+  pub state-marked : {Z Z′ : List ℕ} {k : ℕ} → MarkedSome p x Z Z′ k → k ≡ length (outTargets p x) → MarkedState (oracle p) x Z Z′
+  state-marked {Z} M e = record {
+    size = M .size;
+    small = M .small;
+    own = λ c l. M .own c l ∙ ap (λ (t : Bool). inSet Z x c || t) (rw e (all-among c));
+    others = M .others;
+  }
+
+-- ── All states ─────────────────────────────────────────────────────────────
+
+-- the states below x are marked, and no other
+pub record MarkedUpTo (δ : Delta) (m : ℕ) (Z : List ℕ) (x : State) : Type 0 where
+  pub size : length Z ≡ setsRoom m
+  pub small : Words Z
+  pub done : (g : ℕ) → g / 256 < x → marked Z g ≡ there δ g
+  pub ahead : (g : ℕ) → x ≤ g / 256 → marked Z g ≡ false
+
+pub nothing-marked : {δ : Delta} {m : ℕ} {Z : List ℕ} → Z ≡ replicate (setsRoom m) 0 → MarkedUpTo δ m Z 0
+unfolding bitAt
+nothing-marked {δ} {m} {Z} e = rw e (record {
+  size = length-replicate (setsRoom m) 0;
+  small = λ i. rw (zeros-at (setsRoom m) i) (pow-pos 64);
+  done = λ g h. absurd (omega arith);
+  ahead = λ g h. rw (zeros-at (setsRoom m) (g / 64), zero-div (2 ^ (g % 64)));
+})
+
+pub state-more : {δ : Delta} {m : ℕ} {Z Z′ : List ℕ} {x : State} → MarkedUpTo δ m Z x → MarkedState δ x Z Z′ → MarkedUpTo δ m Z′ (x + 1)
+state-more {δ} {m} {Z} {Z′} {x} U M = record {
+  size = M .size ∙ U .size;
+  small = M .small (U .small);
+  done = λ g h. by-cases (ℕ-discrete (g / 256) x)
+      (λ e. here g e)
+      (λ e. M .others g e ∙ U .done g (omega arith));
+  ahead = λ g h. M .others g (λ e. omega arith) ∙ U .ahead g (omega arith);
+}
+  where
+    here : (g : ℕ) → g / 256 ≡ x → marked Z′ g ≡ there δ g
+    here g e =
+        let same : numberOf x (g % 256) ≡ g = omega arith in
+        let own = M .own (g % 256) (omega arith) in
+        let empty : marked Z (numberOf x (g % 256)) ≡ false = U .ahead (numberOf x (g % 256)) (omega arith) in
+        let told : marked Z′ (numberOf x (g % 256)) ≡ isArrow (δ x (g % 256)) = rw empty at own in
+        rw same at told ∙ ap (λ (y : ℕ). isArrow (δ y (g % 256))) (sym e)
+
+pub all-marked : {δ : Delta} {m : ℕ} {Z : List ℕ} {x : State} → MarkedUpTo δ m Z x → x ≡ m → ((c : Letter) → δ m c ≡ none) → Z ≡ setsFrom δ m
+unfolding isArrow
+all-marked {δ} {m} {Z} {x} U e none-last = ext-getD 0 Z (setsFrom δ m) (U .size ∙ sym (sets-size δ m)) (λ i h. word i (rw (U .size) at h))
+  where
+    told : (g : ℕ) → g / 256 ≤ m → marked Z g ≡ there δ g
+    told g h = by-cases (decLt (g / 256) m)
+        (λ l. U .done g (omega arith))
+        (λ l.
+        let last : g / 256 ≡ m = omega arith in
+        U .ahead g (omega arith) ∙ sym (rw last (ap isArrow (none-last (g % 256)))))
+
+    bit : (i : ℕ) → i < setsRoom m → (d : ℕ) → d < 64 → bitAt (at Z i) d ≡ bitAt (setWord δ i) d
+    bit i h d l =
+        let word : (64 * i + d) / 64 ≡ i = omega arith in
+        let place : (64 * i + d) % 64 ≡ d = omega arith in
+        let here : marked Z (64 * i + d) ≡ there δ (64 * i + d) = told (64 * i + d) (omega arith) in
+        (rw (word, place) at here) ∙ sym (word-told δ i d l)
+
+    word : (i : ℕ) → i < setsRoom m → at Z i ≡ at (setsFrom δ m) i
+    word i h = same-bits 64 (at Z i) (setWord δ i) (U .small i) (word-small δ i) (bit i h) ∙ sym (word-at δ m i h)
