@@ -1,4 +1,4 @@
--- BITS of a number: a number of k bits is told by them, `bitsOf` has those that it was made of, and one bit more is set by `bitOr`.
+-- BITS of a number: a number of k bits is told by them, `fromBits` has those that it was made of, and one bit more is set by `bitOr`.
 use mathlib.Core.Path.{_≡_, refl, sym, ap, ap₂, _∙_}
 use mathlib.Core.Logic.{_≢_, by-cases}
 use mathlib.Core.Bool.{Bool, true, false, cond, _||_}
@@ -12,7 +12,7 @@ use lib.Bits.{bitOr, or-shr, or-mod, or-zero-l}
 use lib.Dec.{eqb}
 use lib.Pow.{pow-pos, pow-lt, pow-add, mod-pow-add, field, mod-mod-pow, high, low, shl-shr}
 use borrow.Author.Tests.{eq-eqb, ne-eqb}
-use Rattle.compact.specs.Compact.{bitsOf, bitAt}
+use Rattle.compact.specs.Compact.{fromBits, bitAt}
 
 -- a bit as a number
 pub bit-told : (w d : ℕ) → w / 2 ^ d % 2 ≡ cond (bitAt w d) 1 0
@@ -38,52 +38,52 @@ low-bit w k d h =
 
 module _ (f : ℕ → Bool) where
   -- one bit more, before the others
-  one-more : (k : ℕ) → bitsOf f (suc k) ≡ cond (f k) 1 0 * 2 ^ k + bitsOf f k
-  unfolding bitsOf
+  one-more : (k : ℕ) → fromBits f (suc k) ≡ cond (f k) 1 0 * 2 ^ k + fromBits f k
+  unfolding fromBits
   one-more k = by (f k)
     where
-      by : (b : Bool) → bitsOf f k + cond b (2 ^ k) 0 ≡ cond b 1 0 * 2 ^ k + bitsOf f k
+      by : (b : Bool) → fromBits f k + cond b (2 ^ k) 0 ≡ cond b 1 0 * 2 ^ k + fromBits f k
       by true = omega arith
       by false = omega arith
 
-  pub bits-small : (k : ℕ) → bitsOf f k < 2 ^ k
-  unfolding bitsOf
+  pub bits-small : (k : ℕ) → fromBits f k < 2 ^ k
+  unfolding fromBits
   bits-small zero = pow-pos 0
   bits-small (suc k) = by (f k) (bits-small k)
     where
       twice : 2 ^ suc k ≡ 2 * 2 ^ k
       twice = ap (λ (i : ℕ). 2 ^ i) (sym (one-add k)) ∙ pow-add 2 1 k
 
-      by : (b : Bool) → bitsOf f k < 2 ^ k → bitsOf f k + cond b (2 ^ k) 0 < 2 ^ suc k
+      by : (b : Bool) → fromBits f k < 2 ^ k → fromBits f k + cond b (2 ^ k) 0 < 2 ^ suc k
       by true h = omega (arith, twice)
       by false h = omega (arith, twice)
 
-  pub bits-at : (k d : ℕ) → d < k → bitAt (bitsOf f k) d ≡ f d
+  pub bits-at : (k d : ℕ) → d < k → bitAt (fromBits f k) d ≡ f d
   unfolding bitAt
   bits-at zero d h = absurd (omega arith)
   bits-at (suc k) d h = by-cases (ℕ-discrete d k) (λ e. rw (e, one-more k) (last (f k))) (λ e. lower e (bits-at k d (omega arith)))
     where
-      last : (b : Bool) → bitAt (cond b 1 0 * 2 ^ k + bitsOf f k) k ≡ b
+      last : (b : Bool) → bitAt (cond b 1 0 * 2 ^ k + fromBits f k) k ≡ b
       last true = rw (high 1 k (bits-small k))
       last false = rw (high 0 k (bits-small k))
 
-      lower : d ≢ k → bitAt (bitsOf f k) d ≡ f d → bitAt (bitsOf f (suc k)) d ≡ f d
+      lower : d ≢ k → bitAt (fromBits f k) d ≡ f d → bitAt (fromBits f (suc k)) d ≡ f d
       lower e before =
           let low-part = low (cond (f k) 1 0) k (bits-small k) in
-          sym (low-bit (bitsOf f (suc k)) k d (omega arith))
+          sym (low-bit (fromBits f (suc k)) k d (omega arith))
           ∙ ap (λ (w : ℕ). bitAt (w % 2 ^ k) d) (one-more k)
           ∙ ap (λ (w : ℕ). bitAt w d) low-part
           ∙ before
 
 -- two tests that agree make one number
-pub bits-same : (f g : ℕ → Bool) (k : ℕ) → ((d : ℕ) → d < k → f d ≡ g d) → bitsOf f k ≡ bitsOf g k
-unfolding bitsOf
+pub bits-same : (f g : ℕ → Bool) (k : ℕ) → ((d : ℕ) → d < k → f d ≡ g d) → fromBits f k ≡ fromBits g k
+unfolding fromBits
 bits-same f g zero e = refl
 bits-same f g (suc k) e = rw (bits-same f g k (λ d h. e d (omega arith)), e k (omega arith))
 
 -- a number's first k bits make its remainder
-bits-remade : (w k : ℕ) → w % 2 ^ k ≡ bitsOf (bitAt w) k
-unfolding bitsOf
+bits-remade : (w k : ℕ) → w % 2 ^ k ≡ fromBits (bitAt w) k
+unfolding fromBits
 bits-remade w zero = lt-one (mod-lt w (pow-pos 0))
 bits-remade w (suc k) =
     ap (λ (n : ℕ). w % 2 ^ n) (sym (one-add k))
@@ -91,7 +91,7 @@ bits-remade w (suc k) =
     ∙ ap₂ (λ (a b : ℕ). a * 2 ^ k + b) (bit-told w k) (bits-remade w k)
     ∙ by (bitAt w k)
   where
-    by : (b : Bool) → cond b 1 0 * 2 ^ k + bitsOf (bitAt w) k ≡ bitsOf (bitAt w) k + cond b (2 ^ k) 0
+    by : (b : Bool) → cond b 1 0 * 2 ^ k + fromBits (bitAt w) k ≡ fromBits (bitAt w) k + cond b (2 ^ k) 0
     by true = omega arith
     by false = omega arith
 

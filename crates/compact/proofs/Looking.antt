@@ -12,7 +12,7 @@ use lib.ListN.{length}
 use Rattle.words.specs.Lists.{at}
 use Rattle.words.specs.Words.{Letter}
 use Rattle.oracle.specs.Arrows.{State}
-use Rattle.compact.specs.Compact.{numberOf, bitAt, inSet, countOf, readCompact}
+use Rattle.compact.specs.Compact.{arrowNumber, bitAt, inSet, howMany, readCompact}
 use Rattle.compact.specs.CompactFormed.{CompactFormed}
 use Rattle.compact.proofs.Counting.{count-passes}
 use Rattle.compact.proofs.Ranking.{word-count}
@@ -35,21 +35,21 @@ module _ {Z L : List ℕ} {m : ℕ} (F : CompactFormed Z L m) (x : State) (c : L
 
   -- the target's place, by its word
   pub look-place : x < m
-      → at L (4 * (m + 1) + numberOf x c / 64) + countOf (bitAt (at Z (numberOf x c / 64))) (numberOf x c % 64)
-      ≡ at L (4 * (m + 1) + 4 * x) + countOf (inSet Z x) c
+      → at L (4 * (m + 1) + arrowNumber x c / 64) + howMany (bitAt (at Z (arrowNumber x c / 64))) (arrowNumber x c % 64)
+      ≡ at L (4 * (m + 1) + 4 * x) + howMany (inSet Z x) c
   look-place h =
       let k = c / 64 in
-      let word : numberOf x c / 64 ≡ 4 * x + k = omega arith in
-      let bit : numberOf x c % 64 ≡ c % 64 = omega arith in
+      let word : arrowNumber x c / 64 ≡ 4 * x + k = omega arith in
+      let bit : arrowNumber x c % 64 ≡ c % 64 = omega arith in
       let whole : 64 * k + c % 64 ≡ c = omega arith in
       let counted = rw whole at (word-count Z x k (c % 64) (omega arith)) in
       rw (word, bit) (omega (arith, F .starts x (omega arith) k (omega arith), counted))
 
   module _ (h : x < m) (e : inSet Z x c ≡ true) where
     -- it is within the rows of targets
-    pub look-inside : at L (4 * (m + 1) + 4 * x) + countOf (inSet Z x) c < 2 * (m + 1)
+    pub look-inside : at L (4 * (m + 1) + 4 * x) + howMany (inSet Z x) c < 2 * (m + 1)
     look-inside = omega (arith, count-passes (inSet Z x) c 256 byte e, F .fits x (omega arith))
 
     -- and the arrow leads to what stands there
-    pub look-some : {r : ℕ} → r ≡ at L (4 * (m + 1) + 4 * x) + countOf (inSet Z x) c → readCompact m Z L x c ≡ some (at L (8 * (m + 1) + r))
+    pub look-some : {r : ℕ} → r ≡ at L (4 * (m + 1) + 4 * x) + howMany (inSet Z x) c → readCompact m Z L x c ≡ some (at L (8 * (m + 1) + r))
     look-some q = reads-some m Z L x c (omega arith) byte e ∙ ap (λ (i : ℕ). some (at L (8 * (m + 1) + i))) (sym q)

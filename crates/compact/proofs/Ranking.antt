@@ -11,7 +11,7 @@ use lib.Dec.{leb}
 use borrow.Author.Tests.{le-leb, lt-leb}
 use Rattle.words.specs.Lists.{at}
 use Rattle.oracle.specs.Arrows.{State}
-use Rattle.compact.specs.Compact.{numberOf, bitAt, marked, inSet, countOf}
+use Rattle.compact.specs.Compact.{arrowNumber, bitAt, marked, inSet, howMany}
 use Rattle.compact.specs.CompactFormed.{OnesBelow}
 use Rattle.compact.proofs.Counting.{count-split, count-same, count-most}
 
@@ -20,7 +20,7 @@ use Rattle.compact.proofs.Counting.{count-split, count-same, count-most
 module _ {w i c : ℕ} where
   -- its letters are not below c
   pub none-below : c ≤ 64 * i → OnesBelow w i c 0
-  unfolding countOf
+  unfolding howMany
   none-below h = record {
     nothing = λ _. refl;
     whole = λ l. absurd (omega arith);
@@ -28,7 +28,7 @@ module _ {w i c : ℕ} where
   }
 
   -- all are
-  pub all-below : {r : ℕ} → 64 * i + 64 ≤ c → r ≡ countOf (bitAt w) 64 → OnesBelow w i c r
+  pub all-below : {r : ℕ} → 64 * i + 64 ≤ c → r ≡ howMany (bitAt w) 64 → OnesBelow w i c r
   all-below h e = record {
     nothing = λ l. absurd (omega arith);
     whole = λ _. e;
@@ -36,7 +36,7 @@ module _ {w i c : ℕ} where
   }
 
   -- some are
-  pub some-below : {r : ℕ} → 64 * i < c → c < 64 * i + 64 → r ≡ countOf (bitAt w) (c - 64 * i) → OnesBelow w i c r
+  pub some-below : {r : ℕ} → 64 * i < c → c < 64 * i + 64 → r ≡ howMany (bitAt w) (c - 64 * i) → OnesBelow w i c r
   some-below h l e = record {
     nothing = λ k. absurd (omega arith);
     whole = λ k. absurd (omega arith);
@@ -62,10 +62,10 @@ module _ (Z : List ℕ) (x : State) where
       rw (word, bit)
 
   -- the first r of them
-  pub word-count : (k r : ℕ) → r ≤ 64 → countOf (inSet Z x) (64 * k + r) ≡ countOf (inSet Z x) (64 * k) + countOf (bitAt (at Z (4 * x + k))) r
+  pub word-count : (k r : ℕ) → r ≤ 64 → howMany (inSet Z x) (64 * k + r) ≡ howMany (inSet Z x) (64 * k) + howMany (bitAt (at Z (4 * x + k))) r
   word-count k r h =
       count-split (inSet Z x) (64 * k) r
-      ∙ ap (λ (n : ℕ). countOf (inSet Z x) (64 * k) + n)
+      ∙ ap (λ (n : ℕ). howMany (inSet Z x) (64 * k) + n)
       (count-same (λ d. inSet Z x (64 * k + d)) (bitAt (at Z (4 * x + k))) r (λ d l. word-letter k d (omega arith)))
 
   module _ (c : ℕ) where
@@ -73,30 +73,30 @@ module _ (Z : List ℕ) (x : State) where
     up-to : ℕ → ℕ
     up-to i = cond (leb c (64 * i)) c (64 * i)
 
-    rank-step : (i : ℕ) {r : ℕ} → OnesBelow (at Z (4 * x + i)) i c r → countOf (inSet Z x) (up-to (suc i)) ≡ countOf (inSet Z x) (up-to i) + r
+    rank-step : (i : ℕ) {r : ℕ} → OnesBelow (at Z (4 * x + i)) i c r → howMany (inSet Z x) (up-to (suc i)) ≡ howMany (inSet Z x) (up-to i) + r
     unfolding up-to
     rank-step i {r} B = by-cases (decLe c (64 * i))
         (λ h. rw (le-leb c (64 * suc i) (omega arith), le-leb c (64 * i) h, B .nothing h) (omega arith))
         (λ h. by-cases (decLe c (64 * i + 64)) (λ l. last h l) (λ l. passed h l))
       where
-        last : (c ≤ 64 * i → ⊥) → c ≤ 64 * i + 64 → countOf (inSet Z x) (up-to (suc i)) ≡ countOf (inSet Z x) (up-to i) + r
+        last : (c ≤ 64 * i → ⊥) → c ≤ 64 * i + 64 → howMany (inSet Z x) (up-to (suc i)) ≡ howMany (inSet Z x) (up-to i) + r
         last h l =
             let e : 64 * i + (c - 64 * i) ≡ c = omega arith in
             rw (le-leb c (64 * suc i) (omega arith), lt-leb c (64 * i) (omega arith), B .part (omega arith) l)
             (rw e at (word-count i (c - 64 * i) (omega arith)))
 
-        passed : (c ≤ 64 * i → ⊥) → (c ≤ 64 * i + 64 → ⊥) → countOf (inSet Z x) (up-to (suc i)) ≡ countOf (inSet Z x) (up-to i) + r
+        passed : (c ≤ 64 * i → ⊥) → (c ≤ 64 * i + 64 → ⊥) → howMany (inSet Z x) (up-to (suc i)) ≡ howMany (inSet Z x) (up-to i) + r
         passed h l =
             let e : 64 * i + 64 ≡ 64 * suc i = omega arith in
             rw (lt-leb c (64 * suc i) (omega arith), lt-leb c (64 * i) (omega arith), B .whole (omega arith))
             (rw e at (word-count i 64 (omega arith)))
 
     pub rank-told : c ≤ 256 → {r₀ r₁ r₂ r₃ : ℕ} → OnesBelow (at Z (4 * x)) 0 c r₀ → OnesBelow (at Z (4 * x + 1)) 1 c r₁
-        → OnesBelow (at Z (4 * x + 2)) 2 c r₂ → OnesBelow (at Z (4 * x + 3)) 3 c r₃ → r₀ + r₁ + r₂ + r₃ ≡ countOf (inSet Z x) c
-    unfolding up-to countOf
+        → OnesBelow (at Z (4 * x + 2)) 2 c r₂ → OnesBelow (at Z (4 * x + 3)) 3 c r₃ → r₀ + r₁ + r₂ + r₃ ≡ howMany (inSet Z x) c
+    unfolding up-to howMany
     rank-told h {r₀} {r₁} {r₂} {r₃} B₀ B₁ B₂ B₃ =
         let e : 4 * x + 0 ≡ 4 * x = omega arith in
-        let start : countOf (inSet Z x) (up-to 0) ≡ 0 = by-cases (decLe c 0) (λ l. let z : c ≡ 0 = omega arith in rw (le-leb c 0 l, z)) (λ l. rw (lt-leb c 0 (omega arith))) in
+        let start : howMany (inSet Z x) (up-to 0) ≡ 0 = by-cases (decLe c 0) (λ l. let z : c ≡ 0 = omega arith in rw (le-leb c 0 l, z)) (λ l. rw (lt-leb c 0 (omega arith))) in
         let end : up-to 4 ≡ c = rw (le-leb c 256 h) in
         let all = rw end at (rank-step 3 B₃) in
         omega (arith, start, rank-step 0 (rw (← e) at B₀), rank-step 1 B₁, rank-step 2 B₂, all)

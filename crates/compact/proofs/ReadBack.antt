@@ -15,8 +15,8 @@ use borrow.Author.Tests.{lt-ltb, le-ltb, le-leb, lt-leb}
 use Rattle.words.specs.Lists.{at}
 use Rattle.words.specs.Words.{Letter, Word}
 use Rattle.oracle.specs.Arrows.{State, Delta}
-use Rattle.compact.specs.Compact.{numberOf, arrowAt, isArrow, setWord, targetsUpTo, setsFrom, compactFrom}
-use Rattle.compact.specs.Compact.{bitAt, inSet, countOf, readCompact}
+use Rattle.compact.specs.Compact.{arrowNumber, arrowAt, isArrow, setWord, targetsUpTo, setsFrom, compactFrom}
+use Rattle.compact.specs.Compact.{bitAt, inSet, howMany, readCompact}
 use Rattle.compact.proofs.Bits.{bits-at, bits-small}
 use Rattle.compact.proofs.Counting.{count-split, count-same}
 use Rattle.compact.proofs.Targets.{there, targets-length, target-inside, target-at, targets-rise}
@@ -25,13 +25,13 @@ use Rattle.compact.proofs.CompactRows.{word-at, starts-there, targets-t
 -- ── Sets ───────────────────────────────────────────────────────────────────
 
 -- of a number: its state and letter
-pub its-state : (x : State) (c : Letter) → c < 256 → numberOf x c / 256 ≡ x
+pub its-state : (x : State) (c : Letter) → c < 256 → arrowNumber x c / 256 ≡ x
 its-state x c h = omega arith
 
-pub its-letter : (x : State) (c : Letter) → c < 256 → numberOf x c % 256 ≡ c
+pub its-letter : (x : State) (c : Letter) → c < 256 → arrowNumber x c % 256 ≡ c
 its-letter x c h = omega arith
 
-pub arrow-of : (δ : Delta) (x : State) (c : Letter) → c < 256 → arrowAt δ (numberOf x c) ≡ δ x c
+pub arrow-of : (δ : Delta) (x : State) (c : Letter) → c < 256 → arrowAt δ (arrowNumber x c) ≡ δ x c
 arrow-of δ x c h = ap₂ δ (its-state x c h) (its-letter x c h)
 
 -- bit d of word i tells of the arrow of number 64i + d
@@ -52,17 +52,17 @@ module _ (δ : Delta) (m : ℕ) (Z : List ℕ) (told : (i : ℕ) → i < 4 * (m 
 
   module _ (x : State) (h : x ≤ m) where
     pub set-told : (c : Letter) → c < 256 → inSet Z x c ≡ isArrow (δ x c)
-    set-told c l = number-told (numberOf x c) (omega arith) ∙ ap isArrow (arrow-of δ x c l)
+    set-told c l = number-told (arrowNumber x c) (omega arith) ∙ ap isArrow (arrow-of δ x c l)
 
     -- those of smaller letters
-    pub count-told : (c : Letter) → c ≤ 256 → length (targetsUpTo δ (256 * x)) + countOf (inSet Z x) c ≡ length (targetsUpTo δ (numberOf x c))
+    pub count-told : (c : Letter) → c ≤ 256 → length (targetsUpTo δ (256 * x)) + howMany (inSet Z x) c ≡ length (targetsUpTo δ (arrowNumber x c))
     count-told c l =
-        ap₂ (λ (a b : ℕ). a + b) (targets-length δ (256 * x)) (count-same (inSet Z x) (λ d. there δ (numberOf x d)) c same)
+        ap₂ (λ (a b : ℕ). a + b) (targets-length δ (256 * x)) (count-same (inSet Z x) (λ d. there δ (arrowNumber x d)) c same)
         ∙ sym (count-split (there δ) (256 * x) c)
-        ∙ sym (targets-length δ (numberOf x c))
+        ∙ sym (targets-length δ (arrowNumber x c))
       where
-        same : (d : ℕ) → d < c → inSet Z x d ≡ there δ (numberOf x d)
-        same d k = number-told (numberOf x d) (omega arith)
+        same : (d : ℕ) → d < c → inSet Z x d ≡ there δ (arrowNumber x d)
+        same d k = number-told (arrowNumber x d) (omega arith)
 
 -- ── Arrows ─────────────────────────────────────────────────────────────────
 
@@ -75,13 +75,13 @@ pub beyond-bytes : (m : ℕ) (Z L : List ℕ) (x : State) (c : Letter) → 256 �
 unfolding readCompact
 beyond-bytes m Z L x c h = rw (le-ltb c 256 h) (by (leb x m))
   where
-    by : (b : Bool) → cond (b && false) (some (at L (8 * (m + 1) + (at L (4 * (m + 1) + 4 * x) + countOf (inSet Z x) c)))) none ≡ none
+    by : (b : Bool) → cond (b && false) (some (at L (8 * (m + 1) + (at L (4 * (m + 1) + 4 * x) + howMany (inSet Z x) c)))) none ≡ none
     by true = refl
     by false = refl
 
 -- a letter of the set leads to the target at its place
 pub reads-some : (m : ℕ) (Z L : List ℕ) (x : State) (c : Letter) → x ≤ m → c < 256 → inSet Z x c ≡ true
-    → readCompact m Z L x c ≡ some (at L (8 * (m + 1) + (at L (4 * (m + 1) + 4 * x) + countOf (inSet Z x) c)))
+    → readCompact m Z L x c ≡ some (at L (8 * (m + 1) + (at L (4 * (m + 1) + 4 * x) + howMany (inSet Z x) c)))
 unfolding readCompact
 reads-some m Z L x c h l e = rw (le-leb x m h, lt-ltb c 256 l, e)
 
@@ -100,10 +100,10 @@ module _ (p : Word) (δ : Delta) (S : State → State) (few : length (targetsUpT
   abbrev L : List ℕ
   L = compactFrom p δ S
 
-  pub place-told : (x : State) (c : Letter) → x ≤ m → c ≤ 256 → at L (4 * (m + 1) + 4 * x) + countOf (inSet Z x) c ≡ length (targetsUpTo δ (numberOf x c))
+  pub place-told : (x : State) (c : Letter) → x ≤ m → c ≤ 256 → at L (4 * (m + 1) + 4 * x) + howMany (inSet Z x) c ≡ length (targetsUpTo δ (arrowNumber x c))
   place-told x c h l =
       let e : 64 * (4 * x) ≡ 256 * x = omega arith in
-      ap (λ (a : ℕ). a + countOf (inSet Z x) c) (starts-there p δ S (4 * x) (omega arith) ∙ ap (λ (g : ℕ). length (targetsUpTo δ g)) e)
+      ap (λ (a : ℕ). a + howMany (inSet Z x) c) (starts-there p δ S (4 * x) (omega arith) ∙ ap (λ (g : ℕ). length (targetsUpTo δ g)) e)
       ∙ count-told δ m Z (word-at δ m) x h c l
 
   pub reads-compact : (x : State) (c : Letter) → x ≤ m → c < 256 → readCompact m Z L x c ≡ δ x c
@@ -116,7 +116,7 @@ module _ (p : Word) (δ : Delta) (S : State → State) (few : length (targetsUpT
       by none e = reads-none m Z L x c h l (unfold isArrow in member e)
       by (some y) e =
           let leads = arrow-of δ x c l ∙ e in
-          let g = numberOf x c in
+          let g = arrowNumber x c in
           let inside = target-inside δ g leads (256 * (m + 1)) (omega arith) in
           reads-some m Z L x c h l (unfold isArrow in member e)
           ∙ ap {B = Option State} some (

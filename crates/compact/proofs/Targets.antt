@@ -12,7 +12,7 @@ use lib.ListN.{length, length-append, List·getD-append}
 use lib.Seq.{getD-append-add}
 use Rattle.words.specs.Lists.{at}
 use Rattle.oracle.specs.Arrows.{State, Delta}
-use Rattle.compact.specs.Compact.{arrowAt, isArrow, asList, targetsUpTo, countOf}
+use Rattle.compact.specs.Compact.{arrowAt, isArrow, asList, targetsUpTo, howMany}
 use Rattle.compact.proofs.Counting.{count-rises, count-passes}
 
 as-list-length : (o : Option State) → length (asList o) ≡ cond (isArrow o) 1 0
@@ -26,8 +26,8 @@ module _ (δ : Delta) where
   there g = isArrow (arrowAt δ g)
 
   -- as many targets as arrows
-  pub targets-length : (g : ℕ) → length (targetsUpTo δ g) ≡ countOf there g
-  unfolding targetsUpTo countOf
+  pub targets-length : (g : ℕ) → length (targetsUpTo δ g) ≡ howMany there g
+  unfolding targetsUpTo howMany
   targets-length zero = refl
   targets-length (suc g) =
       length-append (targetsUpTo δ g) (asList (arrowAt δ g))

@@ -25,8 +25,8 @@ use Rattle.oracle.proofs.Theorems.{oracle-supplied, supply-lower, no-supply}
 use Rattle.table.specs.Table.{tableOf, readWord, readArrow, readSupply}
 use Rattle.table.proofs.ReadBack.{reads-no-supply}
 use Rattle.table.proofs.Theorems.{oracle-over, table-arrow}
-use Rattle.compact.specs.Compact.{setsRoom, compactRoom, numberOf, isArrow, setWord, targetsUpTo, compactFrom, compactSets}
-use Rattle.compact.specs.Compact.{compactTable, inSet, countOf, readCompact}
+use Rattle.compact.specs.Compact.{setsRoom, compactRoom, arrowNumber, isArrow, setWord, targetsUpTo, compactFrom, compactSets}
+use Rattle.compact.specs.Compact.{compactTable, inSet, howMany, readCompact}
 use Rattle.compact.specs.CompactFormed.{CompactFormed}
 use Rattle.compact.proofs.Bits.{bits-small}
 use Rattle.compact.proofs.Targets.{targets-rise, target-at, target-of}
@@ -105,7 +105,7 @@ module _ (p : Word) where
 
   -- where a word's targets start is behind the smaller letters' targets of its state
   place : (x : State) (c : Letter) → x ≤ m → c ≤ 256
-      → at L (4 * (m + 1) + 4 * x) + countOf (inSet Z x) c ≡ length (targetsUpTo (oracle p) (numberOf x c))
+      → at L (4 * (m + 1) + 4 * x) + howMany (inSet Z x) c ≡ length (targetsUpTo (oracle p) (arrowNumber x c))
   unfolding compactSets compactTable
   place = place-told p (oracle p) _ targets-fit
 
@@ -147,9 +147,9 @@ module _ (p : Word) where
     words = omega (arith, compact-sets-size);
     enough = omega (arith, compact-table-size);
     starts = λ x h k l.
-        let e : 64 * (4 * x + k) ≡ numberOf x (64 * k) = omega arith in
+        let e : 64 * (4 * x + k) ≡ arrowNumber x (64 * k) = omega arith in
         start (4 * x + k) (omega arith) ∙ ap (λ (g : ℕ). length (targetsUpTo (oracle p) g)) e ∙ sym (place x (64 * k) h (omega arith));
-    fits = λ x h. omega (arith, place x 256 h (omega arith), targets-rise (oracle p) (numberOf x 256) (256 * (m + 1)) (omega arith), targets-fit);
+    fits = λ x h. omega (arith, place x 256 h (omega arith), targets-rise (oracle p) (arrowNumber x 256) (256 * (m + 1)) (omega arith), targets-fit);
     targets = target-bound;
     spine = λ x h. rw (letter-at x h, add-one x) (compact-arrow x (letter p x) (bytes x) ∙ oracle-over p .spine x h);
     last = λ c l. last-empty c l;

@@ -11,11 +11,11 @@
 --
 --   setsRoom m                how many words
 --   compactRoom m             how many entries
---   numberOf x c              the number of the arrow from x on c
+--   arrowNumber x c           the number of the arrow from x on c
 --   arrowAt δ g               where the arrow of the number g leads
 --   isArrow o                 whether there is one
 --   asList o                  the state that it leads to, in a list of one or none
---   bitsOf f k                the number whose first k bits say which of 0, .., k - 1 pass the test f
+--   fromBits f k              the number whose first k bits say which of 0, .., k - 1 pass the test f
 --   setWord δ i               word i
 --   targetsUpTo δ g           the targets of the arrows with numbers below g
 --   setsFrom δ m              all words for the arrows δ
@@ -25,7 +25,7 @@
 --   bitAt w d                 whether bit d of w is 1
 --   marked Z g                whether the words Z tell of an arrow of the number g
 --   inSet Z x c               whether c is in the set of x
---   countOf f k               how many of 0, .., k - 1 pass the test f
+--   howMany f k               how many of 0, .., k - 1 pass the test f
 --   readCompact m Z L x c     where the arrow from x on c leads, read from the words Z and the entries L
 --
 -- The word and the supplies are read as from the first form. 02, 'Compact rows'.
@@ -49,8 +49,8 @@ compactRoom m = 10 * (m + 1)
 
 -- ── Laid out ───────────────────────────────────────────────────────────────
 
-abbrev pub numberOf : State → Letter → ℕ
-numberOf x c = 256 * x + c
+abbrev pub arrowNumber : State → Letter → ℕ
+arrowNumber x c = 256 * x + c
 
 abbrev pub arrowAt : Delta → ℕ → Option State
 arrowAt δ g = δ (g / 256) (g % 256)
@@ -63,12 +63,12 @@ unfoldable pub asList : Option State → List State
 asList none = []
 asList (some y) = y ∷ []
 
-unfoldable pub bitsOf : (ℕ → Bool) → ℕ → ℕ
-bitsOf f zero = 0
-bitsOf f (suc k) = bitsOf f k + cond (f k) (2 ^ k) 0
+unfoldable pub fromBits : (ℕ → Bool) → ℕ → ℕ
+fromBits f zero = 0
+fromBits f (suc k) = fromBits f k + cond (f k) (2 ^ k) 0
 
 unfoldable pub setWord : Delta → ℕ → ℕ
-setWord δ i = bitsOf (λ d. isArrow (arrowAt δ (64 * i + d))) 64
+setWord δ i = fromBits (λ d. isArrow (arrowAt δ (64 * i + d))) 64
 
 unfoldable pub targetsUpTo : Delta → ℕ → List State
 targetsUpTo δ zero = []
@@ -102,16 +102,16 @@ abbrev pub marked : List ℕ → ℕ → Bool
 marked Z g = bitAt (at Z (g / 64)) (g % 64)
 
 abbrev pub inSet : List ℕ → State → Letter → Bool
-inSet Z x c = marked Z (numberOf x c)
+inSet Z x c = marked Z (arrowNumber x c)
 
-unfoldable pub countOf : (ℕ → Bool) → ℕ → ℕ
-countOf f zero = 0
-countOf f (suc k) = countOf f k + cond (f k) 1 0
+unfoldable pub howMany : (ℕ → Bool) → ℕ → ℕ
+howMany f zero = 0
+howMany f (suc k) = howMany f k + cond (f k) 1 0
 
 -- the target's place: where those of the state start, and behind that one place for each smaller letter of its set
 unfoldable pub readCompact : ℕ → List ℕ → List ℕ → Delta
 readCompact m Z L x c =
     let n = m + 1 in
     let start = at L (4 * n + 4 * x) in
-    let place = start + countOf (inSet Z x) c in
+    let place = start + howMany (inSet Z x) c in
     cond (leb x m && (ltb c 256 && inSet Z x c)) (some (at L (8 * n + place))) none

@@ -6,7 +6,7 @@ ghost use Prim.Native.Nat.{ℕ, _+_, _-_, _*_, _<_, _≤_};
 ghost use lib.ListN.{length};
 ghost use Rattle.words.specs.Lists.{at};
 ghost use Rattle.words.specs.Answers.{arrowTo};
-ghost use Rattle.compact.specs.Compact.{bitAt, inSet, countOf, readCompact};
+ghost use Rattle.compact.specs.Compact.{bitAt, inSet, howMany, readCompact};
 ghost use Rattle.compact.specs.CompactFormed.{CompactFormed, OnesBelow};
 
 // Whether an arrow on c leaves x.
@@ -23,7 +23,7 @@ pub fn has_arrow(sets: &[u64], x: words::State, c: words::Letter) -> bool
 // How many of the first bits of a word are 1.
 fn low_ones(word: u64, bits: u32) -> usize
     requires { ⌜ bits < 64 ⌝ }
-    ensures { λ r. ⌜ r ≡ countOf (bitAt word) bits ⌝ }
+    ensures { λ r. ⌜ r ≡ howMany (bitAt word) bits ⌝ }
 {
     let ones = u64::count_ones(word % (1u64 << bits));
     ones as usize
@@ -48,7 +48,7 @@ fn ones_below(word: u64, i: usize, c: usize) -> usize
 // On how many letters below c an arrow leaves x: the ones of four words, masked.
 pub fn rank(sets: &[u64], x: words::State, c: usize) -> usize
     requires { ⌜ (4 * x .0 + 4 ≤ length (now sets)) × (c ≤ 256) ⌝ }
-    ensures { λ r. ⌜ r ≡ countOf (inSet (now (sets .entry)) (x .0)) c ⌝ }
+    ensures { λ r. ⌜ r ≡ howMany (inSet (now (sets .entry)) (x .0)) c ⌝ }
 {
     let top = 4 * (x.0 as usize);
     let a = ones_below(sets[top], 0, c);
@@ -62,7 +62,7 @@ pub fn rank(sets: &[u64], x: words::State, c: usize) -> usize
 fn place(sets: &[u64], table: &[u16], m: usize, x: words::State, c: words::Letter) -> usize
     requires { ⌜ CompactFormed (now sets) (now table) m × (x .0 < m) × (inSet (now sets) (x .0) (c .0) ≡ true) ⌝ }
     ensures { λ r. ⌜ (r < 2 * (m + 1))
-        × (r ≡ at (now (table .entry)) (4 * (m + 1) + 4 * x .0) + countOf (inSet (now (sets .entry)) (x .0)) (c .0)) ⌝ }
+        × (r ≡ at (now (table .entry)) (4 * (m + 1) + 4 * x .0) + howMany (inSet (now (sets .entry)) (x .0)) (c .0)) ⌝ }
 {
     let number = 256 * (x.0 as usize) + (c.0 as usize);
     let i = number / 64;

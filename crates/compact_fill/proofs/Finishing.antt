@@ -23,7 +23,7 @@ use Rattle.table.proofs.Rows.{row-0, row-1-first, row-1}
 use Rattle.compact.specs.Compact.{targetsUpTo, setsFrom, compactSets, compactTable}
 use Rattle.compact.proofs.CompactRows.{letters-there, supplies-there, zeros-there, starts-there, targets-there}
 use Rattle.compact.proofs.Theorems.{compact-table-size}
-use Rattle.compact_fill.specs.Filling.{FirstForm, Started, PutAll}
+use Rattle.compact_fill.specs.Filling.{FirstForm, WithStarts, AllTargets}
 use Rattle.compact_fill.proofs.OutArrows.{own-word, first-stays}
 
 -- ── Two rows cleared ───────────────────────────────────────────────────────
@@ -133,13 +133,13 @@ rowed-table {p} {m} {K} R e = by (rw (← e) at R)
 
 module _ {p : Word} {L : List ℕ} {m : ℕ} (F : FirstForm p L m) where
   -- the first form is still there
-  still-first : {L₁ : List ℕ} → Started (oracle p) m L L₁ → FirstForm p L₁ m
+  still-first : {L₁ : List ℕ} → WithStarts (oracle p) m L L₁ → FirstForm p L₁ m
   still-first S = first-stays F (S .size) (S .before)
 
   -- what the targets' code asks for
-  pub all-asked : {Z L₁ : List ℕ} → ((i : ℕ) → 4 * (m + 1) ≤ i → at L i ≡ 0) → Started (oracle p) m L L₁ → Z ≡ setsFrom (oracle p) m
+  pub all-asked : {Z L₁ : List ℕ} → ((i : ℕ) → 4 * (m + 1) ≤ i → at L i ≡ 0) → WithStarts (oracle p) m L L₁ → Z ≡ setsFrom (oracle p) m
       → (FirstForm (wordIn L₁ m) L₁ m × ((i : ℕ) → 8 * (m + 1) ≤ i → at L₁ i ≡ 0))
-      × ((Z ≡ setsFrom (oracle (wordIn L₁ m)) m) × Started (oracle (wordIn L₁ m)) m L₁ L₁)
+      × ((Z ≡ setsFrom (oracle (wordIn L₁ m)) m) × WithStarts (oracle (wordIn L₁ m)) m L₁ L₁)
   all-asked zeros S z = rw (own-word (still-first S)) (
     (still-first S, λ i h. S .behind i h ∙ zeros i (omega arith)),
     (
@@ -157,9 +157,9 @@ module _ {p : Word} {L : List ℕ} {m : ℕ} (F : FirstForm p L m) where
   unfolding compactSets
   sets-done e = rw (F .long) e
 
-  module _ {L₁ L₂ : List ℕ} (S : Started (oracle p) m L L₁) (P : PutAll (oracle (wordIn L₁ m)) m L₁ L₂) {a k : ℕ} (two : a ≡ 2 * (m + 1))
+  module _ {L₁ L₂ : List ℕ} (S : WithStarts (oracle p) m L L₁) (P : AllTargets (oracle (wordIn L₁ m)) m L₁ L₂) {a k : ℕ} (two : a ≡ 2 * (m + 1))
       (as-many : k ≡ a) {C : List ℕ} (cleared : C ≡ replicate (length (midOf a k L₂)) 0) where
-    put : PutAll (oracle p) m L₁ L₂
+    put : AllTargets (oracle p) m L₁ L₂
     put = rw (own-word (still-first S)) at P
 
     size : length L₂ ≡ 10 * (m + 1)

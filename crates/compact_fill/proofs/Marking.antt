@@ -23,13 +23,13 @@ use Rattle.words.proofs.Loops.{zeros-at}
 use Rattle.oracle.specs.Arrows.{State, Delta}
 use Rattle.oracle.specs.SuffixRule.{oracle}
 use Rattle.oracle.proofs.Targets.{never}
-use Rattle.compact.specs.Compact.{setsRoom, numberOf, isArrow, setWord, setsFrom, bitAt, marked, inSet}
+use Rattle.compact.specs.Compact.{setsRoom, arrowNumber, isArrow, setWord, setsFrom, bitAt, marked, inSet}
 use Rattle.compact.proofs.Bits.{bits-small, same-bits, or-bit}
 use Rattle.compact.proofs.Counting.{shifted-one}
 use Rattle.compact.proofs.Targets.{there}
 use Rattle.compact.proofs.CompactRows.{sets-size, word-at}
 use Rattle.compact.proofs.ReadBack.{word-told, word-small}
-use Rattle.compact_fill.specs.Filling.{outTargets, letterInto, FirstForm, Words, Marked, MarkedState}
+use Rattle.compact_fill.specs.Filling.{outTargets, letterInto, FirstForm, Words64, WithBit, WithSet}
 use Rattle.compact_fill.proofs.OutArrows.{out-leads, arrow-among}
 
 or-false : (b : Bool) → b || false ≡ b
@@ -48,7 +48,7 @@ same-test a b c d f g = by-cases (ℕ-discrete a b)
 
 -- ── One bit ────────────────────────────────────────────────────────────────
 
-pub bit-set : (Z : List ℕ) (g : ℕ) → g / 64 < length Z → Marked Z g (set Z (g / 64) (bitOr (at Z (g / 64)) (1 * 2 ^ (g % 64) % 2 ^ 64)))
+pub bit-set : (Z : List ℕ) (g : ℕ) → g / 64 < length Z → WithBit Z g (set Z (g / 64) (bitOr (at Z (g / 64)) (1 * 2 ^ (g % 64) % 2 ^ 64)))
 bit-set Z g h = rw (shifted-one (g % 64) (omega arith)) (record {
   size = length-set Z (g / 64) w;
   small = λ s i. by-cases (ℕ-discrete i (g / 64))
@@ -79,7 +79,7 @@ among p x c (suc j) = among p x c j || eqb (letterInto p (at (outTargets p x) j)
 -- the first j arrows of x are marked
 pub record MarkedSome (p : Word) (x : State) (Z Z′ : List ℕ) (j : ℕ) : Type 0 where
   pub size : length Z′ ≡ length Z
-  pub small : Words Z → Words Z′
+  pub small : Words64 Z → Words64 Z′
   pub own : (c : Letter) → c < 256 → inSet Z′ x c ≡ inSet Z x c || among p x c j
   pub others : (g : ℕ) → g / 256 ≢ x → marked Z′ g ≡ marked Z g
 
@@ -90,17 +90,17 @@ module _ {p : Word} {x : State} {Z : List ℕ} where
 
   -- one more
   pub marked-one : {Z′ Z″ : List ℕ} {j : ℕ} {d : Letter} → MarkedSome p x Z Z′ j → d ≡ letterInto p (at (outTargets p x) j) → letterInto p (at (outTargets p x) j) < 256
-      → Marked Z′ (numberOf x d) Z″ → MarkedSome p x Z Z″ (j + 1)
+      → WithBit Z′ (arrowNumber x d) Z″ → MarkedSome p x Z Z″ (j + 1)
   unfolding among
   marked-one {Z′} {Z″} {j} {d} M e byte K = rw (add-one j) (record {
     size = K .size ∙ M .size;
     small = λ s. K .small (M .small s);
     own = λ c l.
-        K .told (numberOf x c)
-        ∙ ap (λ (t : Bool). inSet Z′ x c || t) (same-test (numberOf x d) (numberOf x c) d c (λ q. omega arith) (λ q. omega arith) ∙ ap (λ (i : ℕ). eqb i c) e)
+        K .told (arrowNumber x c)
+        ∙ ap (λ (t : Bool). inSet Z′ x c || t) (same-test (arrowNumber x d) (arrowNumber x c) d c (λ q. omega arith) (λ q. omega arith) ∙ ap (λ (i : ℕ). eqb i c) e)
         ∙ ap (λ (t : Bool). t || eqb (letterInto p (at (outTargets p x) j)) c) (M .own c l)
         ∙ or-assoc (inSet Z x c) (among p x c j) _;
-    others = λ g h. K .told g ∙ rw (ne-eqb (numberOf x d) g (λ q. h (omega (arith, e)))) (or-false (marked Z′ g)) ∙ M .others g h;
+    others = λ g h. K .told g ∙ rw (ne-eqb (arrowNumber x d) g (λ q. h (omega (arith, e)))) (or-false (marked Z′ g)) ∙ M .others g h;
   })
 
 -- none of them
@@ -132,7 +132,7 @@ module _ {p : Word} {L : List ℕ} {m : ℕ} (F : FirstForm p L m) (x : State) (
       by none e = among-none p x c _ (λ j l q. never e (rw q at (out-leads F x h j l .leads)))
       by (some y) e = let A = arrow-among F x h c y e in among-some p x c _ (A .index) (A .below) (rw (A .here) (sym (A .on)))
 
-  pub state-marked : {Z Z′ : List ℕ} {k : ℕ} → MarkedSome p x Z Z′ k → k ≡ length (outTargets p x) → MarkedState (oracle p) x Z Z′
+  pub state-marked : {Z Z′ : List ℕ} {k : ℕ} → MarkedSome p x Z Z′ k → k ≡ length (outTargets p x) → WithSet (oracle p) x Z Z′
   state-marked {Z} M e = record {
     size = M .size;
     small = M .small;
@@ -145,7 +145,7 @@ module _ {p : Word} {L : List ℕ} {m : ℕ} (F : FirstForm p L m) (x : State) (
 -- the states below x are marked, and no other
 pub record MarkedUpTo (δ : Delta) (m : ℕ) (Z : List ℕ) (x : State) : Type 0 where
   pub size : length Z ≡ setsRoom m
-  pub small : Words Z
+  pub small : Words64 Z
   pub done : (g : ℕ) → g / 256 < x → marked Z g ≡ there δ g
   pub ahead : (g : ℕ) → x ≤ g / 256 → marked Z g ≡ false
 
@@ -158,7 +158,7 @@ nothing-marked {δ} {m} {Z} e = rw e (record {
   ahead = λ g h. rw (zeros-at (setsRoom m) (g / 64), zero-div (2 ^ (g % 64)));
 })
 
-pub state-more : {δ : Delta} {m : ℕ} {Z Z′ : List ℕ} {x : State} → MarkedUpTo δ m Z x → MarkedState δ x Z Z′ → MarkedUpTo δ m Z′ (x + 1)
+pub state-more : {δ : Delta} {m : ℕ} {Z Z′ : List ℕ} {x : State} → MarkedUpTo δ m Z x → WithSet δ x Z Z′ → MarkedUpTo δ m Z′ (x + 1)
 state-more {δ} {m} {Z} {Z′} {x} U M = record {
   size = M .size ∙ U .size;
   small = M .small (U .small);
@@ -170,10 +170,10 @@ state-more {δ} {m} {Z} {Z′} {x} U M = record {
   where
     here : (g : ℕ) → g / 256 ≡ x → marked Z′ g ≡ there δ g
     here g e =
-        let same : numberOf x (g % 256) ≡ g = omega arith in
+        let same : arrowNumber x (g % 256) ≡ g = omega arith in
         let own = M .own (g % 256) (omega arith) in
-        let empty : marked Z (numberOf x (g % 256)) ≡ false = U .ahead (numberOf x (g % 256)) (omega arith) in
-        let told : marked Z′ (numberOf x (g % 256)) ≡ isArrow (δ x (g % 256)) = rw empty at own in
+        let empty : marked Z (arrowNumber x (g % 256)) ≡ false = U .ahead (arrowNumber x (g % 256)) (omega arith) in
+        let told : marked Z′ (arrowNumber x (g % 256)) ≡ isArrow (δ x (g % 256)) = rw empty at own in
         rw same at told ∙ ap (λ (y : ℕ). isArrow (δ y (g % 256))) (sym e)
 
 pub all-marked : {δ : Delta} {m : ℕ} {Z : List ℕ} {x : State} → MarkedUpTo δ m Z x → x ≡ m → ((c : Letter) → δ m c ≡ none) → Z ≡ setsFrom δ m

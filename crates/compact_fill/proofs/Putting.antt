@@ -20,13 +20,13 @@ use Rattle.oracle.specs.Arrows.{State, Delta}
 use Rattle.oracle.specs.SuffixRule.{oracle}
 use Rattle.oracle.proofs.Targets.{never}
 use Rattle.chains.specs.Letters.{wordIn}
-use Rattle.compact.specs.Compact.{setsRoom, numberOf, arrowAt, setWord, targetsUpTo, setsFrom, bitAt, inSet, countOf}
+use Rattle.compact.specs.Compact.{setsRoom, arrowNumber, arrowAt, setWord, targetsUpTo, setsFrom, bitAt, inSet, howMany}
 use Rattle.compact.proofs.Counting.{count-split, count-same, all-ones}
 use Rattle.compact.proofs.Targets.{there, targets-length, targets-rise, target-inside, target-at, target-of}
 use Rattle.compact.proofs.CompactRows.{sets-size, word-at}
 use Rattle.compact.proofs.ReadBack.{word-told, word-small, count-told, arrow-of}
 use Rattle.compact.proofs.Theorems.{targets-fit}
-use Rattle.compact_fill.specs.Filling.{outTargets, letterInto, placeOf, FirstForm, Started, PutState, PutAll}
+use Rattle.compact_fill.specs.Filling.{outTargets, letterInto, placeOf, FirstForm, WithStarts, WithTargets, AllTargets}
 use Rattle.compact_fill.proofs.OutArrows.{own-word, first-stays, out-leads, arrow-among}
 
 -- ── Starts ─────────────────────────────────────────────────────────────────
@@ -35,7 +35,7 @@ use Rattle.compact_fill.proofs.OutArrows.{own-word, first-stays, out-le
 pub word-more : (δ : Delta) (i : ℕ) → length (targetsUpTo δ (64 * i)) + ones (setWord δ i) ≡ length (targetsUpTo δ (64 * (i + 1)))
 word-more δ i =
     let e : 64 * i + 64 ≡ 64 * (i + 1) = omega arith in
-    let in-word : ones (setWord δ i) ≡ countOf (λ d. there δ (64 * i + d)) 64 =
+    let in-word : ones (setWord δ i) ≡ howMany (λ d. there δ (64 * i + d)) 64 =
     all-ones (setWord δ i) 64 (word-small δ i) ∙ count-same (bitAt (setWord δ i)) (λ d. there δ (64 * i + d)) 64 (word-told δ i) in
     let all = rw e at (count-split (there δ) (64 * i) 64) in
     omega (arith, targets-length δ (64 * i), targets-length δ (64 * (i + 1)), in-word, all)
@@ -68,7 +68,7 @@ module _ {δ : Delta} {m : ℕ} {L : List ℕ} where
       by-place : (k : ℕ) → (4 * (m + 1) ≤ k → 8 * (m + 1) ≤ k) → k ≢ 4 * (m + 1) + i
       by-place k f q = let l = f (omega arith) in omega arith
 
-  pub counting-end : {L′ : List ℕ} {before i : ℕ} → Counting δ m L L′ before i → 4 * (m + 1) ≤ i → Started δ m L L′
+  pub counting-end : {L′ : List ℕ} {before i : ℕ} → Counting δ m L L′ before i → 4 * (m + 1) ≤ i → WithStarts δ m L L′
   counting-end C h = record {
     size = C .size;
     starts = λ k l. C .starts k (omega arith);
@@ -99,8 +99,8 @@ module _ {p : Word} {L : List ℕ} {m : ℕ} (F : FirstForm p L m) (x : State) (
   own-place : (c : Letter) (y : State) → c < 256 → oracle p x c ≡ some y
       → (length (targetsUpTo (oracle p) (256 * x)) ≤ placeOf p x c) × (placeOf p x c < length (targetsUpTo (oracle p) (256 * suc x)))
   own-place c y l e = (
-    targets-rise (oracle p) (256 * x) (numberOf x c) (omega arith),
-    target-inside (oracle p) (numberOf x c) (arrow-of (oracle p) x c l ∙ e) (256 * suc x) (omega arith),
+    targets-rise (oracle p) (256 * x) (arrowNumber x c) (omega arith),
+    target-inside (oracle p) (arrowNumber x c) (arrow-of (oracle p) x c l ∙ e) (256 * suc x) (omega arith),
   )
 
   -- and within the rows
@@ -111,21 +111,21 @@ module _ {p : Word} {L : List ℕ} {m : ℕ} (F : FirstForm p L m) (x : State) (
       omega (arith, within .1, targets-rise (oracle p) (256 * suc x) (256 * (length p + 1)) all, targets-fit p, F .long)
 
   -- where code looks for it
-  pub place-counted : {Z : List ℕ} → Z ≡ setsFrom (oracle p) m → {L₀ : List ℕ} → Started (oracle p) m L₀ L → {c d : Letter} → d < 256
-      → c ≡ d → at L (4 * (m + 1) + 4 * x) + countOf (inSet Z x) c ≡ placeOf p x d
+  pub place-counted : {Z : List ℕ} → Z ≡ setsFrom (oracle p) m → {L₀ : List ℕ} → WithStarts (oracle p) m L₀ L → {c d : Letter} → d < 256
+      → c ≡ d → at L (4 * (m + 1) + 4 * x) + howMany (inSet Z x) c ≡ placeOf p x d
   place-counted {Z} e S {c} {d} l same = rw same (counted d l)
     where
-      counted : (c : Letter) → c < 256 → at L (4 * (m + 1) + 4 * x) + countOf (inSet Z x) c ≡ placeOf p x c
+      counted : (c : Letter) → c < 256 → at L (4 * (m + 1) + 4 * x) + howMany (inSet Z x) c ≡ placeOf p x c
       counted c l =
           let at-state : 64 * (4 * x) ≡ 256 * x = omega arith in
-          ap (λ (a : ℕ). a + countOf (inSet Z x) c) (S .starts (4 * x) (omega arith) ∙ ap (λ (g : ℕ). length (targetsUpTo (oracle p) g)) at-state)
+          ap (λ (a : ℕ). a + howMany (inSet Z x) c) (S .starts (4 * x) (omega arith) ∙ ap (λ (g : ℕ). length (targetsUpTo (oracle p) g)) at-state)
           ∙ count-told (oracle p) m Z (λ i k. rw e (word-at (oracle p) m i k)) x (omega arith) c (omega arith)
 
   -- arrows on different letters have different places
   apart : {c d : Letter} {y z : State} → c < 256 → d < 256 → oracle p x c ≡ some y → oracle p x d ≡ some z → c ≢ d → placeOf p x c ≢ placeOf p x d
   apart {c} {d} k l e f q = by-cases (decLt c d)
-      (λ u v. omega (arith, target-inside (oracle p) (numberOf x c) (arrow-of (oracle p) x c k ∙ e) (numberOf x d) (omega arith)))
-      (λ u v. omega (arith, target-inside (oracle p) (numberOf x d) (arrow-of (oracle p) x d l ∙ f) (numberOf x c) (omega arith)))
+      (λ u v. omega (arith, target-inside (oracle p) (arrowNumber x c) (arrow-of (oracle p) x c k ∙ e) (arrowNumber x d) (omega arith)))
+      (λ u v. omega (arith, target-inside (oracle p) (arrowNumber x d) (arrow-of (oracle p) x d l ∙ f) (arrowNumber x c) (omega arith)))
 
   pub putting-start : PuttingState p m x L L 0
   putting-start = record { size = refl; put = λ i l. absurd (omega arith); before = λ i l. refl; behind = λ i l. refl }
@@ -166,7 +166,7 @@ module _ {p : Word} {L : List ℕ} {m : ℕ} (F : FirstForm p L m) (x : State) (
   first-kept P = first-stays F (P .size) (λ i k. P .before i (omega arith))
 
   -- and so do the starts
-  pub starts-kept : {L₀ L′ : List ℕ} {j : ℕ} → Started (oracle p) m L₀ L → PuttingState p m x L L′ j → Started (oracle p) m L′ L′
+  pub starts-kept : {L₀ L′ : List ℕ} {j : ℕ} → WithStarts (oracle p) m L₀ L → PuttingState p m x L L′ j → WithStarts (oracle p) m L′ L′
   starts-kept S P = record {
     size = refl;
     starts = λ i k. P .before (4 * (m + 1) + i) (omega arith) ∙ S .starts i k;
@@ -174,7 +174,7 @@ module _ {p : Word} {L : List ℕ} {m : ℕ} (F : FirstForm p L m) (x : State) (
     behind = λ i k. refl;
   }
 
-  pub putting-end : {L′ : List ℕ} {k : ℕ} → PuttingState p m x L L′ k → k ≡ length (outTargets p x) → PutState (oracle p) m x L L′
+  pub putting-end : {L′ : List ℕ} {k : ℕ} → PuttingState p m x L L′ k → k ≡ length (outTargets p x) → WithTargets (oracle p) m x L L′
   putting-end P e = record {
     size = P .size;
     put = λ c l y d. let A = arrow-among F x h c y d in
@@ -194,9 +194,9 @@ module _ {p : Word} {L : List ℕ} {m : ℕ} (F : FirstForm p L m) {x : State} (
   pub target-told : (j : ℕ) {y : ℕ} → y ≡ at (outTargets (wordIn L m) x) j → y ≡ at (outTargets p x) j
   target-told j e = e ∙ ap (λ (q : Word). at (outTargets q x) j) (own-word F)
 
-  pub place-asked : {y : State} {Z : List ℕ} → oracle p x (letterInto p y) ≡ some y → Z ≡ setsFrom (oracle p) m → Started (oracle p) m L L
+  pub place-asked : {y : State} {Z : List ℕ} → oracle p x (letterInto p y) ≡ some y → Z ≡ setsFrom (oracle p) m → WithStarts (oracle p) m L L
       → (FirstForm (wordIn L m) L m × (x < m) × (oracle (wordIn L m) x (letterInto (wordIn L m) y) ≡ some y))
-      × ((Z ≡ setsFrom (oracle (wordIn L m)) m) × Started (oracle (wordIn L m)) m L L)
+      × ((Z ≡ setsFrom (oracle (wordIn L m)) m) × WithStarts (oracle (wordIn L m)) m L L)
   place-asked e z S = rw (own-word F) ((F, h, e), (z, S))
 
   pub place-told : (y : State) {r : ℕ} → r ≡ placeOf (wordIn L m) x (letterInto (wordIn L m) y) → r ≡ placeOf p x (letterInto p y)
@@ -220,12 +220,12 @@ module _ {p : Word} {m : ℕ} {L : List ℕ} where
     behind = λ i h. zeros (8 * (m + 1) + i) (omega arith);
   }
 
-  pub all-step : {L′ L″ : List ℕ} {x : State} → PuttingAll p m L L′ x → PutState (oracle p) m x L′ L″ → PuttingAll p m L L″ (x + 1)
+  pub all-step : {L′ L″ : List ℕ} {x : State} → PuttingAll p m L L′ x → WithTargets (oracle p) m x L′ L″ → PuttingAll p m L L″ (x + 1)
   all-step {L′} {L″} {x} A P = rw (add-one x) (record {
     size = P .size ∙ A .size;
     put = λ g h y e. by-cases (ℕ-discrete (g / 256) x)
         (λ q.
-        let number : numberOf x (g % 256) ≡ g = omega arith in
+        let number : arrowNumber x (g % 256) ≡ g = omega arith in
         let leads : oracle p x (g % 256) ≡ some y = rw q at e in
         rw number at (P .put (g % 256) (omega arith) y leads))
         (λ q.
@@ -237,7 +237,7 @@ module _ {p : Word} {m : ℕ} {L : List ℕ} where
         P .behind (8 * (m + 1) + i) (omega arith) ∙ A .behind i (omega (arith, risen));
   })
 
-  pub all-end : {L′ : List ℕ} {x : State} → PuttingAll p m L L′ x → x ≡ m → ((c : Letter) → oracle p m c ≡ none) → PutAll (oracle p) m L L′
+  pub all-end : {L′ : List ℕ} {x : State} → PuttingAll p m L L′ x → x ≡ m → ((c : Letter) → oracle p m c ≡ none) → AllTargets (oracle p) m L L′
   all-end {L′} {x} A e none-last = record { size = A .size; targets = λ i h. target i; before = A .before }
     where
       row : List State
@@ -261,8 +261,8 @@ module _ {p : Word} {m : ℕ} {L : List ℕ} where
     now-first : FirstForm p L′ m
     now-first = first-stays F (A .size) (λ i h. A .before i (omega arith))
 
-    pub state-asked : {L₀ Z : List ℕ} → x < m → Z ≡ setsFrom (oracle p) m → Started (oracle p) m L₀ L
-        → (FirstForm (wordIn L′ m) L′ m × (x < m)) × ((Z ≡ setsFrom (oracle (wordIn L′ m)) m) × Started (oracle (wordIn L′ m)) m L′ L′)
+    pub state-asked : {L₀ Z : List ℕ} → x < m → Z ≡ setsFrom (oracle p) m → WithStarts (oracle p) m L₀ L
+        → (FirstForm (wordIn L′ m) L′ m × (x < m)) × ((Z ≡ setsFrom (oracle (wordIn L′ m)) m) × WithStarts (oracle (wordIn L′ m)) m L′ L′)
     state-asked h z S = rw (own-word now-first) (
       (now-first, h),
       (
@@ -276,5 +276,5 @@ module _ {p : Word} {m : ℕ} {L : List ℕ} where
       ),
     )
 
-    pub state-put : {L″ : List ℕ} → PutState (oracle (wordIn L′ m)) m x L′ L″ → PuttingAll p m L L″ (x + 1)
+    pub state-put : {L″ : List ℕ} → WithTargets (oracle (wordIn L′ m)) m x L′ L″ → PuttingAll p m L L″ (x + 1)
     state-put P = all-step A (rw (own-word now-first) at P)

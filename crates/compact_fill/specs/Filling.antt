@@ -5,11 +5,13 @@
 --   letterInto p y       the letter of the arrows into y
 --   placeOf p x c        the place of the target of the arrow from x on c, in the rows of targets
 --   FirstForm p L m      the entries L have room for compact rows, and rows 0 to 3 are those of the first form of p, which has m letters
---   Marked Z g Z′        Z′ is Z with the bit of the number g
---   MarkedState δ x Z Z′ Z′ is Z with the set of x
---   Started δ m L L′     L′ is L with where each word's targets start, in rows 4 to 7
---   PutState δ m x L L′  L′ is L with the targets of x
---   PutAll δ m L L′      L′ is L with all targets, in rows 8 and 9
+--   Words64 Z            Z are words of 64 bits
+--   WithBit Z g Z′       Z′ is Z with the bit of the number g
+--   WithSet δ x Z Z′     Z′ is Z with the set of x
+--   WithStarts δ m L L′  L′ is L with where each word's targets start, in rows 4 to 7
+--   WithTargets δ m x L L′
+--                        L′ is L with the targets of x
+--   AllTargets δ m L L′  L′ is L with all targets, in rows 8 and 9
 use mathlib.Core.Path.{_≡_}
 use mathlib.Core.Logic.{_≢_}
 use mathlib.Core.Bool.{_||_}
@@ -24,7 +26,7 @@ use Rattle.oracle.specs.Arrows.{State, Delta}
 use Rattle.oracle.specs.SuffixRule.{oracle}
 use Rattle.oracle.specs.FileOrder.{extraTargets}
 use Rattle.table.specs.Table.{tableOf}
-use Rattle.compact.specs.Compact.{compactRoom, numberOf, isArrow, targetsUpTo, marked, inSet}
+use Rattle.compact.specs.Compact.{compactRoom, arrowNumber, isArrow, targetsUpTo, marked, inSet}
 
 abbrev pub outTargets : Word → State → List State
 outTargets p x = suc x ∷ extraTargets (oracle p) p x
@@ -33,7 +35,7 @@ abbrev pub letterInto : Word → State → Letter
 letterInto p y = letter p (pred y)
 
 abbrev pub placeOf : Word → State → Letter → ℕ
-placeOf p x c = length (targetsUpTo (oracle p) (numberOf x c))
+placeOf p x c = length (targetsUpTo (oracle p) (arrowNumber x c))
 
 pub record FirstForm (p : Word) (L : List ℕ) (m : ℕ) : Type 0 where
   pub long : length p ≡ m
@@ -42,34 +44,33 @@ pub record FirstForm (p : Word) (L : List ℕ) (m : ℕ) : Type 0 where
   pub size : length L ≡ compactRoom m
   pub rows : (i : ℕ) → i < 4 * (m + 1) → at L i ≡ at (tableOf p) i
 
--- words of 64 bits stay so
-abbrev pub Words : List ℕ → Type 0
-Words Z = (i : ℕ) → at Z i < 2 ^ 64
+abbrev pub Words64 : List ℕ → Type 0
+Words64 Z = (i : ℕ) → at Z i < 2 ^ 64
 
-pub record Marked (Z : List ℕ) (g : ℕ) (Z′ : List ℕ) : Type 0 where
+pub record WithBit (Z : List ℕ) (g : ℕ) (Z′ : List ℕ) : Type 0 where
   pub size : length Z′ ≡ length Z
-  pub small : Words Z → Words Z′
+  pub small : Words64 Z → Words64 Z′
   pub told : (h : ℕ) → marked Z′ h ≡ marked Z h || eqb g h
 
-pub record MarkedState (δ : Delta) (x : State) (Z Z′ : List ℕ) : Type 0 where
+pub record WithSet (δ : Delta) (x : State) (Z Z′ : List ℕ) : Type 0 where
   pub size : length Z′ ≡ length Z
-  pub small : Words Z → Words Z′
+  pub small : Words64 Z → Words64 Z′
   pub own : (c : Letter) → c < 256 → inSet Z′ x c ≡ inSet Z x c || isArrow (δ x c)
   pub others : (g : ℕ) → g / 256 ≢ x → marked Z′ g ≡ marked Z g
 
-pub record Started (δ : Delta) (m : ℕ) (L L′ : List ℕ) : Type 0 where
+pub record WithStarts (δ : Delta) (m : ℕ) (L L′ : List ℕ) : Type 0 where
   pub size : length L′ ≡ length L
   pub starts : (i : ℕ) → i < 4 * (m + 1) → at L′ (4 * (m + 1) + i) ≡ length (targetsUpTo δ (64 * i))
   pub before : (i : ℕ) → i < 4 * (m + 1) → at L′ i ≡ at L i
   pub behind : (i : ℕ) → 8 * (m + 1) ≤ i → at L′ i ≡ at L i
 
-pub record PutState (δ : Delta) (m : ℕ) (x : State) (L L′ : List ℕ) : Type 0 where
+pub record WithTargets (δ : Delta) (m : ℕ) (x : State) (L L′ : List ℕ) : Type 0 where
   pub size : length L′ ≡ length L
-  pub put : (c : Letter) → c < 256 → (y : State) → δ x c ≡ some y → at L′ (8 * (m + 1) + length (targetsUpTo δ (numberOf x c))) ≡ y
+  pub put : (c : Letter) → c < 256 → (y : State) → δ x c ≡ some y → at L′ (8 * (m + 1) + length (targetsUpTo δ (arrowNumber x c))) ≡ y
   pub before : (i : ℕ) → i < 8 * (m + 1) + length (targetsUpTo δ (256 * x)) → at L′ i ≡ at L i
   pub behind : (i : ℕ) → 8 * (m + 1) + length (targetsUpTo δ (256 * suc x)) ≤ i → at L′ i ≡ at L i
 
-pub record PutAll (δ : Delta) (m : ℕ) (L L′ : List ℕ) : Type 0 where
+pub record AllTargets (δ : Delta) (m : ℕ) (L L′ : List ℕ) : Type 0 where
   pub size : length L′ ≡ length L
   pub targets : (i : ℕ) → i < 2 * (m + 1) → at L′ (8 * (m + 1) + i) ≡ at (targetsUpTo δ (256 * (m + 1))) i
   pub before : (i : ℕ) → i < 8 * (m + 1) → at L′ i ≡ at L i

@@ -9,9 +9,9 @@ ghost use Rattle.words.specs.Lists.{at};
 ghost use Rattle.words.specs.Words.{mirror};
 ghost use Rattle.oracle.specs.SuffixRule.{oracle};
 ghost use Rattle.chains.specs.Letters.{wordIn};
-ghost use Rattle.compact.specs.Compact.{setsRoom, compactRoom, numberOf, setsFrom, compactSets, compactTable};
+ghost use Rattle.compact.specs.Compact.{setsRoom, compactRoom, arrowNumber, setsFrom, compactSets, compactTable};
 ghost use Rattle.compact_fill.specs.Filling.{outTargets, letterInto, placeOf, FirstForm};
-ghost use Rattle.compact_fill.specs.Filling.{Marked, MarkedState, Started, PutState, PutAll};
+ghost use Rattle.compact_fill.specs.Filling.{WithBit, WithSet, WithStarts, WithTargets, AllTargets};
 
 // Zeros.
 fn clear_words(sets: &mut [u64])
@@ -59,7 +59,7 @@ fn letter_into(table: &[u16], m: usize, y: words::State) -> words::Letter
 // The arrow from x on c in the set of x.
 fn mark(sets: &mut [u64], x: words::State, c: words::Letter)
     requires { ⌜ 4 * x .0 + 4 ≤ length (now sets) ⌝ }
-    ensures { λ _. ⌜ Marked (now (sets .entry)) (numberOf (x .0) (c .0)) (now (sets .exit)) ⌝ }
+    ensures { λ _. ⌜ WithBit (now (sets .entry)) (arrowNumber (x .0) (c .0)) (now (sets .exit)) ⌝ }
 {
     let number = 256 * (x.0 as usize) + (c.0 as usize);
     let i = number / 64;
@@ -71,7 +71,7 @@ fn mark(sets: &mut [u64], x: words::State, c: words::Letter)
 // The set of x.
 fn mark_state(table: &[u16], m: usize, x: words::State, sets: &mut [u64])
     requires { ⌜ FirstForm (wordIn (now table) m) (now table) m × (x .0 < m) × (length (now sets) ≡ setsRoom m) ⌝ }
-    ensures { λ _. ⌜ MarkedState (oracle (wordIn (now (table .entry)) m)) (x .0) (now (sets .entry)) (now (sets .exit)) ⌝ }
+    ensures { λ _. ⌜ WithSet (oracle (wordIn (now (table .entry)) m)) (x .0) (now (sets .entry)) (now (sets .exit)) ⌝ }
 {
     let k = arrow_count(table, m, x);
     let mut j = 0;
@@ -100,7 +100,7 @@ fn mark_all(table: &[u16], m: usize, sets: &mut [u64])
 fn count_starts(sets: &[u64], table: &mut [u16], m: usize)
     requires { ⌜ FirstForm (wordIn (now table) m) (now table) m ⌝ }
     requires { ⌜ now sets ≡ setsFrom (oracle (wordIn (now table) m)) m ⌝ }
-    ensures { λ _. ⌜ Started (oracle (wordIn (now (table .entry)) m)) m (now (table .entry)) (now (table .exit)) ⌝ }
+    ensures { λ _. ⌜ WithStarts (oracle (wordIn (now (table .entry)) m)) m (now (table .entry)) (now (table .exit)) ⌝ }
 {
     let words = 4 * (m + 1);
     let mut before: usize = 0;
@@ -117,7 +117,7 @@ fn count_starts(sets: &[u64], table: &mut [u16], m: usize)
 fn place_for(sets: &[u64], table: &[u16], m: usize, x: words::State, y: words::State) -> usize
     requires { ⌜ FirstForm (wordIn (now table) m) (now table) m × (x .0 < m)
         × (oracle (wordIn (now table) m) (x .0) (letterInto (wordIn (now table) m) (y .0)) ≡ some (y .0)) ⌝ }
-    requires { ⌜ (now sets ≡ setsFrom (oracle (wordIn (now table) m)) m) × Started (oracle (wordIn (now table) m)) m (now table) (now table) ⌝ }
+    requires { ⌜ (now sets ≡ setsFrom (oracle (wordIn (now table) m)) m) × WithStarts (oracle (wordIn (now table) m)) m (now table) (now table) ⌝ }
     ensures { λ r. ⌜ (r < 2 * (m + 1)) × (r ≡ placeOf (wordIn (now (table .entry)) m) (x .0) (letterInto (wordIn (now (table .entry)) m) (y .0))) ⌝ }
 {
     let c = letter_into(table, m, y);
@@ -129,8 +129,8 @@ fn place_for(sets: &[u64], table: &[u16], m: usize, x: words::State, y: words::S
 // The targets of x.
 fn put_state(sets: &[u64], table: &mut [u16], m: usize, x: words::State)
     requires { ⌜ FirstForm (wordIn (now table) m) (now table) m × (x .0 < m) ⌝ }
-    requires { ⌜ (now sets ≡ setsFrom (oracle (wordIn (now table) m)) m) × Started (oracle (wordIn (now table) m)) m (now table) (now table) ⌝ }
-    ensures { λ _. ⌜ PutState (oracle (wordIn (now (table .entry)) m)) m (x .0) (now (table .entry)) (now (table .exit)) ⌝ }
+    requires { ⌜ (now sets ≡ setsFrom (oracle (wordIn (now table) m)) m) × WithStarts (oracle (wordIn (now table) m)) m (now table) (now table) ⌝ }
+    ensures { λ _. ⌜ WithTargets (oracle (wordIn (now (table .entry)) m)) m (x .0) (now (table .entry)) (now (table .exit)) ⌝ }
 {
     let k = arrow_count(table, m, x);
     let mut j = 0;
@@ -145,8 +145,8 @@ fn put_state(sets: &[u64], table: &mut [u16], m: usize, x: words::State)
 // All targets, in rows that are zero.
 fn put_all(sets: &[u64], table: &mut [u16], m: usize)
     requires { ⌜ FirstForm (wordIn (now table) m) (now table) m × ((i : ℕ) → 8 * (m + 1) ≤ i → at (now table) i ≡ 0) ⌝ }
-    requires { ⌜ (now sets ≡ setsFrom (oracle (wordIn (now table) m)) m) × Started (oracle (wordIn (now table) m)) m (now table) (now table) ⌝ }
-    ensures { λ _. ⌜ PutAll (oracle (wordIn (now (table .entry)) m)) m (now (table .entry)) (now (table .exit)) ⌝ }
+    requires { ⌜ (now sets ≡ setsFrom (oracle (wordIn (now table) m)) m) × WithStarts (oracle (wordIn (now table) m)) m (now table) (now table) ⌝ }
+    ensures { λ _. ⌜ AllTargets (oracle (wordIn (now (table .entry)) m)) m (now (table .entry)) (now (table .exit)) ⌝ }
 {
     let mut x = 0;
     while x < m {

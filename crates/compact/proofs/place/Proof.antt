@@ -5,7 +5,7 @@ use Prim.Native.Nat.{ℕ, _+_, _*_, _/_, _<_}
 use native.Mathlib.Omega.{arith}
 use borrow.Author.Needs.{needs}
 use Rattle.words.specs.Lists.{at}
-use Rattle.compact.specs.Compact.{numberOf}
+use Rattle.compact.specs.Compact.{arrowNumber}
 use Rattle.compact.proofs.Looking.{look-place, look-inside}
 use Rattle.compact.proofs.place.Statement.{statement}
 use Rattle.compact.proofs.place.Tie as tie
@@ -13,7 +13,7 @@ use Rattle.compact.proofs.place.Tie as tie
 cast-start : tie.Need-cast-start
 cast-start c =
     let at-start = c .before .before .before .before .before .before .before in
-    let number = numberOf (at-start .args .x .0) (at-start .args .c .0) in
+    let number = arrowNumber (at-start .args .x .0) (at-start .args .c .0) in
     omega (arith, c .shared-slice-known4 .given (4 * (at-start .args .m + 1) + number / 64))
 
 add-result : tie.Need-add-result

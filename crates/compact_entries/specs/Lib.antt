@@ -1,0 +1,3 @@
+pub mod CompactBuild
+pub mod CompactSearch
+pub mod Cases

@@ -1,0 +1,3 @@
+pub mod Entries
+pub mod Laying
+pub mod Starting
