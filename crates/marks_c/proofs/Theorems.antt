@@ -18,6 +18,10 @@ use Rattle.failure_entries.specs.FailureBuild.{failureBuildSays}
 use Rattle.failure_entries.specs.FailureSearch.{failureSearchSays}
 use Rattle.failure_entries.proofs.BuildSays.{failure-build-numbers}
 use Rattle.failure_entries.proofs.SearchSays.{failure-search-numbers}
+use Rattle.compact_entries.specs.CompactBuild.{compactBuildSays}
+use Rattle.compact_entries.specs.CompactSearch.{compactSearchSays}
+use Rattle.compact_entries.proofs.BuildSays.{compact-build-numbers}
+use Rattle.compact_entries.proofs.SearchSays.{compact-search-numbers}
 use Rattle.salvage.specs.Salvage.{salvageSays}
 use Rattle.salvage.proofs.SalvageSays.{salvage-numbers}
 use Rattle.editions.specs.Editions.{plain, checked}
@@ -33,6 +37,7 @@ use Rattle.searcher_bytes.proofs.OpenBytesSays.{open-numbers}
 use Rattle.searcher_bytes.proofs.TakeBytesSays.{take-numbers}
 use Rattle.marks_c.specs.Streams.{openCallSays, takeCallSays}
 use Rattle.marks_c.specs.FailureCalls.{failureBuildCallSays, failureSearchCallSays}
+use Rattle.marks_c.specs.CompactCalls.{compactBuildCallSays, compactSearchCallSays}
 use Rattle.marks_c.specs.SalvageCalls.{salvageCallSays}
 use Rattle.marks_c.specs.Calls.{resultOf, offsetGiven, saveCheckedCallSays}
 use Rattle.marks_c.specs.Calls.{buildCallSays, saveCallSays, loadCallSays, searchCallSays, turboCallSays, searchFileCallSays}
@@ -91,6 +96,16 @@ pub failure-search-done : (word text : Word) (T : List ℕ) (F : List Place) (c 
     → (failureSearchCallSays word text T F c l f .result ≡ 0) ↔ Succeeds (failureSearchSays word text T F .answer)
 unfolding oneOf
 failure-search-done word text T F c l f = done-exactly (1 ∷ 2 ∷ 4 ∷ 3 ∷ []) [] refl refl _ (failure-search-numbers word text T F)
+
+pub compact-build-done : (word : Word) (Z T : List ℕ) (m : ℕ)
+    → (compactBuildCallSays word Z T m .result ≡ 0) ↔ Succeeds (compactBuildSays word Z T .answer)
+unfolding oneOf
+compact-build-done word Z T m = done-exactly (1 ∷ 2 ∷ 3 ∷ []) [] refl refl _ (compact-build-numbers word Z T)
+
+pub compact-search-done : (word text : Word) (Z T : List ℕ) (F : List Place) (c l : ℕ)
+    → (compactSearchCallSays word text Z T F c l .result ≡ 0) ↔ Succeeds (compactSearchSays word text Z T F .answer)
+unfolding oneOf
+compact-search-done word text Z T F c l = done-exactly (1 ∷ 2 ∷ 4 ∷ 3 ∷ []) [] refl refl _ (compact-search-numbers word text Z T F)
 
 pub salvage-done : (text : Word) (T : List ℕ) (S : List Place) (K : List ℕ) (c : ℕ)
     → (salvageCallSays text T S K c .result ≡ 0) ↔ Succeeds (salvageSays text T S K .answer)

@@ -10,6 +10,7 @@ ghost use Rattle.marks_c.specs.Calls.{searchFileCall, searchFileCallSays
 ghost use Rattle.failure_entries.specs.FailureSearch.{failureAnswer};
 ghost use Rattle.marks_c.specs.FailureCalls.{failureBuildCallSays, failureCountGiven, failureLettersGiven, failuresGiven};
 ghost use Rattle.marks_c.specs.FailureCalls.{failureSearchCall, failureSearchCallSays};
+ghost use Rattle.marks_c.specs.CompactCalls.{compactBuildCall, compactBuildCallSays, compactSearchCall, compactSearchCallSays};
 ghost use Rattle.marks_c.specs.SalvageCalls.{salvageCall, salvageCallSays};
 ghost use Rattle.marks_c.specs.Streams.{openCall, openCallSays, takeCall, takeCallSays};
 
@@ -234,6 +235,39 @@ pub extern "C" fn marks_failure_search(
 {
     let searched = failure_entries::failure_search(word, text, tables, finds);
     tell_failures(searched, count, letters, failures)
+}
+
+#[no_mangle]
+pub extern "C" fn marks_compact_build(
+    word: &[u8],
+    sets: &mut [u64],
+    targets: &mut [u16],
+    m: &mut u64,
+) -> u32
+    ensures { λ r. ⌜ compactBuildCall r (now (sets .exit)) (now (targets .exit)) (now (m .exit))
+        ≡ compactBuildCallSays (now (word .entry)) (now (sets .entry)) (now (targets .entry)) (now (m .entry)) ⌝ }
+{
+    let built = compact_entries::compact_build(word, sets, targets);
+    tell_size(built, m)
+}
+
+#[no_mangle]
+pub extern "C" fn marks_compact_search(
+    word: &[u8],
+    text: &[u8],
+    sets: &mut [u64],
+    targets: &mut [u16],
+    finds: &mut [u32],
+    count: &mut u64,
+    letters: &mut u64,
+) -> u32
+    ensures { λ r. ⌜ compactSearchCall r (now (sets .exit)) (now (targets .exit)) (now (finds .exit)) (now (count .exit))
+        (now (letters .exit))
+        ≡ compactSearchCallSays (now (word .entry)) (now (text .entry)) (now (sets .entry)) (now (targets .entry))
+        (now (finds .entry)) (now (count .entry)) (now (letters .entry)) ⌝ }
+{
+    let searched = compact_entries::compact_search(word, text, sets, targets, finds);
+    tell_tally(searched, count, letters)
 }
 
 #[no_mangle]
