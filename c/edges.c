@@ -1,8 +1,9 @@
 /* What only a caller in C can hand over, a null pointer with length 0 for each buffer; turbo and the failure oracle at their edges; one
  * letter, which has no file; files of edition 2, whose check is cut, wrong or not their last bytes; rides that are whole, that are cut, and
- * whose headers are; and the deepest calls there are, every entry on eight threads at once. Each thread has a stack of 64 KiB, or the least
- * that the system gives where that is more, above a page that nobody may touch. It is painted before, and less than 64 KiB of it may be
- * touched, by the calls and by what a thread needs of its own. */
+ * whose headers are; compact rows at their edges, each room by itself; and the deepest calls there are, every entry on eight threads at
+ * once. Each thread has a stack of 64 KiB, or the least that the system gives where that is more, above a page that nobody may touch. It is
+ * painted before, and less than 64 KiB of it may be touched, by the calls and by what a thread needs of its own. Compact rows are for
+ * little stack: each of their calls, alone on such a thread, may touch less than 16 KiB more than a thread without a call does. */
 #define _DEFAULT_SOURCE
 #include <inttypes.h>
 #include <pthread.h>
@@ -13,11 +14,12 @@
 
 #include "marks.h"
 
-enum { THREADS = 8, MOST = 64 * 1024, GUARD = MOST, PAINT = 0xa5, TEXT = 65536, RIDES = 3 };
+enum { THREADS = 8, MOST = 64 * 1024, LITTLE = 16 * 1024, GUARD = MOST, PAINT = 0xa5, TEXT = 65536, RIDES = 3 };
 
 static uint16_t tables[MARKS_FAILURE_TABLES(MARKS_LEAST_SAVED)], all_tables[MARKS_MOST_FAILURE_TABLES];
 static uint8_t room[MARKS_LEAST_SAVED], out[8], searcher[MARKS_SEARCHER], long_text[MARKS_LONGEST_TEXT + 1];
-static uint16_t ride_tables[MARKS_RIDE_TABLES + 1];
+static uint16_t ride_tables[MARKS_RIDE_TABLES + 1], targets[MARKS_COMPACT_TARGETS(2) + 1], all_targets[MARKS_MOST_COMPACT_TARGETS];
+static uint64_t sets[MARKS_COMPACT_SETS(2) + 1], all_sets[MARKS_MOST_COMPACT_SETS];
 static uint8_t kinds[RIDES];
 static uint32_t finds[2], starts[RIDES];
 static uint64_t count, letters, failures, offset, told;
@@ -458,6 +460,164 @@ static void salvage_edges(void)
     longest_salvage();
 }
 
+/* the compact rows of ba and nothing behind them, or nothing at all */
+static const char *rooms_left(void)
+{
+    uint64_t built_sets[MARKS_COMPACT_SETS(2)], m;
+    uint16_t built_targets[MARKS_COMPACT_TARGETS(2)];
+    if (all_are(sets, sizeof sets, PAINT) && all_are(targets, sizeof targets, PAINT))
+        return "as they were";
+    if (marks_compact_build((const uint8_t *)"ba", 2, built_sets, 12, built_targets, 30, &m) == MARKS_OK &&
+        memcmp(sets, built_sets, sizeof built_sets) == 0 && memcmp(targets, built_targets, sizeof built_targets) == 0 &&
+        all_are(sets + 12, sizeof *sets, PAINT) && all_are(targets + 30, sizeof *targets, PAINT))
+        return "those of ba";
+    return "others";
+}
+
+static void paint_rooms(void)
+{
+    memset(sets, PAINT, sizeof sets);
+    memset(targets, PAINT, sizeof targets);
+}
+
+/* null pointers are handed over for rooms of which nothing is lent */
+static void compact_build_in(const char *what, const uint8_t *word, size_t m, size_t sets_lent, size_t targets_lent)
+{
+    told = nowhere;
+    paint_rooms();
+    printf("compact build, ");
+    print_number(what, marks_compact_build(word, m, sets_lent > 0 ? sets : NULL, sets_lent, targets_lent > 0 ? targets : NULL, targets_lent, &told));
+    if (told != nowhere)
+        printf(", %" PRIu64 " letters", told);
+    printf("; rooms: %s\n", rooms_left());
+}
+
+/* the same of a search, with a list of two entries */
+static void compact_search_in(const char *what, const uint8_t *word, size_t m, const uint8_t *text, size_t length, size_t sets_lent, size_t targets_lent)
+{
+    count = letters = nowhere;
+    memset(finds, PAINT, sizeof finds);
+    paint_rooms();
+    printf("compact search, ");
+    print_number(what, marks_compact_search(word, m, text, length, sets_lent > 0 ? sets : NULL, sets_lent, targets_lent > 0 ? targets : NULL, targets_lent,
+                                            finds, 2, &count, &letters));
+    if (count != nowhere || letters != nowhere)
+        printf(", %" PRIu64 " places, %" PRIu64 " letters", count, letters);
+    printf("; list: %s; rooms: %s\n", all_are(finds, sizeof finds, PAINT) ? "as it was" : "written", rooms_left());
+}
+
+/* each refusal where the later ones would be given too; each room too short by itself */
+static void compact_refusals(void)
+{
+    const uint8_t *ba = (const uint8_t *)"ba", *ab = (const uint8_t *)"ab", *zeros = long_text;
+    const size_t longer = MARKS_LONGEST_WORD + 1, too_long = sizeof long_text, most = MARKS_LONGEST_TEXT;
+    compact_build_in("no word and no rooms", NULL, 0, 0, 0);
+    compact_build_in("too long a word and no rooms", zeros, longer, 0, 0);
+    compact_build_in("no rooms", ba, 2, 0, 0);
+    compact_build_in("no sets", ba, 2, 0, 30);
+    compact_build_in("no targets", ba, 2, 12, 0);
+    compact_build_in("a word of sets too few", ba, 2, 11, 30);
+    compact_build_in("an entry of targets too few", ba, 2, 12, 29);
+    compact_build_in("targets as long as the other table", ba, 2, 12, MARKS_TABLES(2));
+    compact_build_in("rooms just enough", ba, 2, 12, 30);
+    compact_build_in("rooms longer than needed", ba, 2, 13, 31);
+    compact_search_in("no word, too long a text, no rooms", NULL, 0, zeros, too_long, 0, 0);
+    compact_search_in("too long a word and a text, no rooms", zeros, longer, zeros, too_long, 0, 0);
+    compact_search_in("too long a text, no rooms", ab, 2, zeros, too_long, 0, 0);
+    compact_search_in("too long a text", ab, 2, zeros, too_long, 12, 30);
+    compact_search_in("the longest text, no sets", ab, 2, zeros, most, 0, 30);
+    compact_search_in("the longest text, no targets", ab, 2, zeros, most, 12, 0);
+    compact_search_in("a word of sets too few", ab, 2, ab, 2, 11, 30);
+    compact_search_in("an entry of targets too few", ab, 2, ab, 2, 12, 29);
+    compact_search_in("no text", ab, 2, NULL, 0, 12, 30);
+    compact_search_in("a text shorter than the word", ab, 2, ab, 1, 12, 30);
+    compact_search_in("rooms just enough", ab, 2, ab, 2, 12, 30);
+    compact_search_in("rooms longer than needed", ab, 2, ab, 2, 13, 31);
+}
+
+static size_t ones(uint64_t word)
+{
+    size_t found = 0;
+    for (; word != 0; word &= word - 1)
+        found++;
+    return found;
+}
+
+/* the arrows of a word by its compact rows: from each state on each letter of its set, to the target whose place is found by counting */
+static void compact_arrows(const char *word)
+{
+    size_t m = strlen(word), n = m + 1;
+    printf("compact rows of %s: %" PRIu32, word,
+           marks_compact_build((const uint8_t *)word, m, all_sets, MARKS_COMPACT_SETS(m), all_targets, MARKS_COMPACT_TARGETS(m), &told));
+    printf(", %" PRIu64 " letters", told);
+    for (size_t x = 0; x <= m; x++)
+        for (int c = 0, below = 0; c < 256; c++)
+            if (all_sets[4 * x + c / 64] >> c % 64 & 1)
+                printf(", %zu-%c-%d", x, c, all_targets[8 * n + all_targets[4 * n + 4 * x] + below++]);
+    printf("\n");
+}
+
+/* a word in a text; a list of two entries is lent, or none of it */
+static void compact_in(const char *word, const char *text, size_t list)
+{
+    const uint8_t *w = (const uint8_t *)word, *t = (const uint8_t *)text;
+    const size_t m = strlen(word);
+    uint32_t said = marks_compact_search(w, m, t, strlen(text), all_sets, MARKS_COMPACT_SETS(m), all_targets, MARKS_COMPACT_TARGETS(m), list > 0 ? finds : NULL,
+                                         list, &count, &letters);
+    printf("compact search, %s in %s, list of %zu: %" PRIu32 ", %" PRIu64 " letters, %" PRIu64 " places:", word, text, list, said, letters, count);
+    for (size_t i = 0; i < count && i < list; i++)
+        printf(" %" PRIu32, finds[i]);
+    printf("\n");
+}
+
+/* the longest word, zeros and a one, which has as many arrows as a word can have: each room too short by itself, both just enough, and its arrows counted in
+ * the sets and in the targets */
+static void longest_compact_build(void)
+{
+    static uint8_t word[MARKS_LONGEST_WORD];
+    const size_t m = MARKS_LONGEST_WORD, n = m + 1, lent = MARKS_MOST_COMPACT_SETS, entries = MARKS_MOST_COMPACT_TARGETS;
+    size_t arrows = 0;
+    word[m - 1] = 1;
+    print_size("compact build, the longest word, a word of sets too few",
+               marks_compact_build(word, m, all_sets, lent - 1, all_targets, entries, &told), "letters");
+    print_size("compact build, the longest word, an entry of targets too few",
+               marks_compact_build(word, m, all_sets, lent, all_targets, entries - 1, &told), "letters");
+    print_size("compact build, the longest word", marks_compact_build(word, m, all_sets, lent, all_targets, entries, &told), "letters");
+    for (size_t i = 0; i < lent; i++)
+        arrows += ones(all_sets[i]);
+    printf("arrows: %zu in the sets, %d before their last word; the last leads to %d, and behind it is %d\n", arrows, all_targets[8 * n - 1],
+           all_targets[8 * n + arrows - 1], all_targets[8 * n + arrows]);
+}
+
+/* Its mirror: in the longest text without its letters, where each window fails at its last one; and in the longest text of nothing but itself. */
+static void longest_compact_search(void)
+{
+    static uint8_t word[MARKS_LONGEST_WORD] = {1};
+    const size_t m = MARKS_LONGEST_WORD, lent = MARKS_MOST_COMPACT_SETS, entries = MARKS_MOST_COMPACT_TARGETS, most = MARKS_LONGEST_TEXT;
+    memset(long_text, 2, most);
+    print_said("compact search, the longest word in the longest text without it",
+               marks_compact_search(word, m, long_text, most, all_sets, lent, all_targets, entries, finds, 2, &count, &letters));
+    for (size_t at = 0; at < most; at += m)
+        memcpy(long_text + at, word, m);
+    print_said("compact search, the longest word in the longest text of nothing else",
+               marks_compact_search(word, m, long_text, most, all_sets, lent, all_targets, entries, finds, 2, &count, &letters));
+    printf("the second place: %" PRIu32 "\n", finds[1]);
+    memset(long_text, 0, most);
+}
+
+static void compact_edges(void)
+{
+    compact_refusals();
+    compact_arrows("a");
+    compact_arrows("abcacdace");
+    compact_in("aba", "ababa", 2);
+    compact_in("aba", "ababa", 1);
+    compact_in("aba", "ababa", 0);
+    compact_in("ab", "abxa", 2);
+    longest_compact_build();
+    longest_compact_search();
+}
+
 static void null_buffers_of_streams(void)
 {
     const uint8_t *a = (const uint8_t *)"a", *aa = (const uint8_t *)"aa";
@@ -511,11 +671,11 @@ static void turbo_edges(void)
 struct work {
     uint8_t word[MARKS_LONGEST_WORD], mirror[MARKS_LONGEST_WORD], text[TEXT], room[MARKS_LONGEST_WORD];
     uint8_t file[MARKS_MOST_FILE], checked[MARKS_MOST_FILE];
-    uint16_t tables[MARKS_MOST_FAILURE_TABLES];
+    uint16_t tables[MARKS_MOST_FAILURE_TABLES], targets[MARKS_MOST_COMPACT_TARGETS];
     uint8_t searcher[MARKS_SEARCHER], ride_kinds[2];
-    uint32_t finds[2], turbo_finds[2], failure_finds[2], file_finds[2], checked_finds[2], stream_finds[2], rides[2], said;
-    uint64_t m, length, checked_length, count, turbo_count, failure_count, file_count, checked_count, before_cut, stream_count;
-    uint64_t letters, failures, offset, ride_count, in_zeros[6];
+    uint32_t finds[2], turbo_finds[2], failure_finds[2], compact_finds[2], file_finds[2], checked_finds[2], stream_finds[2], rides[2], said;
+    uint64_t m, length, checked_length, count, turbo_count, failure_count, compact_count, file_count, checked_count, before_cut, stream_count;
+    uint64_t letters, failures, offset, ride_count, in_zeros[7], sets[MARKS_MOST_COMPACT_SETS];
     size_t cut;
     uint8_t *stack;
 };
@@ -537,6 +697,34 @@ static size_t touched(const uint8_t *stack)
     return size - at;
 }
 
+/* the calls whose stack is counted alone */
+static void *no_call(void *mine)
+{
+    return mine;
+}
+
+static void *search_alone(void *mine)
+{
+    struct work *w = mine;
+    w->said += marks_search(w->mirror, MARKS_LONGEST_WORD, long_text, MARKS_LONGEST_TEXT, w->tables, MARKS_MOST_TABLES, NULL, 0, &w->in_zeros[0], &w->letters);
+    return NULL;
+}
+
+static void *compact_build_alone(void *mine)
+{
+    struct work *w = mine;
+    w->said += marks_compact_build(w->word, MARKS_LONGEST_WORD, w->sets, MARKS_MOST_COMPACT_SETS, w->targets, MARKS_MOST_COMPACT_TARGETS, &w->m);
+    return NULL;
+}
+
+static void *compact_search_alone(void *mine)
+{
+    struct work *w = mine;
+    w->said += marks_compact_search(w->mirror, MARKS_LONGEST_WORD, long_text, MARKS_LONGEST_TEXT, w->sets, MARKS_MOST_COMPACT_SETS, w->targets,
+                                    MARKS_MOST_COMPACT_TARGETS, NULL, 0, &w->in_zeros[6], &w->letters);
+    return NULL;
+}
+
 static void *deepest(void *mine)
 {
     struct work *w = mine;
@@ -556,7 +744,11 @@ static void *deepest(void *mine)
     w->said += marks_failure_build(w->word, MARKS_LONGEST_WORD, w->tables, failure_tables, &w->m);
     w->said += marks_failure_search(w->mirror, MARKS_LONGEST_WORD, w->text, TEXT / 4, w->tables, failure_tables, w->failure_finds, 2, &w->failure_count,
                                     &w->letters, &w->failures);
-    w->said += marks_search(w->mirror, MARKS_LONGEST_WORD, long_text, MARKS_LONGEST_TEXT, w->tables, MARKS_MOST_TABLES, NULL, 0, &w->in_zeros[0], &w->letters);
+    w->said += marks_compact_search(w->mirror, MARKS_LONGEST_WORD, w->text, TEXT / 4, w->sets, MARKS_MOST_COMPACT_SETS, w->targets,
+                                    MARKS_MOST_COMPACT_TARGETS, w->compact_finds, 2, &w->compact_count, &w->letters);
+    search_alone(w);
+    compact_build_alone(w);
+    compact_search_alone(w);
     w->said += marks_turbo(w->mirror, MARKS_LONGEST_WORD, long_text, MARKS_LONGEST_TEXT, w->tables, MARKS_MOST_TABLES, NULL, 0, &w->in_zeros[1], &w->letters);
     w->said += marks_search_file(w->file, w->length, long_text, MARKS_LONGEST_TEXT, w->room, MARKS_LONGEST_WORD, w->tables, MARKS_MOST_TABLES, NULL, 0,
                                  &w->in_zeros[2], &w->letters, &w->offset);
@@ -572,7 +764,7 @@ static void *deepest(void *mine)
     return NULL;
 }
 
-static int start(pthread_t *thread, struct work *w)
+static int start(pthread_t *thread, struct work *w, void *(*calls)(void *))
 {
     pthread_attr_t painted;
     uint8_t *guard = mmap(NULL, GUARD + stack_size(), PROT_READ | PROT_WRITE, MAP_PRIVATE | MAP_ANONYMOUS, -1, 0);
@@ -580,7 +772,7 @@ static int start(pthread_t *thread, struct work *w)
         return 1;
     w->stack = guard + GUARD;
     memset(w->stack, PAINT, stack_size());
-    return pthread_attr_setstack(&painted, w->stack, stack_size()) != 0 || pthread_create(thread, &painted, deepest, w) != 0;
+    return pthread_attr_setstack(&painted, w->stack, stack_size()) != 0 || pthread_create(thread, &painted, calls, w) != 0;
 }
 
 static void print_work(int i, const struct work *w)
@@ -592,10 +784,30 @@ static void print_work(int i, const struct work *w)
            w->checked_finds[0]);
     printf(", by turbo %" PRIu64 " at %" PRIu32, w->turbo_count, w->turbo_finds[0]);
     printf(", by failures %" PRIu64 " at %" PRIu32, w->failure_count, w->failure_finds[0]);
+    printf(", by compact rows %" PRIu64 " at %" PRIu32, w->compact_count, w->compact_finds[0]);
     printf(", in pieces %" PRIu64 " and %" PRIu64 " at %" PRIu32, w->before_cut, w->stream_count, w->stream_finds[0]);
     printf(", %" PRIu64 " ride at %" PRIu32 " of kind %d", w->ride_count, w->rides[0], w->ride_kinds[0]);
     printf(", in zeros %" PRIu64 ", %" PRIu64 ", %" PRIu64 ", %" PRIu64, w->in_zeros[0], w->in_zeros[1], w->in_zeros[2], w->in_zeros[3]);
-    printf(", %" PRIu64 " and %" PRIu64 "\n", w->in_zeros[4], w->in_zeros[5]);
+    printf(", %" PRIu64 ", %" PRIu64 " and %" PRIu64 "\n", w->in_zeros[4], w->in_zeros[5], w->in_zeros[6]);
+}
+
+/* how many bytes of stack a thread touches that makes these calls and no others; more than it has where it cannot be started */
+static size_t touched_by(void *(*calls)(void *))
+{
+    pthread_t thread;
+    if (start(&thread, &works[0], calls) != 0 || pthread_join(thread, NULL) != 0)
+        return 2 * stack_size();
+    return touched(works[0].stack);
+}
+
+/* whether the calls of compact rows touch little, beyond what a thread needs of its own */
+static int compact_touches_little(void)
+{
+    const size_t idle = touched_by(no_call), search = touched_by(search_alone);
+    const size_t compact = touched_by(compact_search_alone), build = touched_by(compact_build_alone);
+    fprintf(stderr, "edges: a thread that calls nothing touched %zu bytes of stack, one that calls marks_search %zu, marks_compact_search %zu,"
+                    " marks_compact_build %zu\n", idle, search, compact, build);
+    return idle < LITTLE && compact < idle + LITTLE && build < idle + LITTLE;
 }
 
 int main(void)
@@ -609,6 +821,7 @@ int main(void)
     one_letter();
     checked_edges();
     salvage_edges();
+    compact_edges();
     for (int i = 0; i < THREADS; i++) {
         memset(works[i].word, 'a', MARKS_LONGEST_WORD - 1);
         works[i].word[MARKS_LONGEST_WORD - 1] = 'b';
@@ -618,7 +831,7 @@ int main(void)
         works[i].text[1000 * i] = 'b';
         memcpy(works[i].text + TEXT / 2 + 1000 * i, "\14---\0\0\0\0.FIT", 12);
         works[i].cut = 1000 * (size_t)i + MARKS_LONGEST_STREAMED / 2;
-        if (start(&threads[i], &works[i]) != 0)
+        if (start(&threads[i], &works[i], deepest) != 0)
             return 1;
     }
     for (int i = 0; i < THREADS; i++) {
@@ -628,5 +841,5 @@ int main(void)
         most = touched(works[i].stack) > most ? touched(works[i].stack) : most;
     }
     fprintf(stderr, "edges: a thread touched at most %zu of its %zu bytes of stack\n", most, stack_size());
-    return most >= MOST;
+    return most >= MOST || !compact_touches_little();
 }

@@ -9,6 +9,9 @@
  *
  * Which search: marks_turbo where strangers choose the text or the mark, as it reads no more than two letters for each letter of the text. marks_search
  * where you know both, as it is quicker on most texts, where letters are many up to five and a half times, but may read m letters for each of a hostile one.
+ * marks_compact_search where the stack is small, as on a board with little memory: the same places and letters as marks_search, but in a long text some 3 KiB
+ * of stack for what it prepares, in the place of some 42 KiB. Its rooms are larger, 52(m+1) bytes in the place of 12(m+1), so in a long text it takes less
+ * memory in all for a mark of up to some 800 letters. It may read m letters for each of a hostile text, too.
  * marks_failure_search is there for its fewer arrows and for comparing: never for strangers, as it may read m letters for each of a hostile text, too, and
  * its table alone takes up to m*m/2 letters to make, for a word that repeats itself.
  *
@@ -18,8 +21,8 @@
  * docs/PROMISES.md says what is proved of them.
  *
  * There is no state and no heap. Calls on buffers of their own may run at the same time from many threads; what is only read may be shared. A call takes
- * less than 64 KiB of stack, and the most that was seen is 53 KiB, of a search in a long text. The archive needs memset and memcpy of the C library and nothing
- * else.
+ * less than 64 KiB of stack, and the most that was seen is 53 KiB, of a search in a long text; those of compact rows take less than 16 KiB. The archive needs
+ * memset and memcpy of the C library and nothing else.
  *
  * Wrong use, which no entry can see and of which nothing is promised:
  *   - a pointer and a length that do not describe memory of the caller's, so many elements long, which nobody else changes during the call
@@ -36,9 +39,9 @@
 
 /* The version of the library: as numbers, and as text. */
 #define MARKS_VERSION_MAJOR 0
-#define MARKS_VERSION_MINOR 5
+#define MARKS_VERSION_MINOR 6
 #define MARKS_VERSION_PATCH 0
-#define MARKS_VERSION "0.5.0"
+#define MARKS_VERSION "0.6.0"
 
 /* What an entry returns: a number, and when exactly it is given. m is the number of letters of the word, for a file the one that it declares. */
 /* begin refusals: as tools/refusals writes them */
@@ -46,7 +49,7 @@ enum {
     MARKS_OK = 0,            /* done */
     MARKS_EMPTY_WORD = 1,    /* the word is empty */
     MARKS_LONG_WORD = 2,     /* the word is longer than 4,096 bytes, or for a stream than 64 */
-    MARKS_SHORT_ROOM = 3,    /* too little room lent: m letters need 6(m+1) table entries, a failure oracle 10(m+1), a file m bytes too, a stream 134 */
+    MARKS_SHORT_ROOM = 3,    /* too little room: 6(m+1) entries, failure oracle 10(m+1), compact rows that and 4(m+1) words, file m bytes, stream 134 */
     MARKS_LONG_TEXT = 4,     /* the text is longer than 16,777,216 bytes, or the stream would be with this piece */
     MARKS_CUT_FILE = 5,      /* the file ends before or inside a number, or before the last of its letters or of its check */
     MARKS_BAD_NUMBER = 6,    /* a number in the file is misspelled: the last of its several groups is zero, or its fifth byte is above 15 */
@@ -68,7 +71,7 @@ static inline const char *marks_meaning(uint32_t said)
     case MARKS_OK: return "done";
     case MARKS_EMPTY_WORD: return "the word is empty";
     case MARKS_LONG_WORD: return "the word is longer than 4,096 bytes, or for a stream than 64";
-    case MARKS_SHORT_ROOM: return "too little room lent: m letters need 6(m+1) table entries, a failure oracle 10(m+1), a file m bytes too, a stream 134";
+    case MARKS_SHORT_ROOM: return "too little room: 6(m+1) entries, failure oracle 10(m+1), compact rows that and 4(m+1) words, file m bytes, stream 134";
     case MARKS_LONG_TEXT: return "the text is longer than 16,777,216 bytes, or the stream would be with this piece";
     case MARKS_CUT_FILE: return "the file ends before or inside a number, or before the last of its letters or of its check";
     case MARKS_BAD_NUMBER: return "a number in the file is misspelled: the last of its several groups is zero, or its fifth byte is above 15";
@@ -94,6 +97,10 @@ static inline const char *marks_meaning(uint32_t said)
 #define MARKS_MOST_TABLES MARKS_TABLES(MARKS_LONGEST_WORD)                  /* table entries for every word */
 #define MARKS_FAILURE_TABLES(m) (10 * ((m) + 1))                            /* table entries for the failure oracle of a word of m letters */
 #define MARKS_MOST_FAILURE_TABLES MARKS_FAILURE_TABLES(MARKS_LONGEST_WORD)  /* and for that of every word */
+#define MARKS_COMPACT_SETS(m) (4 * ((m) + 1))                               /* elements of sets for the compact rows of a word of m letters */
+#define MARKS_MOST_COMPACT_SETS MARKS_COMPACT_SETS(MARKS_LONGEST_WORD)      /* and for those of every word */
+#define MARKS_COMPACT_TARGETS(m) (10 * ((m) + 1))                           /* elements of targets for the same */
+#define MARKS_MOST_COMPACT_TARGETS MARKS_COMPACT_TARGETS(MARKS_LONGEST_WORD)
 #define MARKS_MOST_FILE (5 * MARKS_LONGEST_WORD + 3)                        /* output for the file of every word, in either edition */
 #define MARKS_LONGEST_STREAMED 64                                           /* bytes of a word that a stream is opened for */
 #define MARKS_SEARCHER 134                                                  /* bytes of a searcher */
@@ -171,6 +178,21 @@ MARKS_CHECKED uint32_t marks_failure_build(const uint8_t *word, size_t word_len,
  * Refusals: 1, 2, 4, 3 (fewer than MARKS_FAILURE_TABLES(m) entries). They change nothing. */
 MARKS_CHECKED uint32_t marks_failure_search(const uint8_t *word, size_t word_len, const uint8_t *text, size_t text_len, uint16_t *tables, size_t tables_len,
                                             uint32_t *finds, size_t finds_len, uint64_t *count, uint64_t *letters, uint64_t *failures);
+
+/* The word's index as compact rows, a second form of what marks_build makes, with the same arrows. The first MARKS_COMPACT_SETS(m) elements of sets have for
+ * each state a set of 256 bits, the letters on which an arrow leaves it: bit d of sets[4x+k] is 1 exactly if one on the letter 64k+d leaves state x. The first
+ * MARKS_COMPACT_TARGETS(m) elements of targets have where the arrows lead, in one row that begins at 8(m+1): the one from state x on a letter of its set leads
+ * to targets[8(m+1) + targets[4(m+1)+4x] + b], where b letters of that set are below it. docs/TABLE.md has the use of each element. The answer is m.
+ * Refusals: 1, 2, 3 (sets below MARKS_COMPACT_SETS(m) or targets below MARKS_COMPACT_TARGETS(m)). They change nothing. */
+MARKS_CHECKED uint32_t marks_compact_build(const uint8_t *word, size_t word_len, uint64_t *sets, size_t sets_len, uint16_t *targets, size_t targets_len,
+                                           uint64_t *m);
+
+/* As marks_search, with compact rows: the same places, the same list and the same answers. The first MARKS_COMPACT_SETS(m) elements of sets and the first
+ * MARKS_COMPACT_TARGETS(m) of targets get the compact rows of the word's mirror.
+ * Refusals: 1, 2, 4, 3 (sets below MARKS_COMPACT_SETS(m) or targets below MARKS_COMPACT_TARGETS(m)). They change nothing. */
+MARKS_CHECKED uint32_t marks_compact_search(const uint8_t *word, size_t word_len, const uint8_t *text, size_t text_len, uint64_t *sets, size_t sets_len,
+                                            uint16_t *targets, size_t targets_len, uint32_t *finds, size_t finds_len, uint64_t *count,
+                                            uint64_t *letters);
 
 /* The rides in a text by their FIT headers, also where files were cut or stand one behind the other. A header is 12 or 14 bytes: its first byte is that
  * size, bytes 4 to 7 say how many bytes of data follow it, low byte first, and bytes 8 to 11 are `.FIT`; behind the data is a check of two bytes. Each

@@ -2,7 +2,8 @@
    offset, every byte of every lent buffer, and the guard zones before and behind each. The first difference is printed with its input and
    ends the run with status 1, and so does a refusal that an entry can give and that no case brought about, for files of each edition by
    itself, and so does a run where no failure oracle had a symbol arrow beside the spine, none two at one state, where every window that was
-   read whole was a find, or where a way in which a file of edition 2 can end was not met, or something that .FIT in a text can be of.
+   read whole was a find, or where a way in which a file of edition 2 can end was not met, something that .FIT in a text can be of, or
+   something that compact rows can show.
 
    compare [--seed N] [--seconds N] [--long]: the cases are the same for the same seed. --seconds goes on with mixed cases until so
    many seconds have passed; --long adds the costly ones.
@@ -52,7 +53,17 @@
      slip 354: past the worked examples, salvage changes the kind behind those that are listed on both sides
      slip 355: past the worked examples, both sides refuse a text that is too long with 3, where the tables are too short
      slip 356: past the worked examples, both sides salvage with too short tables
-     slip 357: headers that end behind the text are none of the cases */
+     slip 357: headers that end behind the text are none of the cases
+     slip 385: past the worked examples, the search with compact rows has one find fewer on both sides where it has no list
+     slip 386: past the worked examples, the search with compact rows lists its first find one place late on both sides
+     slip 387: past the worked examples, the search with compact rows counts one letter fewer on both sides
+     slip 388: past the worked examples, both sides exchange the first two targets of compact rows
+     slip 389: past the worked examples, both sides give the last state of compact rows an arrow
+     slip 390: past the worked examples, both sides leave something in row 2 of compact rows
+     slip 391: past the worked examples, both sides change the word behind the sets of compact rows
+     slip 392: past the worked examples, both sides build compact rows with too short sets
+     slip 393: past the worked examples, both sides refuse a text that is too long with 3, where the rooms of compact rows are too short
+     slip 394: states with more than 64 arrows are none of the cases */
 #define _DEFAULT_SOURCE
 #include "entries.h"
 
@@ -286,6 +297,63 @@ static const char *const met_name[METS] = {".FIT below 8",
                                            "too few kinds, fewer than starts",
                                            "too long a text with too short tables"};
 static uint64_t met[METS];
+
+/* What compact rows can show: a state with more than 64 arrows; a word of a set with all 64 ones; a state with arrows in all four words,
+   one with ones in words below another, one whose targets do not rise with the letters; a word's first bit, above the first word, and its
+   last; as many arrows as there can be; a room that is too short by itself, and both. Of searches only: too long a text with either room
+   too short by itself; a text that is empty, or shorter than the word; one that is just not long, and one that just is; in a long text a
+   word whose states with an entry for each of its letters, or for one letter more, just fit, or are one too many, and one with more that
+   is found. How often each was met in building and in searching. */
+enum row_met {
+    MANY_ARROWS,
+    FULL_WORD,
+    ALL_FOUR_WORDS,
+    ONES_BELOW,
+    FALLING_TARGETS,
+    FIRST_BIT,
+    LAST_BIT,
+    MOST_ARROWS,
+    SETS_SHORT,
+    TARGETS_SHORT,
+    BOTH_SHORT,
+    FIRST_OF_SEARCHES,
+    LONG_AND_SETS_SHORT = FIRST_OF_SEARCHES,
+    LONG_AND_TARGETS_SHORT,
+    EMPTY_TEXT,
+    SHORTER_TEXT,
+    JUST_NOT_LONG,
+    JUST_LONG,
+    JUST_FIT,
+    ONE_TOO_MANY,
+    JUST_FIT_AND_ONE,
+    ONE_TOO_MANY_AND_ONE,
+    FOUND_PAST_FIT,
+    ROW_METS
+};
+
+static const char *const row_met_name[ROW_METS] = {"a state with more than 64 arrows",
+                                                   "a word of 64 ones",
+                                                   "a state with arrows in all four words",
+                                                   "a state with ones in lower words",
+                                                   "a state whose targets do not rise",
+                                                   "a word's first bit",
+                                                   "a word's last bit",
+                                                   "the most arrows",
+                                                   "too short sets alone",
+                                                   "too short targets alone",
+                                                   "both too short",
+                                                   "too long a text with too short sets alone",
+                                                   "too long a text with too short targets alone",
+                                                   "an empty text",
+                                                   "a text shorter than the word",
+                                                   "a text that is just not long",
+                                                   "one that just is",
+                                                   "in a long text states that just fit",
+                                                   "one state too many",
+                                                   "with one letter more states that just fit",
+                                                   "one state too many",
+                                                   "a find past the states that fit"};
+static uint64_t row_met[ROW_METS][2];
 
 static uint8_t *reserve(uint8_t *old, size_t bytes)
 {
@@ -552,6 +620,56 @@ static void slip_salvage(const struct asked *a, struct outcome *m, struct outcom
         say_both(0, 0, m, s);
 }
 
+/* the first of the words that the library left */
+static const uint64_t *left_sets(void)
+{
+    return (const uint64_t *)(const void *)(zones[SETS].marks + zones[SETS].at);
+}
+
+static bool short_sets(const struct asked *a)
+{
+    return a->len[SETS] < sets_for(a->len[INPUT]);
+}
+
+static bool short_targets(const struct asked *a)
+{
+    return a->len[TABLES] < entries_for(a->entry, a->len[INPUT]);
+}
+
+/* success that leaves something else */
+static void slip_left_rows(const struct asked *a)
+{
+    size_t n = a->len[INPUT] + 1;
+    uint16_t first = left_table()[8 * n], second = left_table()[8 * n + 1];
+    if (SLIP == 388) {
+        leave_both(8 * n, second);
+        leave_both(8 * n + 1, first);
+    }
+    if (SLIP == 389)
+        change_both(SETS, 4 * (n - 1) * sizeof(uint64_t));
+    if (SLIP == 390)
+        leave_both(2 * n, 1);
+    if (SLIP == 391)
+        change_both(SETS, sets_for(n - 1) * sizeof(uint64_t));
+}
+
+static void slip_rows(const struct asked *a, struct outcome *m, struct outcome *s)
+{
+    bool done = m->number == 0, finds = a->entry == COMPACT_SEARCH && done && m->answer[0] > 0;
+    if (SLIP == 385 && finds && a->len[FINDS] == 0)
+        s->answer[0] = --m->answer[0];
+    if (SLIP == 386 && finds)
+        change_both(FINDS, 0);
+    if (SLIP == 387 && finds)
+        s->answer[1] = --m->answer[1];
+    if (done)
+        slip_left_rows(a);
+    if (SLIP == 392 && a->entry == COMPACT_BUILD && m->number == 3 && short_sets(a))
+        say_both(0, a->len[INPUT], m, s);
+    if (SLIP == 393 && m->number == 4 && (short_sets(a) || short_targets(a)))
+        say_both(3, 0, m, s);
+}
+
 /* the mistakes of this file that happen after the call */
 static void slip_after(enum entry entry, struct outcome *m, struct outcome *s)
 {
@@ -786,6 +904,110 @@ static void check_salvage(const struct asked *a, struct lent l, const struct out
     met[LONG_AND_SHORT] += m->number == 4 && a->len[TABLES] < entries_for(SALVAGE, RIDE_MARK_BYTES);
 }
 
+static size_t ones_in(uint64_t bits)
+{
+    size_t ones = 0;
+    for (; bits != 0; bits &= bits - 1)
+        ones++;
+    return ones;
+}
+
+/* counts what one state of compact rows shows, of which the targets are these; how many arrows it has */
+static size_t count_state(const uint64_t *set, const uint16_t *targets, int searched)
+{
+    size_t arrows = 0, words = 0;
+    bool full = false, below = false, falling = false, first = false, last = false;
+    for (int k = 0; k < 4; k++) {
+        below = below || (set[k] != 0 && arrows > 0);
+        full = full || set[k] == UINT64_MAX;
+        first = first || (k > 0 && set[k] % 2 == 1);
+        last = last || set[k] >> 63 == 1;
+        words += set[k] != 0;
+        arrows += ones_in(set[k]);
+    }
+    for (size_t i = 1; i < arrows; i++)
+        falling = falling || targets[i] < targets[i - 1];
+    row_met[MANY_ARROWS][searched] += SLIP != 394 && arrows > 64;
+    row_met[FULL_WORD][searched] += full;
+    row_met[ALL_FOUR_WORDS][searched] += words == 4;
+    row_met[ONES_BELOW][searched] += below;
+    row_met[FALLING_TARGETS][searched] += falling;
+    row_met[FIRST_BIT][searched] += first;
+    row_met[LAST_BIT][searched] += last;
+    return arrows;
+}
+
+static size_t distinct_letters(const uint8_t *word, size_t m)
+{
+    bool has[256] = {false};
+    size_t many = 0;
+    for (size_t i = 0; i < m; i++) {
+        many += !has[word[i]];
+        has[word[i]] = true;
+    }
+    return many;
+}
+
+/* counts what a text is to a search with compact rows */
+static void count_rows_text(const struct asked *a, uint64_t finds)
+{
+    size_t m = a->len[INPUT], n = a->len[TEXT];
+    row_met[EMPTY_TEXT][1] += n == 0;
+    row_met[SHORTER_TEXT][1] += n > 0 && n < m;
+    row_met[JUST_NOT_LONG][1] += n + 1 == LONG_FOR_ROWS;
+    row_met[JUST_LONG][1] += n == LONG_FOR_ROWS;
+    if (n < LONG_FOR_ROWS)
+        return;
+    for (size_t more = 0; more < 2; more++) {
+        size_t entries = distinct_letters(a->input, m) + more, fit = PREPARED / entries;
+        row_met[more ? JUST_FIT_AND_ONE : JUST_FIT][1] += m + 1 == fit;
+        row_met[more ? ONE_TOO_MANY_AND_ONE : ONE_TOO_MANY][1] += m == fit;
+        row_met[FOUND_PAST_FIT][1] += m > fit && finds > 0;
+    }
+}
+
+static void count_rows(const struct asked *a, const struct outcome *m)
+{
+    const uint64_t *sets = left_sets();
+    size_t letters = a->len[INPUT], arrows = 0;
+    int searched = a->entry == COMPACT_SEARCH;
+    row_met[SETS_SHORT][searched] += m->number == 3 && !short_targets(a);
+    row_met[TARGETS_SHORT][searched] += m->number == 3 && !short_sets(a);
+    row_met[BOTH_SHORT][searched] += m->number == 3 && short_sets(a) && short_targets(a);
+    row_met[LONG_AND_SETS_SHORT][1] += m->number == 4 && short_sets(a) && !short_targets(a);
+    row_met[LONG_AND_TARGETS_SHORT][1] += m->number == 4 && !short_sets(a) && short_targets(a);
+    if (m->number != 0)
+        return;
+    for (size_t x = 0; x <= letters; x++)
+        arrows += count_state(sets + 4 * x, left_table() + 8 * (letters + 1) + arrows, searched);
+    row_met[MOST_ARROWS][searched] += letters > 1 && arrows == 2 * letters - 1;
+    if (searched)
+        count_rows_text(a, m->answer[0]);
+}
+
+/* What is asked of compact rows is asked of the library's own first form, in tables that are always enough: where neither room is too short
+   the number, the answers and the finds are the same, and so is each arrow, by the rule that either form is read by. */
+static void check_rows(const struct asked *a, struct lent l, const struct outcome *m)
+{
+    static uint16_t first[6 * (MOST_LETTERS + 1)];
+    const struct zone *list = &zones[FINDS];
+    bool searched = a->entry == COMPACT_SEARCH;
+    lend_again(a);
+    l.at[TABLES] = first;
+    l.len[TABLES] = sizeof first / sizeof *first;
+    struct outcome right = ask_marks(searched ? SEARCH : BUILD, &l);
+    if (right.number == 0 && (short_sets(a) || short_targets(a)))
+        right = (struct outcome){3, {UNTOUCHED, UNTOUCHED, UNTOUCHED}, UNTOUCHED};
+    if (!same_outcome(m, &right))
+        fail(a, "compact rows and what the library says of its first form, given here as second opinion", m, &right);
+    if (m->number == 0 && searched && memcmp(list->marks, list->second, list->at + list->bytes + GUARD) != 0)
+        fail(a, "other finds between the search with compact rows and the library's search, given here as second opinion", m, &right);
+    const char *wrong = m->number == 0 ? wrong_rows(left_sets(), left_table(), first, a->len[INPUT]) : NULL;
+    if (wrong != NULL)
+        fail(a, wrong, m, m);
+    count_rows(a, m);
+}
+
 /* runs a case on both sides; ends the program at a difference. What the library left stays in zones[..].marks. */
 static struct outcome compare(const struct asked *a)
 {
@@ -807,6 +1029,8 @@ static struct outcome compare(const struct asked *a)
         slip_checked(a, &m, &s);
     if (past_examples && a->entry == SALVAGE)
         slip_salvage(a, &m, &s);
+    if (past_examples && makes_rows(a->entry))
+        slip_rows(a, &m, &s);
     if (!same_outcome(&m, &s))
         fail(a, "the number, the answers or the offset", &m, &s);
     for (int i = 0; i < SLICES; i++)
@@ -831,6 +1055,8 @@ static struct outcome compare(const struct asked *a)
         check_saved(a, for_second, &m);
     if (a->entry == SALVAGE)
         check_salvage(a, for_second, &m);
+    if (makes_rows(a->entry))
+        check_rows(a, for_second, &m);
     seen[column_of(a->entry, a->input, a->len[INPUT])][m.number]++;
     return m;
 }
@@ -970,6 +1196,7 @@ static struct asked ask(enum entry entry, const uint8_t *input, size_t input_len
     a.len[ROOM] = m;
     a.len[TABLES] = entries_for(entry, m);
     a.len[SEARCHER] = SEARCHER_BYTES;
+    a.len[SETS] = sets_for(m);
     return a;
 }
 
@@ -1048,12 +1275,13 @@ static struct outcome run_salvage(const uint8_t *text, size_t n, size_t starts, 
     return compare(&a);
 }
 
-/* build both oracles, save in each edition, load back; the last two are refused where it is one letter */
+/* build both oracles, and compact rows, save in each edition, load back; the last two are refused where it is one letter */
 static void there_and_back(const uint8_t *word, size_t m)
 {
     static uint8_t file[MOST_FILE];
     run_plain(BUILD, word, m, m);
     run_plain(FAILURE_BUILD, word, m, m);
+    run_plain(COMPACT_BUILD, word, m, m);
     for (unsigned edition = 1; edition <= 2; edition++) {
         size_t size = file_in(edition, word, m, file);
         run_save(edition, word, m, size);
@@ -1061,7 +1289,8 @@ static void there_and_back(const uint8_t *word, size_t m)
     }
 }
 
-/* each search for a word in a text, with a list of 0, fewer, exactly enough, or more entries, and with a file of either edition */
+/* each search for a word in a text, with a list of 0, fewer, exactly enough, or more entries, and with a file of either edition; that with
+   compact rows only now and then where it takes long, as it has long texts of its own */
 static void each_search(const uint8_t *word, size_t m, const uint8_t *text, size_t n)
 {
     uint8_t mirrored[MOST_LETTERS], file[MOST_FILE];
@@ -1072,10 +1301,13 @@ static void each_search(const uint8_t *word, size_t m, const uint8_t *text, size
     run_search(SEARCH, word, m, m, text, n, lists[below(3)]);
     run_search(TURBO, word, m, m, text, n, lists[below(3)]);
     run_search(FAILURE_SEARCH, word, m, m, text, n, lists[below(3)]);
+    if (below(2) || (uint64_t)m * n <= 1 << 12)
+        run_search(COMPACT_SEARCH, word, m, m, text, n, lists[below(3)]);
     run_search(SEARCH_FILE, file, size, m, text, n, lists[below(3)]);
 }
 
-/* each search with lists of no entry, of one, one fewer than the finds, as many, one more, and with a file of either edition */
+/* each search with lists of no entry, of one, one fewer than the finds, as many, one more, and with a file of either edition; that with
+   compact rows with one of these lists, or with none, where the word is long */
 static void every_list(const uint8_t *word, size_t m, const uint8_t *text, size_t n)
 {
     uint8_t mirrored[MOST_LETTERS], file[MOST_FILE];
@@ -1083,10 +1315,12 @@ static void every_list(const uint8_t *word, size_t m, const uint8_t *text, size_
     size_t size = file_in((unsigned)below(2) + 1, mirrored, m, file);
     size_t count = run_search(SEARCH, word, m, m, text, n, 0).answer[0];
     size_t lists[] = {0, 1, count > 0 ? count - 1 : 0, count, count + 1};
-    for (size_t i = 0; i < sizeof lists / sizeof *lists; i++) {
+    for (size_t i = 0, some = below(10); i < sizeof lists / sizeof *lists; i++) {
         run_search(SEARCH, word, m, m, text, n, lists[i]);
         run_search(TURBO, word, m, m, text, n, lists[i]);
         run_search(FAILURE_SEARCH, word, m, m, text, n, lists[i]);
+        if (m < 300 || i == some)
+            run_search(COMPACT_SEARCH, word, m, m, text, n, lists[i]);
         run_search(SEARCH_FILE, file, size, m, text, n, lists[i]);
     }
 }
@@ -1169,7 +1403,7 @@ static void expect_finds(struct outcome o, const char *word, uint64_t count, con
     expect(memcmp(zones[FINDS].marks + zones[FINDS].at, places, count * sizeof *places) == 0, word);
 }
 
-/* by the word, and by the file of its mirror in each edition */
+/* by the word, also with compact rows, and by the file of its mirror in each edition */
 static void example_search(const char *word, const char *text, uint64_t count, const uint32_t *places, uint64_t letters)
 {
     uint8_t mirrored[MOST_LETTERS], file[MOST_FILE];
@@ -1177,6 +1411,7 @@ static void example_search(const char *word, const char *text, uint64_t count, c
     size_t m = strlen(word), n = strlen(text);
     mirror(w, m, mirrored);
     expect_finds(run_search(SEARCH, w, m, m, t, n, count), word, count, places, letters);
+    expect_finds(run_search(COMPACT_SEARCH, w, m, m, t, n, count), word, count, places, letters);
     for (unsigned edition = 1; edition <= 2; edition++) {
         size_t size = file_in(edition, mirrored, m, file);
         expect_finds(run_search(SEARCH_FILE, file, size, m, t, n, count), word, count, places, letters);
@@ -1330,6 +1565,7 @@ static void example_word(size_t m, uint32_t number)
     struct outcome checked = run_save(2, text, m, ALWAYS_ENOUGH + CHECK_BYTES);
     struct outcome sought = run_search(SEARCH, text, m, m, text, m + 2, 3), turbo = run_search(TURBO, text, m, m, text, m + 2, 3);
     struct outcome failing = run_plain(FAILURE_BUILD, text, m, m), by_failing = run_search(FAILURE_SEARCH, text, m, m, text, m + 2, 3);
+    struct outcome rows = run_plain(COMPACT_BUILD, text, m, m), by_rows = run_search(COMPACT_SEARCH, text, m, m, text, m + 2, 3);
     expect(built.number == number && saved.number == number && sought.number == number, "a word of many letters");
     expect(number != 0 || (built.answer[0] == m && saved.answer[0] == m + 4), "a word of many letters");
     expect(checked.number == number && (number != 0 || checked.answer[0] == m + 6), "a word of many letters");
@@ -1337,6 +1573,8 @@ static void example_word(size_t m, uint32_t number)
     expect(failing.number == number && by_failing.number == number, "a word of many letters");
     expect(number != 0 || (by_failing.answer[0] == 3 && by_failing.answer[1] == 3 * m && by_failing.answer[2] == 0), "a word of many letters");
     expect(turbo.number == number && (number != 0 || (turbo.answer[0] == 3 && turbo.answer[1] == m + m + 2)), "a word of many letters");
+    expect(rows.number == number && by_rows.number == number, "a word of many letters");
+    expect(number != 0 || (by_rows.answer[0] == 3 && by_rows.answer[1] == 3 * m), "a word of many letters");
 }
 
 static void examples_at_the_limit(void)
@@ -1721,6 +1959,87 @@ static void examples_of_failure(void)
     example_failure_rooms();
 }
 
+/* the compact rows of a word, built, and left by a search for its mirror */
+static void example_rows(const uint8_t *word, size_t m, const uint64_t *sets, const uint16_t *targets)
+{
+    uint8_t mirrored[16];
+    size_t n = m + 1;
+    mirror(word, m, mirrored);
+    for (int turn = 0; turn < 2; turn++) {
+        struct outcome o = turn == 0 ? run_plain(COMPACT_BUILD, word, m, m) : run_search(COMPACT_SEARCH, mirrored, m, m, word, m, 1);
+        expect(o.number == 0 && memcmp(left_sets(), sets, 4 * n * sizeof *sets) == 0, "the sets of compact rows");
+        expect(memcmp(left_table(), targets, 10 * n * sizeof *targets) == 0, "the targets of compact rows");
+    }
+}
+
+static uint32_t said_with_rooms(enum entry entry, const uint8_t *word, size_t m, size_t sets, size_t targets)
+{
+    struct asked a = ask(entry, word, m, m);
+    a.text = word;
+    a.len[TEXT] = 9;
+    a.len[SETS] = sets;
+    a.len[TABLES] = targets;
+    a.len[FINDS] = 2;
+    a.fill = (enum fill)below(FILLS);
+    a.nulls = below(2);
+    return compare(&a).number;
+}
+
+/* 3 comes exactly where one of the rooms is too short, whichever it is */
+static void example_rooms_of_rows(size_t m, size_t sets, size_t targets)
+{
+    static const uint8_t word[] = "abcacdace";
+    uint32_t right = sets < 4 * (m + 1) || targets < 10 * (m + 1) ? 3 : 0;
+    expect(said_with_rooms(COMPACT_BUILD, word, m, sets, targets) == right, "the rooms of compact rows");
+    expect(said_with_rooms(COMPACT_SEARCH, word, m, sets, targets) == right, "the rooms of compact rows");
+}
+
+/* Each room of every length up to some more than is needed, where the other has none, one too few, just enough and more, and of some
+   lengths past 16 bits; for words of one and two letters also each with each. */
+static void example_every_room_of_rows(void)
+{
+    static const size_t past[] = {65535, 65536, 65537, 65536 + 7, 65536 + 19, 65536 + 39, 65536 + 99, 65536 + 100, 131072};
+    for (size_t m = 1; m <= 9; m++) {
+        size_t sets = 4 * (m + 1), targets = 10 * (m + 1);
+        for (size_t c = 0; c < room_choices; c++) {
+            for (size_t room = 0; room <= sets + 9; room++)
+                example_rooms_of_rows(m, room, room_choice(targets, c));
+            for (size_t room = 0; room <= targets + 9; room++)
+                example_rooms_of_rows(m, room_choice(sets, c), room);
+            for (size_t i = 0; m % 8 == 1 && i < sizeof past / sizeof *past; i++) {
+                example_rooms_of_rows(m, past[i], room_choice(targets, c));
+                example_rooms_of_rows(m, room_choice(sets, c), past[i]);
+            }
+        }
+        for (size_t c = 0; m <= 2 && c < (sets + 2) * (targets + 2); c++)
+            example_rooms_of_rows(m, c % (sets + 2), c / (sets + 2));
+    }
+}
+
+/* abbbaab, whose letters are bits 33 and 34 of each second word. Then FF 00 40 00: from state 0 arrows on 00 to 2, on 40 to 3 and on FF to
+   1, so that the targets do not rise. */
+static void examples_of_rows(void)
+{
+    static const uint64_t a = UINT64_C(1) << 33, b = UINT64_C(1) << 34;
+    const uint64_t first[32] = {0, a + b, 0, 0, 0, a + b, 0, 0, 0, a + b, 0, 0, 0, a + b, 0, 0, 0, a, 0, 0, 0, a, 0, 0, 0, b};
+    static const uint16_t targets[80] = {
+        0, 'a', 'b', 'b', 'b', 'a', 'a', 'b',                                                                      /* letters */
+        0, 0, 0, 2, 3, 1, 1, 2,                                                                                    /* supplies */
+        0, 0, 0, 0, 0, 0, 0, 0, 0, 0, 0, 0, 0, 0, 0, 0,                                                            /* nothing */
+        0, 0, 2, 2, 2, 2, 4, 4, 4, 4, 6, 6, 6, 6, 8, 8, 8, 8, 9, 9, 9, 9, 10, 10, 10, 10, 11, 11, 11, 11, 11, 11, /* ones before */
+        1, 2, 6, 2, 5, 3, 5, 4, 5, 6, 7};
+    static const uint64_t other[20] = {1, 1, 0, UINT64_C(1) << 63, 1, 0, 0, 0, 0, 1, 0, 0, 1};
+    static const uint16_t leads[50] = {
+        0, 255, 0, 64, 0,                                           /* letters */
+        0, 0, 0, 0, 2,                                              /* supplies */
+        0, 0, 0, 0, 0, 0, 0, 0, 0, 0,                               /* nothing */
+        0, 1, 2, 2, 3, 4, 4, 4, 4, 4, 5, 5, 5, 6, 6, 6, 6, 6, 6, 6, /* ones before */
+        2, 3, 1, 2, 3, 4};
+    example_rows((const uint8_t *)"abbbaab", 7, first, targets);
+    example_rows((const uint8_t *)"\xFF\0@\0", 4, other, leads);
+    example_every_room_of_rows();
+}
+
 /* kinds: a w for each ride that is whole, a c for each that is cut; the starts belong to them */
 static void example_rides(const char *hex, const char *kinds, const uint32_t *starts)
 {
@@ -1807,6 +2126,7 @@ static void example_search_one_letter(void)
 {
     static const uint8_t text[] = "aba";
     expect_finds(run_search(SEARCH, text, 1, 1, text, 3, 2), "a", 2, (const uint32_t[]){0, 2}, 3);
+    expect_finds(run_search(COMPACT_SEARCH, text, 1, 1, text, 3, 2), "a", 2, (const uint32_t[]){0, 2}, 3);
 }
 
 static void examples(void)
@@ -1834,6 +2154,7 @@ static void examples(void)
     example_search("abc", "ab", 0, (const uint32_t[]){0}, 0);
     examples_of_turbo();
     examples_of_failure();
+    examples_of_rows();
     examples_of_loading();
     examples_of_streams();
     examples_of_salvage();
@@ -1892,6 +2213,7 @@ static void every_text(const uint8_t *word, size_t m)
             spell_digits(number, n, text);
             run_search(SEARCH, word, m, m, text, n, n);
             run_search(FAILURE_SEARCH, word, m, m, text, n, below(4) ? n : below(3));
+            run_search(COMPACT_SEARCH, word, m, m, text, n, below(4) ? n : below(3));
             size_t edition = below(2);
             run_search(SEARCH_FILE, file[edition], size[edition], m, text, n, n);
         }
@@ -1940,29 +2262,29 @@ static void short_texts_failure(void)
 }
 
 /* every word of 1 to so many letters */
-static void every_failure_oracle(size_t base, size_t longest_word)
+static void every_word_of(enum entry entry, size_t base, size_t longest_word)
 {
     uint8_t word[32];
     for (size_t m = 1, words = base; m <= longest_word; m++, words *= base)
         for (size_t number = 0; number < words; number++) {
             spell_in_base(base, number, m, word);
-            run_plain(FAILURE_BUILD, word, m, m);
+            run_plain(entry, word, m, m);
         }
 }
 
 static void short_failure_oracles(void)
 {
-    every_failure_oracle(2, 14);
-    every_failure_oracle(3, 9);
-    every_failure_oracle(4, 7);
-    every_failure_oracle(7, 5);
+    every_word_of(FAILURE_BUILD, 2, 14);
+    every_word_of(FAILURE_BUILD, 3, 9);
+    every_word_of(FAILURE_BUILD, 4, 7);
+    every_word_of(FAILURE_BUILD, 7, 5);
 }
 
 static void longer_failure_oracles(void)
 {
-    every_failure_oracle(2, 20);
-    every_failure_oracle(3, 12);
-    every_failure_oracle(4, 10);
+    every_word_of(FAILURE_BUILD, 2, 20);
+    every_word_of(FAILURE_BUILD, 3, 12);
+    every_word_of(FAILURE_BUILD, 4, 10);
     every_case_of(FAILURE_SEARCH, 2, 8, 13);
     every_case_of(FAILURE_SEARCH, 3, 5, 8);
 }
@@ -2648,6 +2970,7 @@ static void rooms_for(enum entry entry, const uint8_t *input, size_t input_len, 
         a.len[TABLES] = room_choice(entries_for(entry, m), c % room_choices);
         a.len[ROOM] = room_choice(m, c / room_choices % room_choices);
         a.len[OUT] = room_choice(file_size, c / room_choices % room_choices);
+        a.len[SETS] = room_choice(sets_for(m), c / room_choices % room_choices);
         a.len[FINDS] = room_choice(3, c / room_choices / room_choices % room_choices);
         a.fill = (enum fill)(c / room_choices / room_choices / room_choices);
         a.text = text;
@@ -2688,6 +3011,8 @@ static void rooms_of_word(const uint8_t *word, size_t m)
     rooms_for(TURBO, word, m, m, 0, word);
     rooms_for(FAILURE_SEARCH, word, m, m, 0, word);
     rooms_for(FAILURE_BUILD, word, m, m, 0, NULL);
+    rooms_for(COMPACT_SEARCH, word, m, m, 0, word);
+    rooms_for(COMPACT_BUILD, word, m, m, 0, NULL);
     if (good) {
         mirror(word, m, mirrored);
         rooms_for(LOAD, file, size, m, 0, NULL);
@@ -3583,6 +3908,240 @@ static void longest_texts(void)
     }
 }
 
+/* ---- compact rows ---- */
+
+/* the letters at the borders of a set's four words */
+static const uint8_t border_letters[] = {0, 63, 64, 127, 128, 191, 192, 255};
+
+enum { BORDER_LETTERS = sizeof border_letters };
+
+/* in rooms that are enough, each by itself sometimes more */
+static void ask_rows(enum entry entry, const uint8_t *word, size_t m, const uint8_t *text, size_t n, size_t list)
+{
+    struct asked a = ask(entry, word, m, m);
+    a.text = text;
+    a.len[TEXT] = n;
+    a.len[FINDS] = list;
+    a.len[SETS] += below(3);
+    a.len[TABLES] += below(3);
+    a.fill = (enum fill)below(FILLS);
+    compare(&a);
+}
+
+/* a word's compact rows, and a search for it, in a text of some kind that may be shorter than the word or empty */
+static void rows_of_word(const uint8_t *word, size_t m)
+{
+    static uint8_t text[4 * MOST_LETTERS];
+    size_t n = below(8) == 0 ? below(m + 1) : m + below(3 * m + 1);
+    for (size_t i = 0; i < 256; i++)
+        palette[i] = word[i % m];
+    make_text(text, n, word, m, (unsigned)chance());
+    ask_rows(COMPACT_BUILD, word, m, NULL, 0, 0);
+    ask_rows(COMPACT_SEARCH, word, m, text, n, below(3) ? n : below(4));
+}
+
+/* lists of every length up to some more than there are finds, which overlap */
+static void rows_with_every_list(void)
+{
+    static const uint8_t text[] = "aabaabaaabaabaabaaaabaab";
+    for (size_t m = 1; m <= 7; m++)
+        for (size_t list = 0; list < sizeof text; list++)
+            ask_rows(COMPACT_SEARCH, text, m, text, sizeof text - 1, list);
+}
+
+/* every word of 1 to 4 letters at the borders; longer ones by chance, of two of these letters to all */
+static void rows_at_the_borders(void)
+{
+    uint8_t word[300];
+    for (size_t m = 1, words = BORDER_LETTERS; m <= 4; m++, words *= BORDER_LETTERS)
+        for (size_t number = 0; number < words; number++) {
+            for (size_t i = 0, rest = number; i < m; i++, rest /= BORDER_LETTERS)
+                word[i] = border_letters[rest % BORDER_LETTERS];
+            rows_of_word(word, m);
+        }
+    for (int turn = 0; turn < 3000; turn++) {
+        size_t m = 1 + some_length(sizeof word - 1), first = below(BORDER_LETTERS), letters = 2 + below(BORDER_LETTERS - 1);
+        for (size_t i = 0; i < 256; i++)
+            palette[i] = border_letters[(first + i % letters) % BORDER_LETTERS];
+        make_word(word, m, (enum kind)(turn % KINDS));
+        rows_of_word(word, m);
+    }
+}
+
+/* So many letters, of which so many differ: first each of them, and then some of them by chance, all of them over and over, or one of them;
+   read from the other end, or in another order. The letters are neighbours, or far from each other. */
+static void make_word_of(uint8_t *word, size_t m, size_t distinct)
+{
+    uint8_t first = (uint8_t)chance(), step = below(2) ? 1 : (uint8_t)(2 * chance() + 1);
+    size_t how = below(4), turned = below(2), mixed = below(4) == 0;
+    for (size_t i = 0; i < m; i++) {
+        size_t which = i < distinct ? i : how == 0 ? below(distinct) : how == 1 ? i % distinct : how == 2 ? 0 : distinct - 1;
+        word[turned ? m - 1 - i : i] = (uint8_t)(first + which * step);
+    }
+    for (size_t i = 0; i < m && mixed; i++) {
+        size_t other = below(m);
+        uint8_t own = word[i];
+        word[i] = word[other];
+        word[other] = own;
+    }
+}
+
+/* every number of letters that differ, in as many letters, and in more */
+static void rows_of_many_letters(void)
+{
+    static uint8_t word[MOST_LETTERS];
+    for (size_t distinct = 1; distinct <= 256; distinct++)
+        for (size_t turn = 0; turn < 6; turn++) {
+            size_t m = distinct + (turn < 2 ? 0 : some_length(turn < 5 ? 64 : 512));
+            make_word_of(word, m, distinct);
+            rows_of_word(word, m);
+        }
+    for (size_t turn = 0; turn < 8; turn++) {
+        size_t m = turn < 4 ? MOST_LETTERS - turn : 1000 + below(3000);
+        make_word_of(word, m, 256 >> 2 * (turn % 4));
+        rows_of_word(word, m);
+    }
+}
+
+/* Every length of a word, from the empty one to one that is too long, where the one room is one short, and where the other is; lengths of
+   up to 300, and some more, where both are enough. */
+static void rows_of_every_length(void)
+{
+    static uint8_t word[MOST_LETTERS + 1];
+    choose_palette(4);
+    make_word(word, sizeof word, RANDOM);
+    for (size_t m = 0; m <= sizeof word; m++) {
+        struct asked a = ask(m % 2 ? COMPACT_SEARCH : COMPACT_BUILD, word, m, m);
+        a.text = word;
+        a.len[TEXT] = below(sizeof word);
+        a.len[FINDS] = below(3);
+        a.len[SETS]--;
+        compare(&a);
+        a.len[SETS]++;
+        a.len[TABLES]--;
+        compare(&a);
+        if (m >= 1 && (m <= 300 || m % 101 == 0 || (m + 1 >= MOST_LETTERS && m <= MOST_LETTERS)))
+            rows_of_word(word, m);
+    }
+}
+
+static void short_rows(void)
+{
+    every_word_of(COMPACT_BUILD, 2, 11);
+    every_word_of(COMPACT_BUILD, 4, 6);
+    every_word_of(COMPACT_BUILD, 7, 4);
+    every_case_of(COMPACT_SEARCH, 3, 4, 6);
+    rows_with_every_list();
+    rows_at_the_borders();
+    rows_of_many_letters();
+    rows_of_every_length();
+}
+
+static void longer_rows(void)
+{
+    every_word_of(COMPACT_BUILD, 2, 18);
+    every_word_of(COMPACT_BUILD, 4, 9);
+    every_case_of(COMPACT_SEARCH, 2, 7, 12);
+    every_case_of(COMPACT_SEARCH, 3, 5, 8);
+    for (int turn = 0; turn < 20; turn++)
+        rows_of_many_letters();
+}
+
+/* ---- compact rows in long texts ---- */
+
+/* Windows that are read as deep as is chosen, deep and short in turn or by chance: each has the word's last letters, and before them a
+   letter that the word does not have, or now and then one of its own. */
+static void put_depths(uint8_t *text, size_t n, const uint8_t *word, size_t m)
+{
+    put_strangers(text, n, word, m);
+    uint8_t stranger = text[0];
+    for (size_t s = 0, turn = 0; s + m <= n; turn++) {
+        size_t deep = below(3) ? DEEP - 2 + below(6) : below(m + 1);
+        size_t depth = shorter((below(4) ? turn % 2 : below(2)) ? deep : below(4), m), unread = m - depth;
+        memcpy(text + s + unread, word + unread, depth);
+        if (unread > 0)
+            text[s + unread - 1] = below(8) ? stranger : word[below(m)];
+        s += unread > 0 ? unread : m;
+    }
+}
+
+/* a word of so many letters, of which so many differ, in a text of so many; often it stands at the end */
+static void rows_in_long_text(size_t m, size_t distinct, size_t n)
+{
+    static uint8_t word[MOST_LETTERS];
+    make_word_of(word, m, distinct);
+    for (size_t i = 0; i < 256; i++)
+        palette[i] = word[i % m];
+    if (below(2) || 3 * m > n)
+        put_depths(long_text, n, word, m);
+    else
+        make_long_text(long_text, n, word, m, (unsigned)below(STRETCHES + 1));
+    if (below(2))
+        memcpy(long_text + n - m, word, m);
+    run_search(COMPACT_SEARCH, word, m, m, long_text, n, below(2) ? n : below(20));
+}
+
+/* one fewer than a long text has, just so many, one more; or many more */
+static size_t near_long_for_rows(void)
+{
+    return LONG_FOR_ROWS + (below(4) ? below(3) - 1 : below(LONG_FOR_ROWS));
+}
+
+/* words with as many states as fit where each has an entry for every letter of the word, or for one letter more, and with some fewer and
+   some more; or where these are fewer than the letters, with as many as that needs */
+static void rows_that_fit(size_t distinct)
+{
+    for (size_t entries = distinct; entries <= distinct + 1; entries++)
+        for (size_t states = PREPARED / entries - 2; states <= PREPARED / entries + 2; states++) {
+            size_t m = states > distinct + 1 ? states - 1 : distinct;
+            rows_in_long_text(m, distinct, near_long_for_rows());
+            rows_in_long_text(m, distinct, LONG_FOR_ROWS + below(2));
+        }
+}
+
+/* words about as long as a deep reading; longer ones, of few letters and of many; longer texts */
+static void rows_in_long_texts(void)
+{
+    static const size_t distinct[] = {1, 2, 3, 4, 5, 7, 8, 12, 16, 20, 24, 30, 31, 32, 33, 48, 64, 85, 102, 127, 128, 170, 204, 255, 256};
+    static const size_t longer[] = {65, 100, 127, 128, 129, 255, 256, 257, LONG_EDGES};
+    for (size_t i = 0; i < sizeof distinct / sizeof *distinct; i++)
+        rows_that_fit(distinct[i]);
+    for (size_t m = 1; m <= 48; m++)
+        for (int turn = 0; turn < 12; turn++)
+            rows_in_long_text(m, 1 + below(turn % 2 ? m : shorter(m, 4)), near_long_for_rows());
+    for (size_t i = 0; i < 3 * sizeof longer / sizeof *longer; i++) {
+        size_t m = longer[i / 3];
+        rows_in_long_text(m, 1 + below(i % 3 ? shorter(m, 256) : 4), near_long_for_rows());
+    }
+    for (int turn = 0; turn < 12; turn++)
+        rows_in_long_text(2 + below(60), 2, 65535 + below(3) + below(2) * below(200000));
+}
+
+static void more_rows_in_long_texts(void)
+{
+    for (int turn = 0; turn < 20; turn++)
+        rows_in_long_texts();
+    for (size_t m = 2; m <= 256; m *= 2)
+        rows_in_long_text(m, m, MOST_TEXT - below(2));
+}
+
+/* the most bytes and one more, with each room too short by itself, both, and neither */
+static void rows_at_the_limit(void)
+{
+    uint8_t *text = reserve(NULL, MOST_TEXT + 1);
+    put_depths(text, MOST_TEXT + 1, (const uint8_t *)"abbbaab", 7);
+    for (size_t c = 0; c < 8; c++) {
+        struct asked a = ask(COMPACT_SEARCH, (const uint8_t *)"abbbaab", 7, 7);
+        a.text = text;
+        a.len[TEXT] = MOST_TEXT + c / 4;
+        a.len[SETS] -= c % 2;
+        a.len[TABLES] -= c / 2 % 2;
+        a.len[FINDS] = 5;
+        expect(compare(&a).number == (c >= 4 ? 4 : c > 0 ? 3 : 0), "compact rows and the longest text");
+    }
+    free(text);
+}
+
 /* ---- rides by their FIT headers ---- */
 
 /* What a header may declare that begins at a place of a text of n bytes: what lets the ride end with the text, little less and little more,
@@ -4088,8 +4647,8 @@ static void texts_at_the_limit(void)
     memcpy(text, word, m);
     memcpy(text + MOST_TEXT - m, word, m);
     for (size_t past = 0; past <= 1; past++) {
-        for (int i = 0; i < 3; i++) {
-            enum entry entry = i == 0 ? SEARCH : i == 1 ? TURBO : FAILURE_SEARCH;
+        for (int i = 0; i < 4; i++) {
+            enum entry entry = i == 0 ? SEARCH : i == 1 ? TURBO : i == 2 ? FAILURE_SEARCH : COMPACT_SEARCH;
             run_search(entry, word, m, m, text, MOST_TEXT + past, 10000);
             run_search(entry, word, m, m - 1, text, MOST_TEXT + past, 10);
             run_search(entry, word, 0, m, text, MOST_TEXT + past, 10);
@@ -4112,6 +4671,7 @@ static void texts_at_the_limit(void)
     run_search(SEARCH, text, 4, 4, text, MOST_TEXT, 1000);
     run_search(TURBO, text, 4, 4, text, MOST_TEXT, 1000);
     run_search(FAILURE_SEARCH, text, 4, 4, text, MOST_TEXT, 1000);
+    run_search(COMPACT_SEARCH, text, 4, 4, text, MOST_TEXT, 1000);
     free(text);
 }
 
@@ -4128,6 +4688,7 @@ static void hostile_text(void)
 {
     hostile(SEARCH, 300, MOST_TEXT, UINT64_C(5033075100));
     hostile(FAILURE_SEARCH, 300, MOST_TEXT, UINT64_C(5033075100));
+    hostile(COMPACT_SEARCH, 300, MOST_TEXT, UINT64_C(5033075100));
 }
 
 static void hostile_word(void)
@@ -4151,7 +4712,7 @@ static void *vast(size_t bytes)
 static void vast_slice(enum entry entry, int slice, size_t more, const uint8_t *input, size_t input_len, size_t m)
 {
     enum { LOOKED_AT = 65536 };
-    static uint8_t room[2][LOOKED_AT * SLICES];
+    static _Alignas(64) uint8_t room[2][LOOKED_AT * SLICES];
     uint8_t rides[64];
     size_t len = (UINT64_C(1) << 32) + more, bytes = len * slice_width[slice], rides_len = put_overlapping(rides, 3);
     const uint8_t *text = entry == SALVAGE ? rides : (const uint8_t *)"abcabbba";
@@ -4185,7 +4746,8 @@ static void vast_slice(enum entry entry, int slice, size_t more, const uint8_t *
 }
 
 /* Also files of edition 2 of which 0, 1 or 2 bytes would be left behind the arrows, where the check is wrong, or 0 behind the check, if
-   they were counted in 32 bits; and lists that would be too short for three rides, and other slices that would do. */
+   they were counted in 32 bits; lists that would be too short for three rides, and other slices that would do; and rooms of compact rows
+   that would be too short. */
 static void vast_slices(void)
 {
     uint8_t file[MOST_FILE], checked[MOST_FILE];
@@ -4208,6 +4770,12 @@ static void vast_slices(void)
         for (int s = 0; s < SLICES; s++)
             if (lent_slices[SALVAGE] & 1u << s)
                 vast_slice(SALVAGE, s, more, word, m, RIDE_MARK_BYTES);
+    for (int i = 0; i < 4; i++) {
+        enum entry entry = i % 2 ? COMPACT_SEARCH : COMPACT_BUILD;
+        size_t need = i / 2 ? sets_for(m) : entries_for(entry, m), more[] = {0, 1, need - 1, need, need + 1};
+        for (size_t k = 0; k < sizeof more / sizeof *more; k++)
+            vast_slice(entry, i / 2 ? SETS : TABLES, more[k], word, m, m);
+    }
 }
 
 /* ---- null pointers with length 0 ---- */
@@ -4328,8 +4896,9 @@ static void ask_mixed(enum entry entry, const uint8_t *word, size_t m, const uin
     a.len[ROOM] = some_room(m);
     a.len[OUT] = some_room(size);
     a.len[FINDS] = some_length(n);
+    a.len[SETS] = some_room(sets_for(m));
     a.fill = (enum fill)below(FILLS);
-    a.inside = (entry == SEARCH || entry == TURBO || entry == FAILURE_SEARCH) && m <= n && below(20) == 0;
+    a.inside = entry >= SEARCH && entry <= COMPACT_SEARCH && entry != SEARCH_FILE && m <= n && below(20) == 0;
     if (a.inside)
         a.input = text;
     if (reads_file(entry)) {
@@ -4384,7 +4953,7 @@ static void mixed_rides(size_t most)
 static void mixed_long_case(void)
 {
     uint8_t word[MOST_LETTERS], mirrored[MOST_LETTERS];
-    enum entry entry = (enum entry)(SEARCH + below(4));
+    enum entry entry = (enum entry)(SEARCH + below(COMPACT_SEARCH - SEARCH + 1));
     size_t m = 1 + (below(8) ? below(16) : below(20) ? below(64) : below(300)), n = near_long(m, (unsigned)below(NEARS));
     choose_wide_palette(wide_alphabets[below(6)]);
     make_any_word(word, m, (unsigned)below(WORD_KINDS));
@@ -4539,12 +5108,34 @@ static bool print_rare(void)
            with_chains[FAILURE_BUILD] == 0 || windows == 0;
 }
 
+/* how often compact rows showed what they can, and windows in long texts were read deep and short in turn; whether something was not met */
+static bool print_row_met(void)
+{
+    uint64_t changes = second_changes_of_depth();
+    bool missing = changes == 0;
+    printf("compact rows, built and searched with:");
+    for (int i = 0; i < ROW_METS; i++) {
+        printf("%s %s ", i == 0 ? "" : i == FIRST_OF_SEARCHES ? "; searched with:" : ";", row_met_name[i]);
+        if (i < FIRST_OF_SEARCHES)
+            printf("%" PRIu64 " and ", row_met[i][0]);
+        printf("%" PRIu64, row_met[i][1]);
+        missing = missing || row_met[i][1] == 0 || (i < FIRST_OF_SEARCHES && row_met[i][0] == 0);
+    }
+    printf("; windows read deep behind short ones, or the other way round %" PRIu64 "\n", changes);
+    return missing;
+}
+
 static void all_parts(bool costly)
 {
     part("the worked examples", examples);
     if (SLIP == 31)
         return;
     past_examples = true;
+    part("compact rows: every word of 1 to 11 letters over 2, of 1 to 6 over 4, of 1 to 4 over 7, of 1 to 4 at the borders of 64; every "
+         "number of letters; every length; every word of 1 to 4 over 3 in every text of up to 6",
+         short_rows);
+    part("compact rows: long texts, and those that are just not long", rows_in_long_texts);
+    part("compact rows: texts of the most bytes and of one more", rows_at_the_limit);
     part("rides: .FIT at 0 to 20, headers of each size, cut at each byte, with each size of the data, each byte with every value",
          single_headers);
     part("rides: every text of up to 8 of five pieces, of up to 11 of three, of up to 6 letters behind a header's beginning",
@@ -4554,9 +5145,10 @@ static void all_parts(bool costly)
     part("rides: as many as 520, and around powers of two; .FIT over and over", many_rides);
     part("rides: headers at every place up to 140,000; by themselves around powers of two and their multiples", ride_seams);
     part("rides: texts of the most bytes and of one more", longest_rides);
-    part("every word of 1 to 8 letters over 3: build, save, load back, search", short_words);
+    part("every word of 1 to 8 letters over 3: build, also compact rows, save, load back, search", short_words);
     part("files of edition 2: every ending, every check, single bits, what a check does not see", checked_files);
-    part("every word of 1 to 6 letters over 2 in every text of up to 10: search, with a file too, and failure search", short_texts);
+    part("every word of 1 to 6 letters over 2 in every text of up to 10: search, with a file and with compact rows too, and failure search",
+         short_texts);
     part("every word of 1 to 7 letters over 2 in every text of up to 12: turbo", short_texts_turbo);
     part("every word of 1 to 4 letters over 3 in every text of up to 8: turbo", short_texts_over_3);
     part("every word of 1 to 4 letters over 3 in every text of up to 7, of 1 to 3 over 4 in every one of up to 6: failure search",
@@ -4591,6 +5183,10 @@ static void all_parts(bool costly)
         part("words of 1 to 20 letters over 2, of 1 to 12 over 3, of 1 to 10 over 4; of 1 to 8 over 2 in every text of up to 13, of 1 to 5 "
              "over 3 in every one of up to 8: failure oracle and search",
              longer_failure_oracles);
+        part("compact rows: words of 1 to 18 letters over 2, of 1 to 9 over 4, of 1 to 7 over 2 in every text of up to 12, of 1 to 5 over "
+             "3 in every one of up to 8; more of many letters",
+             longer_rows);
+        part("compact rows: more long texts, up to the most bytes", more_rows_in_long_texts);
         part("words of the most letters and texts of the most bytes, by strangers: turbo", longest_hostiles);
         part("words of 2 to 16 letters, and longer ones, in long texts up to the most bytes", longest_texts);
         part("rides: every text of up to 9 of five pieces, of up to 13 of three, of up to 8 letters behind a header's beginning",
@@ -4624,7 +5220,7 @@ int main(int argc, char **argv)
     for (size_t i = 0; i < NOISE; i++)
         noise[i] = (uint8_t)chance();
     all_parts(costly);
-    bool missing = print_seen(), unmet = print_endings(), rare = print_rare(), other = print_met();
+    bool missing = print_seen(), unmet = print_endings(), rare = print_rare(), other = print_met(), rows = print_row_met();
     if (missing)
         printf("DIFFERENT: a refusal that can be given was never seen\n");
     else if (unmet)
@@ -4633,7 +5229,9 @@ int main(int argc, char **argv)
         printf("DIFFERENT: no failure oracle was seen that few words have, or no window that is read whole without a find\n");
     else if (other)
         printf("DIFFERENT: something that .FIT in a text can be of, or a list or text that salvage can be lent, was never met\n");
+    else if (rows)
+        printf("DIFFERENT: something that compact rows can show, or a room or text that they can be lent, was never met\n");
     else
         printf("second opinion: seed %" PRIu64 ", %" PRIu64 " cases, no difference, %.1f s\n", seed, cases, seconds() - begun);
-    return missing || unmet || rare || other ? 1 : 0;
+    return missing || unmet || rare || other || rows ? 1 : 0;
 }

@@ -1,4 +1,4 @@
-/* The twelve entries of both sides by number, so that the comparison and the attack can ask either side the same thing in one line.
+/* The fourteen entries of both sides by number, so that the comparison and the attack can ask either side the same thing in one line.
    This is all that the two share with each other; neither implementation sees it. */
 #ifndef ENTRIES_H
 #define ENTRIES_H
@@ -12,19 +12,36 @@
 #include <stdlib.h>
 #include <string.h>
 
-enum entry { BUILD, SAVE, SAVE_CHECKED, LOAD, SEARCH, TURBO, SEARCH_FILE, FAILURE_SEARCH, FAILURE_BUILD, OPEN, TAKE, SALVAGE, ENTRIES };
+enum entry {
+    BUILD,
+    SAVE,
+    SAVE_CHECKED,
+    LOAD,
+    SEARCH,
+    TURBO,
+    SEARCH_FILE,
+    FAILURE_SEARCH,
+    COMPACT_SEARCH,
+    FAILURE_BUILD,
+    COMPACT_BUILD,
+    OPEN,
+    TAKE,
+    SALVAGE,
+    ENTRIES
+};
 
-static const char *const entry_name[ENTRIES] = {"build",       "save",        "save_checked", "load", "search", "turbo",
-                                                "search_file", "fail_search", "fail_build",   "open", "take",   "salvage"};
+static const char *const entry_name[ENTRIES] = {"build",      "save",        "save_checked", "load",        "search",
+                                                "turbo",      "search_file", "fail_search",  "rows_search", "fail_build",
+                                                "rows_build", "open",        "take",         "salvage"};
 
-/* the slices that an entry may be lent; input is the word, or the file of load and search_file; text is also the piece of take, and finds
-   are also the starts of salvage */
-enum slice { INPUT, TEXT, ROOM, OUT, TABLES, FINDS, SEARCHER, RIDE_KINDS, SLICES };
+/* the slices that an entry may be lent; input is the word, or the file of load and search_file; text is also the piece of take, tables are
+   also the targets of compact rows, and finds are also the starts of salvage */
+enum slice { INPUT, TEXT, ROOM, OUT, TABLES, FINDS, SEARCHER, RIDE_KINDS, SETS, SLICES };
 
-static const char *const slice_name[SLICES] = {"word or file", "text or piece", "word room", "output",
-                                               "tables",       "list",          "searcher",  "kinds"};
+static const char *const slice_name[SLICES] = {"word or file", "text or piece", "word room", "output", "tables",
+                                               "list",         "searcher",      "kinds",     "sets"};
 
-static const size_t slice_width[SLICES] = {1, 1, 1, 1, sizeof(uint16_t), sizeof(uint32_t), 1, 1};
+static const size_t slice_width[SLICES] = {1, 1, 1, 1, sizeof(uint16_t), sizeof(uint32_t), 1, 1, sizeof(uint64_t)};
 
 static const unsigned lent_slices[ENTRIES] = {
     1 << INPUT | 1 << TABLES,
@@ -35,7 +52,9 @@ static const unsigned lent_slices[ENTRIES] = {
     1 << INPUT | 1 << TEXT | 1 << TABLES | 1 << FINDS,
     1 << INPUT | 1 << TEXT | 1 << ROOM | 1 << TABLES | 1 << FINDS,
     1 << INPUT | 1 << TEXT | 1 << TABLES | 1 << FINDS,
+    1 << INPUT | 1 << TEXT | 1 << TABLES | 1 << FINDS | 1 << SETS,
     1 << INPUT | 1 << TABLES,
+    1 << INPUT | 1 << TABLES | 1 << SETS,
     1 << INPUT | 1 << SEARCHER,
     1 << TEXT | 1 << FINDS | 1 << SEARCHER,
     1 << TEXT | 1 << TABLES | 1 << FINDS | 1 << RIDE_KINDS,
@@ -55,6 +74,8 @@ static const unsigned can_give[ENTRIES] = {
     1 << 0 | 1 << 1 | 1 << 2 | 1 << 3 | 1 << 4,
     1 << 0 | 1 << 3 | 1 << 4 | 0xFE0 | 1 << 13,
     1 << 0 | 1 << 1 | 1 << 2 | 1 << 3 | 1 << 4,
+    1 << 0 | 1 << 1 | 1 << 2 | 1 << 3 | 1 << 4,
+    1 << 0 | 1 << 1 | 1 << 2 | 1 << 3,
     1 << 0 | 1 << 1 | 1 << 2 | 1 << 3,
     1 << 0 | 1 << 1 | 1 << 2 | 1 << 3,
     1 << 0 | 1 << 4 | 1 << 16,
@@ -69,10 +90,21 @@ static bool makes_failure_oracle(enum entry entry)
     return entry == FAILURE_SEARCH || entry == FAILURE_BUILD;
 }
 
+static bool makes_rows(enum entry entry)
+{
+    return entry == COMPACT_SEARCH || entry == COMPACT_BUILD;
+}
+
 /* how many table entries an entry needs for a word of m letters */
 static size_t entries_for(enum entry entry, size_t m)
 {
-    return (makes_failure_oracle(entry) ? 10 : 6) * (m + 1);
+    return (makes_failure_oracle(entry) || makes_rows(entry) ? 10 : 6) * (m + 1);
+}
+
+/* how many words of 64 bits compact rows need beside them */
+static size_t sets_for(size_t m)
+{
+    return 4 * (m + 1);
 }
 
 /* an answer and an offset that no entry gives: what is handed over under the last pointers */
@@ -105,6 +137,17 @@ static size_t salvage_may_write(int slice, const size_t *len, uint64_t count)
     return count < fit ? (size_t)count : fit;
 }
 
+/* How many of the elements that it is lent an entry of compact rows may write when it succeeds: those of the form, and of the list as many
+   as there are finds. */
+static size_t rows_may_write(enum entry entry, int slice, const size_t *len, uint64_t count)
+{
+    if (slice == SETS)
+        return shorter(len[SETS], sets_for(len[INPUT]));
+    if (slice == TABLES)
+        return shorter(len[TABLES], entries_for(entry, len[INPUT]));
+    return count < len[slice] ? (size_t)count : len[slice];
+}
+
 /* How many of the elements that a slice is lent an entry may write when it answers so: none of an input, those of the searcher itself and
    no byte behind it, and none beside a refusal that changes nothing. */
 static size_t may_write(enum entry entry, int slice, const size_t *len, const struct outcome *o)
@@ -113,6 +156,8 @@ static size_t may_write(enum entry entry, int slice, const size_t *len, const st
         return 0;
     if (entry == SALVAGE)
         return salvage_may_write(slice, len, o->answer[0]);
+    if (makes_rows(entry))
+        return rows_may_write(entry, slice, len, o->answer[0]);
     return slice == SEARCHER ? shorter(len[SEARCHER], SEARCHER_BYTES) : len[slice];
 }
 
@@ -193,6 +238,10 @@ static const char *wrong_in_itself(enum entry entry, const struct outcome *o, co
         return "both sides read more than two letters for each of the text";
     if (entry == FAILURE_SEARCH && o->number == 0 && !failure_counts_can_be(o->answer[1], o->answer[2], len[INPUT], len[TEXT]))
         return "both sides count letters or failure arrows that no failure search reads or takes";
+    if (entry == COMPACT_SEARCH && o->number == 0 && !failure_counts_can_be(o->answer[1], 0, len[INPUT], len[TEXT]))
+        return "both sides count letters that no search reads";
+    if (entry == COMPACT_BUILD && o->number == 0 && o->answer[0] != len[INPUT])
+        return "both sides build compact rows of other letters than there are";
     return NULL;
 }
 
@@ -359,6 +408,62 @@ static const char *wrong_failure_table(const uint16_t *table, const uint8_t *wor
     return NULL;
 }
 
+/* ---- compact rows, read as they are laid out, and the first form, read by the rule of docs/TABLE.md ---- */
+
+/* one more arrow of a state, which leads to another state, in the place of one on the same letter */
+static void read_arrow(const uint16_t *table, size_t state, uint64_t set[4], unsigned to[256])
+{
+    unsigned letter = table[state] % 256;
+    set[letter / 64] |= UINT64_C(1) << letter % 64;
+    to[letter] = (unsigned)state;
+}
+
+/* The letters on which an arrow leaves a state by the first form, as a set of 256 bits, and where each of these leads. Of two extra arrows
+   on a letter the first is taken, and the spine before both. */
+static void read_first_form(const uint16_t *table, size_t m, size_t x, uint64_t set[4], unsigned to[256])
+{
+    const uint16_t *start = table + 2 * (m + 1), *target = table + 3 * (m + 1);
+    memset(set, 0, 4 * sizeof *set);
+    if (x >= m)
+        return;
+    for (size_t s = start[x + 1]; s-- > start[x];)
+        read_arrow(table, target[s], set, to);
+    read_arrow(table, x + 1, set, to);
+}
+
+/* What compact rows cannot be, whatever the other side says, where the first form of the same oracle is this; NULL where they can be. All
+   256 letters of a state are compared at once; the target of each that has an arrow is found by counting the ones below it. */
+static const char *wrong_rows(const uint64_t *sets, const uint16_t *targets, const uint16_t *first, size_t m)
+{
+    size_t n = m + 1, ones = 0;
+    uint64_t set[4];
+    unsigned to[256];
+    if (memcmp(targets, first, 2 * n * sizeof *first) != 0)
+        return "both sides leave compact rows with other letters or supplies than the first form has";
+    for (size_t x = 0; x <= m; x++) {
+        const uint16_t *counts = targets + 4 * n + 4 * x;
+        size_t below = 0;
+        read_first_form(first, m, x, set, to);
+        if (memcmp(sets + 4 * x, set, sizeof set) != 0)
+            return "both sides leave compact rows with other letters at a state than the first form has";
+        for (unsigned k = 0; k < 4; k++) {
+            if (counts[k] != ones)
+                return "both sides leave compact rows with a word before which there are not so many ones";
+            for (unsigned d = 0; d < 64 && set[k] >> d != 0; d++)
+                if (set[k] >> d & 1) {
+                    if (targets[8 * n + counts[0] + below] != to[64 * k + d])
+                        return "both sides leave compact rows with another target than the first form has";
+                    below++;
+                    ones++;
+                }
+        }
+    }
+    for (size_t i = 2 * n; i < 10 * n; i++)
+        if ((i < 4 * n || i >= 8 * n + ones) && targets[i] != 0)
+            return "both sides leave compact rows with an entry that is to be zero";
+    return NULL;
+}
+
 #define ASK(SIDE)                                                                                                                          \
     static struct outcome ask_##SIDE(enum entry entry, const struct lent *l) {                                                             \
         struct outcome o = {99, {UNTOUCHED, UNTOUCHED, UNTOUCHED}, UNTOUCHED};                                                             \
@@ -385,7 +490,14 @@ static const char *wrong_failure_table(const uint16_t *table, const uint8_t *wor
             o.number =                                                                                                                     \
                 SIDE##_failure_search(input, input_len, text, text_len, tables, tables_len, l->at[FINDS], l->len[FINDS], a, b, c);         \
             break;                                                                                                                         \
+        case COMPACT_SEARCH:                                                                                                               \
+            o.number = SIDE##_compact_search(input, input_len, text, text_len, l->at[SETS], l->len[SETS], tables, tables_len,              \
+                                             l->at[FINDS], l->len[FINDS], a, b);                                                           \
+            break;                                                                                                                         \
         case FAILURE_BUILD: o.number = SIDE##_failure_build(input, input_len, tables, tables_len, a); break;                               \
+        case COMPACT_BUILD:                                                                                                                \
+            o.number = SIDE##_compact_build(input, input_len, l->at[SETS], l->len[SETS], tables, tables_len, a);                           \
+            break;                                                                                                                         \
         case OPEN: o.number = SIDE##_open(input, input_len, l->at[SEARCHER], l->len[SEARCHER]); break;                                     \
         case TAKE: o.number = SIDE##_take(l->at[SEARCHER], l->len[SEARCHER], text, text_len, l->at[FINDS], l->len[FINDS], a); break;       \
         case SALVAGE:                                                                                                                      \

@@ -1,4 +1,4 @@
-/* A target for a coverage-guided fuzzer (libFuzzer): its bytes become one call of one of the twelve entries, which the proved library and
+/* A target for a coverage-guided fuzzer (libFuzzer): its bytes become one call of one of the fourteen entries, which the proved library and
    the second implementation both answer; whole outcomes must agree.
 
    What sees a stray access: the second implementation and this file are compiled with AddressSanitizer and UndefinedBehaviorSanitizer,
@@ -13,7 +13,8 @@
      slip 33: the library's tables are lent one entry too far up, so that it writes past the edge
      slip 34: the library's text is lent one byte too far up, so that it reads past the edge
      slip 70: the library's searcher is lent one byte too far up, so that it reads past the edge
-     slip 358: the library's kinds are lent one byte too far up, so that it writes past the edge */
+     slip 358: the library's kinds are lent one byte too far up, so that it writes past the edge
+     slip 395: the library's sets are lent one word too far up, so that it writes past the edge */
 #define _GNU_SOURCE
 #include "entries.h"
 
@@ -26,7 +27,7 @@
 #define SLIP 0
 #endif
 
-enum { MOST_INPUT = MOST_FILE, ROOM_BYTES = 131072, LONGEST_STRETCHED = 65536, BESIDE = 256 };
+enum { MOST_INPUT = MOST_FILE, ROOM_BYTES = 262144, LONGEST_STRETCHED = 65536, BESIDE = 256 };
 
 /* ---- memory for the library: between two inaccessible pages ---- */
 
@@ -105,7 +106,7 @@ static void lend_library(const struct asked *a, int s, struct lent *l)
     for (size_t i = 0; i < bytes; i++)
         region[s].write[region[s].at + i] = before(a, s, i);
     bool slips = (SLIP == 33 && s == TABLES) || (SLIP == 34 && s == TEXT) || (SLIP == 70 && s == SEARCHER);
-    slips = slips || (SLIP == 358 && s == RIDE_KINDS);
+    slips = slips || (SLIP == 358 && s == RIDE_KINDS) || (SLIP == 395 && s == SETS);
     l->at[s] = a->nulls && bytes == 0 ? NULL : region[s].lent + region[s].at + (slips && !a->front ? slice_width[s] : 0);
 }
 
@@ -168,6 +169,22 @@ static const char *wrong_with_failure(const struct asked *a, const struct lent *
     return wrong_failure_table(l->at[TABLES], l->at[INPUT], l->len[INPUT], a->entry == FAILURE_SEARCH);
 }
 
+/* what is wrong with compact rows, or with the answers of a search with them, after success on the second side, beside its own first form;
+   NULL for nothing */
+static const char *wrong_with_rows(const struct asked *a, const struct lent *l, const struct outcome *o)
+{
+    static uint16_t first[6 * (MOST_LETTERS + 1)];
+    struct lent by_first = *l;
+    by_first.at[TABLES] = first;
+    by_first.len[TABLES] = sizeof first / sizeof *first;
+    if (a->entry == COMPACT_SEARCH && !lists_places(l, o->answer[0]))
+        return "both sides find other places than those where the word stands";
+    struct outcome right = ask_second(a->entry == COMPACT_SEARCH ? SEARCH : BUILD, &by_first);
+    if (!same_outcome(o, &right))
+        return "both sides answer otherwise with compact rows than with the first form";
+    return wrong_rows(l->at[SETS], l->at[TABLES], first, l->len[INPUT]);
+}
+
 /* whether the check of edition 2 is as it should be in a file that was written, or as the answer to one that was read says; found by
    dividing */
 static bool check_agrees(enum entry entry, const struct lent *l, const struct outcome *o)
@@ -207,6 +224,8 @@ static void call_both(const struct asked *a)
         stop(a, "both sides list other rides than those whose headers are in the text", -1, &m, &o);
     if (makes_failure_oracle(a->entry) && m.number == 0 && (wrong = wrong_with_failure(a, &second, &o)) != NULL)
         stop(a, wrong, -1, &m, &o);
+    if (makes_rows(a->entry) && m.number == 0 && (wrong = wrong_with_rows(a, &second, &o)) != NULL)
+        stop(a, wrong, -1, &m, &o);
     for (int s = 0; s < SLICES; s++)
         if (is_lent(a, s))
             free(second.at[s]);
@@ -214,12 +233,12 @@ static void call_both(const struct asked *a)
 
 /* ---- from the fuzzer's bytes to a call ---- */
 
-/* the head: which call; flags; choices of tables, of word room or kinds, of output or searcher or a long or made text's length, and list;
-   length of word, file or searcher, two bytes */
+/* the head: which call; flags; choices of tables, of word room or kinds or sets, of output or searcher or a long or made text's length, and
+   list; length of word, file or searcher, two bytes */
 enum { WHICH, FLAGS, TABLES_CHOICE, ROOM_CHOICE, OUT_CHOICE, LIST, INPUT_LOW, INPUT_HIGH, HEAD };
 
-/* the calls: twelve entries on what is there; two on the file of a word in either edition, and one on the searcher of a word, changed at a
-   few places; two on a file that is there but for its check; one on a text that is made of rides and headers, as is said there */
+/* the calls: fourteen entries on what is there; two on the file of a word in either edition, and one on the searcher of a word, changed at
+   a few places; two on a file that is there but for its check; one on a text that is made of rides and headers, as is said there */
 enum {
     LOAD_CHANGED = ENTRIES,
     SEARCH_FILE_CHANGED,
@@ -417,12 +436,12 @@ static void understand_rides(const uint8_t *data, size_t size, unsigned call, st
 /* flags that ask for a long text */
 enum { STRETCHED = 0x0C };
 
-/* The fuzzer's text over and over, until it is long for the word, or all but a letter, or longer by up to 254. It stays as it is where it
-   is empty or so long already, or where the room is too small. */
+/* The fuzzer's text over and over, until it is long for the word, or for compact rows, or all but a letter, or longer by up to 254. It
+   stays as it is where it is empty or so long already, or where the room is too small. */
 static void stretch_text(struct asked *a, size_t m, uint8_t choice)
 {
     static uint8_t text[LONGEST_STRETCHED];
-    size_t own = a->len[TEXT], n = long_from(m) - 1 + (choice + 1u) % 256;
+    size_t own = a->len[TEXT], n = (makes_rows(a->entry) ? LONG_FOR_ROWS : long_from(m)) - 1 + (choice + 1u) % 256;
     if (own == 0 || own >= n || n > LONGEST_STRETCHED)
         return;
     for (size_t i = 0; i < n; i++)
@@ -450,10 +469,11 @@ static void understand(const uint8_t *data, size_t size, struct asked *a)
     a->len[OUT] = chosen(has_file ? file_in(a->entry == SAVE ? 1 : 2, data + HEAD, m, file) : 12, data[OUT_CHOICE]);
     a->len[FINDS] = data[LIST];
     a->len[RIDE_KINDS] = chosen(data[LIST], data[ROOM_CHOICE]);
+    a->len[SETS] = chosen(sets_for(m), data[ROOM_CHOICE]) % (ROOM_BYTES / 8);
     a->fill = data[FLAGS];
     a->front = data[FLAGS] & 1;
     a->nulls = data[FLAGS] & 2;
-    bool searches = a->entry == SEARCH || a->entry == TURBO || a->entry == FAILURE_SEARCH || a->entry == SEARCH_FILE;
+    bool searches = a->entry >= SEARCH && a->entry <= COMPACT_SEARCH;
     if ((data[FLAGS] & STRETCHED) == STRETCHED && (searches || a->entry == SALVAGE))
         stretch_text(a, m, data[OUT_CHOICE]);
     a->whole = (data[FLAGS] & 0xF0) == 0xF0 && (lent_slices[a->entry] & 1 << TEXT);
@@ -466,7 +486,7 @@ static void understand(const uint8_t *data, size_t size, struct asked *a)
 static const char *seed_dir;
 static unsigned seeds;
 
-/* the tables, and with them word room and output, by choice */
+/* the tables by choice, and word room, sets and output */
 static void seed_in(uint8_t tables, uint8_t room, unsigned call, uint8_t flags, const uint8_t *input, size_t input_len, const uint8_t *tail,
                     size_t tail_len)
 {
@@ -601,6 +621,9 @@ static void seed_word(const uint8_t *word, size_t m)
     seed(FAILURE_BUILD, 0, word, m, text, 0);
     seed(FAILURE_SEARCH, 0, word, m, text, n);
     seed(FAILURE_SEARCH, 0xF0, word, m, text, 0);
+    seed(COMPACT_BUILD, 1, word, m, text, 0);
+    seed(COMPACT_SEARCH, 0, word, m, text, n);
+    seed(COMPACT_SEARCH, 0xF0, word, m, text, 0);
     if (size > 0 && m <= MOST_STREAMED)
         seed_stream(word, m);
     if (size == 0)
@@ -677,6 +700,7 @@ static void seed_periodic(size_t m, size_t period)
     seed(SEARCH, 0, text, m, text, n);
     seed(TURBO, 1, text, m, text, n);
     seed(FAILURE_SEARCH, 0, text, m, text, n);
+    seed(COMPACT_SEARCH, 1, text, m, text, n);
     seed(SEARCH_FILE, 1, file, file_of(mirrored, m, file), text, n);
     seed(SEARCH_FILE, 0, file, checked_file_of(mirrored, m, file), text, n);
 }
@@ -733,6 +757,7 @@ static void seed_stretched(size_t m)
         seed(SEARCH, STRETCHED, word, m, text, 8 * m);
         seed(TURBO, STRETCHED + 1, word, m, text, 8 * m);
         seed(FAILURE_SEARCH, STRETCHED, word, m, text, 8 * m);
+        seed(COMPACT_SEARCH, STRETCHED + 1, word, m, text, 8 * m);
         seed(SEARCH_FILE, STRETCHED, file, file_of(mirrored, m, file), text, 8 * m);
         seed(SEARCH_FILE, STRETCHED + 1, file, checked_file_of(mirrored, m, file), text, 8 * m);
         seed(SEARCH, STRETCHED + 1, word, m, word, m);
@@ -758,6 +783,52 @@ static void seed_read_whole(const char *word, const char *window)
     seed(FAILURE_SEARCH, 1, w, m, text, 2 * m);
     seed(FAILURE_SEARCH, STRETCHED, w, m, text, 2 * m);
     seed(FAILURE_BUILD, 0, w, m, text, 0);
+}
+
+/* a word's compact rows in every choice of targets and sets, where no room is a null pointer; a search with them in the word and its
+   mirror, and in a text that is too long */
+static void seed_rooms_of_rows(const uint8_t *word, size_t m)
+{
+    uint8_t text[2 * MOST_STREAMED];
+    size_t n = seed_text(word, m, text);
+    for (uint8_t c = 0; c < CHOICES * CHOICES; c++) {
+        seed_in(c % CHOICES, c / CHOICES, COMPACT_BUILD, 2 + c % 2, word, m, text, 0);
+        seed_in(c % CHOICES, c / CHOICES, COMPACT_SEARCH, 2 + c % 2, word, m, text, n);
+        seed_in(c % CHOICES, c / CHOICES, COMPACT_SEARCH, 0xF0 + c % 2, word, m, text, 0);
+    }
+}
+
+/* a word's compact rows, and a search with them in the word and its mirror, as these are, and over and over until that is long */
+static void seed_rows(const uint8_t *word, size_t m)
+{
+    uint8_t text[2 * MOST_LETTERS];
+    size_t n = seed_text(word, m, text);
+    seed(COMPACT_BUILD, 0, word, m, text, 0);
+    seed(COMPACT_SEARCH, 1, word, m, text, n);
+    seed(COMPACT_SEARCH, STRETCHED, word, m, text, n);
+    seed_in(EXACT, LONGER, COMPACT_SEARCH, STRETCHED + 1, word, m, text, n);
+}
+
+/* words of the letters at the borders of 64; then of so many letters that differ, rising, falling and by a step, once and then by chance */
+static void seed_letters(void)
+{
+    static const uint8_t borders[] = {0, 63, 64, 127, 128, 191, 192, 255, 0, 255, 64, 63, 192, 128, 191, 127, 255, 0};
+    static const size_t distinct[] = {2, 31, 32, 33, 63, 64, 65, 128, 255, 256};
+    uint8_t word[600];
+    uint32_t state = 7;
+    seed_rooms_of_rows((const uint8_t *)"abbbaab", 7);
+    seed_rooms_of_rows((const uint8_t *)"a", 1);
+    for (size_t m = 2; m <= sizeof borders; m += 4)
+        seed_rows(borders, m);
+    for (size_t d = 0; d < sizeof distinct / sizeof *distinct; d++)
+        for (size_t step = 1; step < 256; step += step == 1 ? 100 : 154) {
+            for (size_t i = 0; i < 2 * distinct[d] + 40; i++) {
+                state = state * 1664525 + 1013904223;
+                word[i] = (uint8_t)((i < distinct[d] ? i : (state >> 24) % distinct[d]) * step);
+            }
+            seed_rows(word, distinct[d]);
+            seed_rows(word, 2 * distinct[d] + 40);
+        }
 }
 
 static void seed_hex(const char *hex)
@@ -969,6 +1040,7 @@ static void write_seeds(void)
     for (size_t i = 0; i < sizeof read_whole / sizeof *read_whole; i++)
         seed_read_whole(read_whole[i][0], read_whole[i][1]);
     seed_spellings((const uint8_t *)"abbbaab", 7);
+    seed_letters();
     seed_rides();
     for (size_t i = 0; i < sizeof periodic / sizeof *periodic; i++)
         seed_periodic(periodic[i][0], periodic[i][1]);

@@ -1,8 +1,9 @@
 /* The second implementation: what an oracle is by the suffix rule, a supply by 001's definition, an occurrence by comparing bytes at
    each place, a border by comparing the word's beginning with its end, the letters read by going through the published steps, what a
    stream, or a text read so far, ends with by comparing the word's beginnings, the longest first; a failure oracle is the list of the
-   arrows that its rule adds, in their order; a file's check goes through its bits; a ride is looked for at every place of the text. Nothing
-   here is clever, so that it can be held against the scope document and the requests line by line.
+   arrows that its rule adds, in their order; compact rows are written letter by letter from the oracle's arrows, and searched with by
+   counting ones; a file's check goes through its bits; a ride is looked for at every place of the text. Nothing here is clever, so that it
+   can be held against the scope document and the requests line by line.
 
    Compiled with -DSLIP=n it has one mistake on purpose, to show that the comparison finds it (tools/second-opinion --slips). The mistakes:
      slip 1: the letters of a file are asked for after the rooms (5 and 3 exchanged)
@@ -314,8 +315,35 @@
      slip 345: the only .FIT of a text is lost where it is across a multiple of 4,096
      slip 346: at most 255 rides are counted
      slip 347: rides are counted in 16 bits
+     slip 359: where a target is looked for in compact rows, the letter itself is counted among the ones below it
+     slip 360: where a target is looked for in compact rows, the ones of the state's lower words are not counted
+     slip 361: in compact rows the four words of a state stand the other way round
+     slip 362: in compact rows the sets leave out the spine
+     slip 363: in compact rows the targets of a state rise, whatever their letters
+     slip 364: in compact rows the ones are counted anew for each state
+     slip 365: in compact rows a word's own ones are counted among those before it
+     slip 366: in compact rows the last bit of each word stays zero
+     slip 367: compact rows judge 3 by the targets alone
+     slip 368: compact rows judge 3 by the sets alone
+     slip 369: the search with compact rows judges 3 before 4
+     slip 370: building compact rows judges 3 before 2
+     slip 371: the search with compact rows leaves those of the word and not of its mirror
+     slip 372: the search with compact rows walks along those of the word and not of its mirror
+     slip 373: compact rows clear a word behind the sets
+     slip 374: compact rows clear an entry behind the targets
+     slip 375: compact rows leave out the supplies
+     slip 376: compact rows keep what stood in rows 2 and 3
+     slip 377: compact rows keep what stood behind the last target
+     slip 378: compact rows clear the sets where only the targets have too little room
+     slip 379: the search with compact rows answers a short text before the rooms are filled
+     slip 380: the search with compact rows takes a text one byte too long
+     slip 381: compact rows take the length of the sets in 32 bits
+     slip 382: compact rows take the length of the targets in 16 bits
+     slip 383: in a long text the search with compact rows does not count a letter of a short window behind a deep one
+     slip 384: in a long text the search with compact rows reads a letter more for a word with one state too many for 1,024 entries
    slip 31, slip 32, slip 67, slip 68, slip 69, slip 84, slip 85, slip 116 to slip 120, slip 140 to slip 144, slip 182 to slip 190,
-   slip 231 to slip 239 and slip 348 to slip 357 stand in compare.c, slip 33, slip 34, slip 70 and slip 358 in fuzz.c. */
+   slip 231 to slip 239, slip 348 to slip 357 and slip 385 to slip 394 stand in compare.c, slip 33, slip 34, slip 70, slip 358 and slip 395
+   in fuzz.c. */
 #include "second.h"
 
 #include <stdbool.h>
@@ -456,6 +484,107 @@ static void write_tables(const uint8_t *p, size_t m, uint16_t *tables)
             e++;
         }
     }
+}
+
+/* ---- compact rows: the same oracle in sets of letters, and all its targets in one row ---- */
+
+struct rows {
+    uint64_t *sets;
+    uint16_t *targets;
+    size_t n; /* states */
+};
+
+static size_t words_of_sets(size_t m)
+{
+    return 4 * (m + 1);
+}
+
+static size_t entries_of_targets(size_t m)
+{
+    return 10 * (m + 1);
+}
+
+/* each step takes the lowest of them away */
+static size_t ones_in(uint64_t bits)
+{
+    size_t ones = 0;
+    for (; bits != 0; bits &= bits - 1)
+        ones++;
+    return ones;
+}
+
+/* Row 0 has the letters, row 1 the supplies, and what is not written afterwards is zero. */
+static void write_front_rows(const uint8_t *p, const struct rows *r)
+{
+    for (size_t i = 0; i < 10 * r->n; i++)
+        if (!(SLIP == 376 && i / r->n >= 2 && i / r->n <= 3) && !(SLIP == 377 && i / r->n >= 8))
+            r->targets[i] = 0;
+    for (size_t i = 1; i < r->n; i++) {
+        r->targets[i] = p[i - 1];
+        r->targets[r->n + i] = SLIP == 375 ? 0 : supply[i];
+    }
+}
+
+/* puts so many targets in order */
+static void slip_rising(uint16_t *targets, size_t many)
+{
+    for (size_t i = 0; i < many; i++)
+        for (size_t k = i; k > 0 && targets[k - 1] > targets[k]; k--) {
+            uint16_t lower = targets[k];
+            targets[k] = targets[k - 1];
+            targets[k - 1] = lower;
+        }
+}
+
+/* State by state and letter by letter: bit d of word 4x+k of the sets is the arrow from x on 64k+d; its target goes behind those so far, in
+   rows 8 and 9. */
+static void write_arrows(const struct rows *r)
+{
+    size_t many = 0;
+    for (unsigned x = 0; x < r->n; x++) {
+        size_t before = many;
+        for (unsigned letter = 0; letter < 256; letter++) {
+            unsigned target = arrow(x, (uint8_t)letter), k = SLIP == 361 ? 3 - letter / 64 : letter / 64;
+            if (target == 0 || (SLIP == 362 && target == x + 1) || (SLIP == 366 && letter % 64 == 63))
+                continue;
+            r->sets[4 * x + k] |= UINT64_C(1) << letter % 64;
+            r->targets[8 * r->n + many++] = (uint16_t)target;
+        }
+        if (SLIP == 363)
+            slip_rising(r->targets + 8 * r->n + before, many - before);
+    }
+}
+
+/* rows 4 to 7 have for each word of the sets how many ones the words before it have together */
+static void write_counts(const struct rows *r)
+{
+    size_t ones = 0;
+    for (size_t w = 0; w < 4 * r->n; w++) {
+        if (SLIP == 364 && w % 4 == 0)
+            ones = 0;
+        r->targets[4 * r->n + w] = (uint16_t)(ones + (SLIP == 365 ? ones_in(r->sets[w]) : 0));
+        ones += ones_in(r->sets[w]);
+    }
+}
+
+/* the oracle at hand, which is of these letters */
+static void write_rows(const uint8_t *p, const struct rows *r)
+{
+    clear(r->sets, 4 * r->n * sizeof *r->sets);
+    write_front_rows(p, r);
+    write_arrows(r);
+    write_counts(r);
+}
+
+/* Where the arrow of a state on a letter leads, 0 for none: its target stands behind those of the ones below it, which are counted up to
+   the letter's word already. */
+static unsigned rows_arrow(const struct rows *r, unsigned x, uint8_t letter)
+{
+    size_t word = 4 * x + letter / 64, ones = r->targets[4 * r->n + (SLIP == 360 ? 4 * x : word)];
+    uint64_t own = UINT64_C(1) << letter % 64, below = SLIP == 359 ? 2 * own - 1 : own - 1;
+    if ((r->sets[word] & own) == 0)
+        return 0;
+    return r->targets[8 * r->n + ones + ones_in(r->sets[word] & below)];
 }
 
 /* ---- the failure oracle at hand: one at a time, besides the other oracle ---- */
@@ -797,21 +926,40 @@ static size_t step_after_find(const uint8_t *word, size_t m)
     return m - border;
 }
 
-/* the letters that the published steps read, with the oracle at hand, which is of the mirror of the word */
-static uint64_t letters_read(const uint8_t *word, size_t m, const uint8_t *text, size_t n)
+static uint64_t changes_of_depth;
+
+uint64_t second_changes_of_depth(void)
+{
+    return changes_of_depth;
+}
+
+/* whether a window was read deep; counts those that were where the one before was not, or the other way round */
+static bool is_deep(size_t read, bool before)
+{
+    bool deep = read >= DEEP;
+    changes_of_depth += deep != before;
+    return deep;
+}
+
+/* The letters that the published steps read, with the oracle at hand, which is of the mirror of the word, or with compact rows of it. */
+static uint64_t letters_read(const uint8_t *word, size_t m, const uint8_t *text, size_t n, const struct rows *rows)
 {
     uint64_t letters = 0;
     size_t s = 0, after_find = step_after_find(word, m), late = 0;
+    bool long_for_rows = rows != NULL && n >= LONG_FOR_ROWS, deep = false;
     while (s + m <= n) {
         unsigned state = 0;
         size_t unread = m; /* the letter to read next stands at s + unread - 1 */
         while (unread > 0) {
+            uint8_t letter = text[s + unread - 1];
             letters++;
-            state = arrow(state, text[s + unread - 1]);
+            state = rows != NULL ? rows_arrow(rows, state, letter) : arrow(state, letter);
             if (state == 0)
                 break;
             unread--;
         }
+        letters -= SLIP == 383 && deep && m - unread < DEEP;
+        deep = long_for_rows && is_deep(m - unread, deep);
         if (SLIP == 6 && unread > 0)
             letters--;
         letters -= SLIP == 148 && m > 32 && n >= long_from(m) && late >= 16 && unread > 1;
@@ -1367,7 +1515,7 @@ static uint64_t take_piece(uint8_t *searcher, const uint8_t *piece, size_t piece
     return SLIP == 60 && count > finds_len ? finds_len : count;
 }
 
-/* ---- the twelve entries ---- */
+/* ---- the fourteen entries ---- */
 
 uint32_t second_build(const uint8_t *word, size_t word_len, uint16_t *tables, size_t tables_len, uint64_t *m)
 {
@@ -1509,7 +1657,7 @@ uint32_t second_search(const uint8_t *word, size_t word_len, const uint8_t *text
     if (SLIP != 17 && !(SLIP == 29 && text_len < word_len))
         write_tables(mirrored, word_len, tables);
     *count = list_occurrences(word, word_len, text, searched(word_len, text_len), 0, finds, finds_len);
-    *letters = letters_read(word, word_len, text, text_len);
+    *letters = letters_read(word, word_len, text, text_len, NULL);
     return 0;
 }
 
@@ -1582,7 +1730,7 @@ uint32_t second_search_file(const uint8_t *file, size_t file_len, const uint8_t 
         return no;
     mirror(room, m, sought); /* the oracle at hand is of the file's word, so of the mirror of what is sought */
     *count = list_occurrences(SLIP == 28 ? room : sought, m, text, searched(m, text_len), 0, finds, finds_len);
-    *letters = letters_read(sought, m, text, text_len);
+    *letters = letters_read(sought, m, text, text_len, NULL);
     return 0;
 }
 
@@ -1641,6 +1789,98 @@ uint32_t second_failure_search(const uint8_t *word, size_t word_len, const uint8
     *count = f.count;
     *letters = SLIP == 181 ? f.failures : f.letters;
     *failures = SLIP == 181 ? f.letters : f.failures;
+    return 0;
+}
+
+/* whether either room of compact rows is too short */
+static bool too_short_for_rows(size_t m, size_t sets_len, size_t targets_len)
+{
+    bool sets = (SLIP == 381 ? (uint32_t)sets_len : sets_len) < words_of_sets(m);
+    bool targets = (SLIP == 382 ? (uint16_t)targets_len : targets_len) < entries_of_targets(m);
+    return (sets && SLIP != 367) || (targets && SLIP != 368);
+}
+
+/* the mistake of a refusal that changes something */
+static void slip_short_targets(size_t m, uint64_t *sets, size_t sets_len)
+{
+    if (SLIP == 378 && sets_len >= words_of_sets(m))
+        clear(sets, words_of_sets(m) * sizeof *sets);
+}
+
+/* the compact rows of the letters, in both rooms, which are long enough but for mistakes on purpose */
+static void leave_rows(const uint8_t *p, size_t m, const struct rows *r, size_t sets_len, size_t targets_len)
+{
+    make_oracle(p, m);
+    if (sets_len < words_of_sets(m) || targets_len < entries_of_targets(m))
+        return;
+    write_rows(p, r);
+    if (SLIP == 373 && sets_len > words_of_sets(m))
+        r->sets[words_of_sets(m)] = 0;
+    if (SLIP == 374 && targets_len > entries_of_targets(m))
+        r->targets[entries_of_targets(m)] = 0;
+}
+
+uint32_t second_compact_build(const uint8_t *word, size_t word_len, uint64_t *sets, size_t sets_len, uint16_t *targets, size_t targets_len,
+                              uint64_t *m)
+{
+    struct rows rows = {.sets = sets, .targets = targets, .n = word_len + 1};
+    if (word_len == 0)
+        return 1;
+    if (SLIP == 370 && too_short_for_rows(word_len, sets_len, targets_len))
+        return 3;
+    if (word_len > MOST_LETTERS)
+        return 2;
+    if (too_short_for_rows(word_len, sets_len, targets_len)) {
+        slip_short_targets(word_len, sets, sets_len);
+        return 3;
+    }
+    leave_rows(word, word_len, &rows, sets_len, targets_len);
+    *m = word_len;
+    return 0;
+}
+
+/* the refusals of the search with compact rows, in their order */
+static uint32_t refuse_compact_search(size_t word_len, size_t text_len, size_t sets_len, size_t targets_len)
+{
+    if (word_len == 0)
+        return 1;
+    if (word_len > MOST_LETTERS)
+        return 2;
+    bool too_short = too_short_for_rows(word_len, sets_len, targets_len);
+    if (SLIP == 369 && too_short)
+        return 3;
+    if (text_len > MOST_TEXT + (SLIP == 380))
+        return 4;
+    return too_short ? 3 : 0;
+}
+
+/* how many letters more are read than by the steps: none */
+static uint64_t slip_letters(const uint8_t *word, size_t m, size_t n)
+{
+    size_t distinct = 0;
+    for (size_t i = 0; i < m && SLIP == 384; i++)
+        distinct += memchr(word, word[i], i) == NULL;
+    return n >= LONG_FOR_ROWS && distinct * (m + 1) > PREPARED && distinct * m <= PREPARED;
+}
+
+uint32_t second_compact_search(const uint8_t *word, size_t word_len, const uint8_t *text, size_t text_len, uint64_t *sets, size_t sets_len,
+                               uint16_t *targets, size_t targets_len, uint32_t *finds, size_t finds_len, uint64_t *count,
+                               uint64_t *letters)
+{
+    uint8_t mirrored[MOST_LETTERS];
+    struct rows rows = {.sets = sets, .targets = targets, .n = word_len + 1};
+    uint32_t no = refuse_compact_search(word_len, text_len, sets_len, targets_len);
+    if (no == 3)
+        slip_short_targets(word_len, sets, sets_len);
+    if (no != 0)
+        return no;
+    mirror(word, word_len, mirrored);
+    if (SLIP != 379 || text_len >= word_len)
+        leave_rows(SLIP == 371 ? word : mirrored, word_len, &rows, sets_len, targets_len);
+    make_oracle(SLIP == 372 ? word : mirrored, word_len);
+    bool by_rows = SLIP < 367 || SLIP > 372; /* those mistakes have no rows of the mirror to walk along */
+    *count = list_occurrences(word, word_len, text, text_len, 0, finds, finds_len);
+    *letters = letters_read(word, word_len, text, text_len, by_rows ? &rows : NULL) + slip_letters(word, word_len, text_len);
     return 0;
 }
 

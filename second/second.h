@@ -1,4 +1,4 @@
-/* A second opinion on the library: the same twelve entries, written once more from the scope document and the requests, and from
+/* A second opinion on the library: the same fourteen entries, written once more from the scope document and the requests, and from
    docs/TABLE.md and docs/FILE.md where those leave the layout of the tables and of a searcher open, as plainly as can be.
    It shares no code and no definition with the proved library, is quadratic where that is simpler, and keeps its oracles in static
    memory (one caller at a time). Each answers the refusal's number, 0 for success; what is answered beside it goes through the last
@@ -33,6 +33,11 @@ static inline size_t long_from(size_t m)
 {
     return m > 16 ? 512 * m : 8192;
 }
+
+/* From how many letters on a text is long for a search with compact rows, whatever the word; for how many entries the library then prepares
+   arrows, by states and by the letters that the word has; and from how many letters on the reading of a window is deep. Only cases,
+   counters and mistakes on purpose look at these. */
+enum { LONG_FOR_ROWS = 8192, PREPARED = 1024, DEEP = 32 };
 
 /* Where a searcher has the word's letters, the longest border of each of the word's beginnings, how many letters the word has, how many
    of them are kept, and how many bytes were taken, low byte first. Kept is the longest beginning of the word, short of all of it, that
@@ -77,6 +82,16 @@ uint32_t second_failure_search(const uint8_t *word, size_t word_len, const uint8
 
 /* how many windows the search with a failure oracle has read to their first letter so far, in all calls, without a find there */
 uint64_t second_read_without_find(void);
+
+uint32_t second_compact_build(const uint8_t *word, size_t word_len, uint64_t *sets, size_t sets_len, uint16_t *targets, size_t targets_len,
+                              uint64_t *m);
+
+uint32_t second_compact_search(const uint8_t *word, size_t word_len, const uint8_t *text, size_t text_len, uint64_t *sets, size_t sets_len,
+                               uint16_t *targets, size_t targets_len, uint32_t *finds, size_t finds_len, uint64_t *count,
+                               uint64_t *letters);
+
+/* how many windows the search with compact rows has read deep behind one that was not, or the other way round, in long texts so far */
+uint64_t second_changes_of_depth(void);
 
 uint32_t second_salvage(const uint8_t *text, size_t text_len, uint16_t *tables, size_t tables_len, uint32_t *starts, size_t starts_len,
                         uint8_t *kinds, size_t kinds_len, uint64_t *count);

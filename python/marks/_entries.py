@@ -24,11 +24,12 @@ _SEARCHES = {
     "backward": (LIBRARY.marks_search, 2),
     "turbo": (LIBRARY.marks_turbo, 2),
     "failure": (LIBRARY.marks_failure_search, 3),
+    "compact": (LIBRARY.marks_compact_search, 2),
 }
 
 
 def room(kind: str, entries: int) -> "array[int]":
-    """Zeros, of a kind as the module array names it: B, H and I are 8, 16 and 32 bits."""
+    """Zeros, of a kind as the module array names it: B, H, I and Q are 8, 16, 32 and 64 bits."""
     return array(kind, bytes(entries * array(kind).itemsize))
 
 
@@ -40,6 +41,19 @@ def tables(letters: int) -> "array[int]":
 def failure_tables(letters: int) -> "array[int]":
     """The same for that of the failure oracle of a word."""
     return room("H", 10 * (min(letters, LONGEST_WORD) + 1))
+
+
+def compact_rows(letters: int) -> "Tuple[array[int], array[int]]":
+    """The same for the compact rows of a word: their sets, and their targets."""
+    states = min(letters, LONGEST_WORD) + 1
+    return room("Q", 4 * states), room("H", 10 * states)
+
+
+def rooms(engine: str, letters: int) -> "Tuple[array[int], ...]":
+    """What a search by an engine is lent for a word of so many letters, beside its list."""
+    if engine == "compact":
+        return compact_rows(letters)
+    return (failure_tables(letters) if engine == "failure" else tables(letters),)
 
 
 def _where(buffer: "Union[bytes, Lent, array[int]]") -> "Tuple[Union[bytes, int], int]":
@@ -75,10 +89,10 @@ def load(file: Lent) -> Tuple[bytes, Edition]:
     return word[:length].tobytes(), 2 if file.copy()[0] == 2 else 1
 
 
-def search(engine: str, word: bytes, text: Lent, table: "array[int]", finds: "array[int]") -> Tuple[int, int]:
-    """How many finds the text has, the first of them listed, and how many letters were read."""
+def search(engine: str, word: bytes, text: Lent, lent: "Tuple[array[int], ...]", finds: "array[int]") -> Tuple[int, int]:
+    """How many finds the text has, the first of them listed, and how many letters were read. What is lent is as `rooms` makes it."""
     entry, answers = _SEARCHES[engine]
-    count, letters, *_ = _asked(entry, word, text, table, finds, answers=answers)
+    count, letters, *_ = _asked(entry, word, text, *lent, finds, answers=answers)
     return count, letters
 
 

@@ -29,7 +29,7 @@ class Mark:
     itself, however short, "backward" for words and texts that you know. The finds are the same with each. "failure" walks the failure
     oracle, and is there for its fewer arrows and for comparing: of a word of m bytes that repeats itself up to m*m/2 letters are walked
     to make its table, 8.4 million for 4,096 bytes, for each part of a text again, and of a hostile text it may read m letters for each
-    place.
+    place. "compact" is "backward" with compact rows, the form for boards with little stack: it reads the same letters.
     """
 
     __slots__ = ("_word", "_engine", "_edition")

@@ -8,7 +8,7 @@ REFUSALS: Tuple[Tuple[int, str, str], ...] = (
     (2, "LongWord",
      "the word is longer than 4,096 bytes, or for a stream than 64"),
     (3, "ShortRoom",
-     "too little room lent: m letters need 6(m+1) table entries, a failure oracle 10(m+1), a file m bytes too, a stream 134"),
+     "too little room: 6(m+1) entries, failure oracle 10(m+1), compact rows that and 4(m+1) words, file m bytes, stream 134"),
     (4, "LongText",
      "the text is longer than 16,777,216 bytes, or the stream would be with this piece"),
     (5, "CutFile",

@@ -3,10 +3,10 @@ from array import array
 from itertools import chain
 from typing import Iterable, Iterator, Literal, Optional, Tuple, get_args
 
-from ._entries import LONGEST_TEXT, failure_tables, room, search, tables
+from ._entries import LONGEST_TEXT, room, rooms, search
 from ._lent import Lent
 
-Engine = Literal["auto", "backward", "turbo", "failure"]
+Engine = Literal["auto", "backward", "turbo", "failure", "compact"]
 ENGINES: Tuple[str, ...] = get_args(Engine)
 
 # The longest word that is searched for backward where strangers may have chosen it.
@@ -36,7 +36,8 @@ class Search:
         self._trying = engine == "auto" and len(word) <= _LONGEST_TRIED
         # that of the next part
         self._engine: str = engine if engine != "auto" else "backward" if self._trying else "turbo"
-        self._tables = failure_tables(len(word)) if engine == "failure" else tables(len(word))
+        # backward and turbo are lent the same
+        self._rooms = rooms(self._engine, len(word))
         self._places = max(_LEAST_LIST, _LIST_FOR_A_LETTER * len(word))
 
     def first(self, text: Lent, start: int) -> Optional[int]:
@@ -82,7 +83,7 @@ class Search:
         beyond = len(self._word) - 1
         end = min(at + self._places, len(text) - beyond)
         part = text.part(at, end + beyond)
-        found, letters = search(self._engine, self._word, part, self._tables, finds)
+        found, letters = search(self._engine, self._word, part, self._rooms, finds)
         if self._trying and letters > _FAIR * len(part):
             self._trying, self._engine = False, "turbo"
         return found, end

@@ -26,7 +26,7 @@ from marks._library import LIBRARY
 from marks._refusals import REFUSALS
 
 README = Path(__file__).resolve().parent.parent / "README.md"
-ENGINES = "auto", "backward", "turbo", "failure"
+ENGINES = "auto", "backward", "turbo", "failure", "compact"
 MEBI = 1 << 20
 
 
@@ -180,10 +180,22 @@ class Finds(unittest.TestCase):
 
     def test_each_engine_asks_the_entry_of_its_name(self):
         for engine, word, asked in (("backward", bytes(65), "backward"), ("turbo", b"RIDE", "turbo"), ("failure", b"RIDE", "failure"),
-                                    ("auto", b"RIDE", "backward"), ("auto", bytes(65), "turbo")):
+                                    ("compact", b"RIDE", "compact"), ("auto", b"RIDE", "backward"), ("auto", bytes(65), "turbo")):
             with mock.patch.object(_search, "search", side_effect=_entries.search) as search:
                 self.assertEqual(Mark(word, engine=engine).count(b"." * 9_999 + word), 1)
             self.assertEqual({call[0][0] for call in search.call_args_list}, {asked})
+
+    def test_compact_rows_read_the_letters_of_the_backward_search(self):
+        chance = random.Random(6)
+        for letters in 2, 4, 20, 256:
+            text = bytes(chance.randrange(letters) for _ in range(20_000))
+            for length in 1, 2, 9, 39, 300, 4096:
+                word, told = text[700:700 + length], {}
+                for engine in "backward", "compact":
+                    finds = _entries.room("I", 100)
+                    with _lent.Lent(text, "text") as lent:
+                        told[engine] = *_entries.search(engine, word, lent, _entries.rooms(engine, length), finds), finds
+                self.assertEqual(told["compact"], told["backward"], (letters, length))
 
     def test_the_failure_oracle_of_long_words(self):
         for word, text in ((bytes(4096), bytes(20_000)), (bytes(4095) + b"\1", bytes(20_000) + b"\1"), (b"ab" * 2048, b"ab" * 10_000)):
@@ -365,7 +377,7 @@ class Values(unittest.TestCase):
         self.assertLess(len(repr(Mark(bytes(4096)))), 160)
 
     def test_an_engine_that_there_is_not(self):
-        with self.assertRaisesRegex(ValueError, "no engine 'fast': it is one of auto, backward, turbo, failure"):
+        with self.assertRaisesRegex(ValueError, "no engine 'fast': it is one of auto, backward, turbo, failure, compact"):
             Mark(b"a", engine="fast")
 
 
@@ -578,10 +590,14 @@ class Refusals(unittest.TestCase):
         word, finds = b"ab", _entries.room("I", 0)
         text = _lent.Lent(bytes(16 * MEBI + 1), "text")
         for engine in ENGINES[1:]:
-            self.refuses(4, None, _entries.search, engine, word, text, _entries.failure_tables(2), finds)
+            self.refuses(4, None, _entries.search, engine, word, text, _entries.rooms(engine, 2), finds)
         for engine, entries in ("backward", 17), ("turbo", 17), ("failure", 29):
-            self.refuses(3, None, _entries.search, engine, word, _lent.Lent(b"ab", "text"), _entries.room("H", entries), finds)
+            self.refuses(3, None, _entries.search, engine, word, _lent.Lent(b"ab", "text"), (_entries.room("H", entries),), finds)
         self.refuses(3, None, lambda: _entries._asked(LIBRARY.marks_failure_build, word, _entries.room("H", 29), answers=1))
+        for words, entries in (11, 30), (12, 29), (0, 30), (12, 0):
+            lent = _entries.room("Q", words), _entries.room("H", entries)
+            self.refuses(3, None, lambda: _entries._asked(LIBRARY.marks_compact_build, word, *lent, answers=1))
+            self.refuses(3, None, _entries.search, "compact", word, _lent.Lent(b"ab", "text"), lent, finds)
         starts, kinds = _entries.room("I", 1), _entries.room("B", 1)
         self.refuses(4, None, _entries.salvage, text, starts, kinds)
         for given, entries, number in (text, 0, 4), (b"", 29, 3), (b"", 0, 3):
@@ -601,7 +617,17 @@ class Refusals(unittest.TestCase):
                                  (b"ababdbaacbdaba", b"abbbbbbbabdbaa", [0, 14, 3])):
             table = _entries.failure_tables(len(word))
             self.assertEqual(_entries._asked(LIBRARY.marks_failure_search, word, text, table, finds, answers=3), told)
-            self.assertEqual(_entries.search("failure", word, _lent.Lent(text, "text"), table, finds), tuple(told[:2]))
+            self.assertEqual(_entries.search("failure", word, _lent.Lent(text, "text"), (table,), finds), tuple(told[:2]))
+        self.assertEqual(finds.tolist(), [0, 2])
+
+    def test_what_the_entries_of_compact_rows_tell(self):
+        sets, targets = rows = _entries.compact_rows(9)
+        self.assertEqual(_entries._asked(LIBRARY.marks_compact_build, b"abcacdace", *rows, answers=1), [9])
+        # state 3 has arrows on a, d and e, and eight leave the states before it
+        self.assertEqual(sets[12:16].tolist(), [0, sum(1 << letter - 64 for letter in b"ade"), 0, 0])
+        self.assertEqual((targets[40 + 12], targets[80 + 8:80 + 11].tolist()), (8, [4, 6, 9]))
+        rows, finds = _entries.compact_rows(3), _entries.room("I", 2)
+        self.assertEqual(_entries._asked(LIBRARY.marks_compact_search, b"aba", b"ababa", *rows, finds, answers=2), [2, 6])
         self.assertEqual(finds.tolist(), [0, 2])
 
     def test_a_stream_that_was_tampered_with(self):

@@ -1,6 +1,6 @@
 //! Which search goes over a text, and for how long.
 
-use crate::{failure_table_room, table_room, LONGEST_TEXT};
+use crate::{compact_sets_room, compact_targets_room, failure_table_room, table_room, LONGEST_TEXT};
 
 /// The longest word that [`Engine::Auto`] searches for backward. With a longer one a hostile part would cost too much before it is noticed, and parts short
 /// enough would spend their time on the word's table, which is made again for each part.
@@ -22,8 +22,8 @@ const FAIR: u64 = 2;
 /// repeat themselves as the word does, like zeros where the word is 4,096 zeros.
 ///
 /// Stay with [`Auto`](Engine::Auto), and nobody has to know. [`Turbo`](Engine::Turbo) is for strangers' texts and marks where each text has to be linear by
-/// itself, however short; [`Backward`](Engine::Backward) is for texts and marks that you know. [`Failure`](Engine::Failure) is there for its fewer
-/// arrows and for comparing.
+/// itself, however short; [`Backward`](Engine::Backward) is for texts and marks that you know. [`Compact`](Engine::Compact) is that search for threads with
+/// little stack. [`Failure`](Engine::Failure) is there for its fewer arrows and for comparing.
 ///
 /// ```
 /// use marks::{Engine, Mark};
@@ -66,14 +66,39 @@ pub enum Engine {
     /// # Ok::<(), marks::Refusal>(())
     /// ```
     Failure,
+    /// The backward search with compact rows, for threads with little stack: finds and letters are those of [`Backward`](Engine::Backward). In a long text it
+    /// prepares some 3 KiB of stack, where that prepares some 42. Its rooms take 52 bytes for each letter of the word, and 52 more, where those of the
+    /// backward search take 12. Of a hostile text it may read m letters for each place.
+    ///
+    /// A board with so little memory that the lists of a [`Mark`](crate::Mark) are too long lends rooms of its own to
+    /// [`compact_search`](crate::entries::compact_search).
+    ///
+    /// ```
+    /// use marks::{Engine, Mark, Tally};
+    ///
+    /// let mark = Mark::new("aba")?.engine(Engine::Compact);
+    /// assert_eq!(mark.find_iter(b"ababa").collect::<Vec<_>>(), [0, 2]);
+    /// assert_eq!(mark.tally(b"ababa"), Tally { count: 2, letters: 6 });
+    /// # Ok::<(), marks::Refusal>(())
+    /// ```
+    Compact,
 }
 
 impl Engine {
-    /// How many entries its table takes, for a word of so many letters.
+    /// How many entries its table takes, for a word of so many letters; of compact rows it is the targets.
     pub(crate) fn table_room(self, letters: usize) -> usize {
         match self {
             Engine::Failure => failure_table_room(letters),
+            Engine::Compact => compact_targets_room(letters),
             _ => table_room(letters),
+        }
+    }
+
+    /// How many words its sets take, for a word of so many letters; only compact rows have any.
+    pub(crate) fn sets_room(self, letters: usize) -> usize {
+        match self {
+            Engine::Compact => compact_sets_room(letters),
+            _ => 0,
         }
     }
 

@@ -89,6 +89,29 @@ extern "C" {
         letters: *mut u64,
         failures: *mut u64,
     ) -> u32;
+    fn marks_compact_build(
+        word: *const u8,
+        word_len: usize,
+        sets: *mut u64,
+        sets_len: usize,
+        targets: *mut u16,
+        targets_len: usize,
+        m: *mut u64,
+    ) -> u32;
+    fn marks_compact_search(
+        word: *const u8,
+        word_len: usize,
+        text: *const u8,
+        text_len: usize,
+        sets: *mut u64,
+        sets_len: usize,
+        targets: *mut u16,
+        targets_len: usize,
+        finds: *mut u32,
+        finds_len: usize,
+        count: *mut u64,
+        letters: *mut u64,
+    ) -> u32;
     fn marks_open(word: *const u8, word_len: usize, searcher: *mut u8, searcher_len: usize) -> u32;
     fn marks_take(
         searcher: *mut u8,
@@ -198,7 +221,7 @@ pub struct Tally {
     pub letters: u64,
 }
 
-/// What the searches without failure arrows are for C.
+/// What the searches with the table of the oracle are for C.
 type SearchEntry = unsafe extern "C" fn(*const u8, usize, *const u8, usize, *mut u16, usize, *mut u32, usize, *mut u64, *mut u64) -> u32;
 
 fn searched(entry: SearchEntry, word: &[u8], text: &[u8], tables: &mut [u16], finds: &mut [u32]) -> Result<Tally, Refusal> {
@@ -338,6 +361,76 @@ pub fn failure_search(word: &[u8], text: &[u8], tables: &mut [u16], finds: &mut 
             &raw mut tally.count,
             &raw mut tally.letters,
             &raw mut tally.failures,
+        )
+    };
+    told(said, tally)
+}
+
+/// The oracle of a word as compact rows, a second form of what [`build`] makes, with the same arrows. The first 4(m+1) words of `sets` have for each state a
+/// set of 256 bits, the letters on which an arrow leaves it; the first 10(m+1) entries of `targets` have where they lead, all in one row: the target's place
+/// is found by counting the letters of the set that are below. The answer is m.
+///
+/// ```
+/// use marks::{compact_sets_room, compact_targets_room, entries};
+///
+/// let (mut sets, mut targets) = ([0; compact_sets_room(9)], [0; compact_targets_room(9)]);
+/// assert_eq!(entries::compact_build(b"abcacdace", &mut sets, &mut targets), Ok(9));
+///
+/// // the arrows from state 3 are on `a`, `d` and `e`, and eight leave the states before it
+/// let (n, x) = (10, 3);
+/// assert_eq!(sets[4 * x..4 * x + 4], [0, 1 << (b'a' - 64) | 1 << (b'd' - 64) | 1 << (b'e' - 64), 0, 0]);
+/// assert_eq!(targets[4 * n + 4 * x], 8);
+/// // one letter of the set is below `d`, so that of `d` is the second of its targets, which are 4, 6 and 9
+/// assert_eq!(targets[8 * n + 8 + 1], 6);
+/// ```
+///
+/// # Errors
+///
+/// The refusals 1, 2 and 3, the last where there are fewer words or fewer entries; they change nothing.
+pub fn compact_build(word: &[u8], sets: &mut [u64], targets: &mut [u16]) -> Result<usize, Refusal> {
+    let mut m = 0;
+    // SAFETY: `word`, `sets` and `targets` are slices, handed over with their lengths, and `m` is a local: what is written is borrowed here alone.
+    let said = unsafe {
+        marks_compact_build(word.as_ptr(), word.len(), sets.as_mut_ptr(), sets.len(), targets.as_mut_ptr(), targets.len(), &raw mut m)
+    };
+    told(said, m).map(size)
+}
+
+/// The same as [`search`], with the compact rows of the word's mirror, which take the first 4(m+1) words of `sets` and the first 10(m+1) entries of `targets`:
+/// finds, count and letters are those of [`search`]. It is for little stack: in a long text it prepares some 3 KiB there, where [`search`] prepares some 42.
+///
+/// ```
+/// use marks::entries::{compact_search, Tally};
+/// use marks::{compact_sets_room, compact_targets_room};
+///
+/// let (mut sets, mut targets, mut finds) = ([0; compact_sets_room(3)], [0; compact_targets_room(3)], [0; 2]);
+/// let told = compact_search(b"aba", b"ababa", &mut sets, &mut targets, &mut finds)?;
+/// assert_eq!(told, Tally { count: 2, letters: 6 });
+/// assert_eq!(finds, [0, 2]);
+/// # Ok::<(), marks::Refusal>(())
+/// ```
+///
+/// # Errors
+///
+/// The refusals 1, 2, 4 and 3, which change nothing.
+pub fn compact_search(word: &[u8], text: &[u8], sets: &mut [u64], targets: &mut [u16], finds: &mut [u32]) -> Result<Tally, Refusal> {
+    let mut tally = Tally::default();
+    // SAFETY: `word`, `text`, `sets`, `targets` and `finds` are slices, handed over with their lengths, and the tally is a local: what is written is borrowed
+    // here alone.
+    let said = unsafe {
+        marks_compact_search(
+            word.as_ptr(),
+            word.len(),
+            text.as_ptr(),
+            text.len(),
+            sets.as_mut_ptr(),
+            sets.len(),
+            targets.as_mut_ptr(),
+            targets.len(),
+            finds.as_mut_ptr(),
+            finds.len(),
+            &raw mut tally.count,
+            &raw mut tally.letters,
         )
     };
     told(said, tally)

@@ -14,8 +14,8 @@ use std::{
 /// byte at most; in reads of some length it is two, and those that two reads have in common again. [`Engine::Failure`] makes its
 /// table again for each of these reads.
 ///
-/// Memory is flat: some 320 KiB for a short word, 2.3 MiB for the longest, however much is read and found. Where a read fails, the finds before it come
-/// first, then the error, and then nothing more.
+/// Memory is flat: some 320 KiB for a short word, 2.3 MiB for the longest, 2.5 with [`Engine::Compact`], however much is read and found. Where a read fails,
+/// the finds before it come first, then the error, and then nothing more.
 ///
 /// ```
 /// use marks::Mark;

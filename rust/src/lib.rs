@@ -48,7 +48,7 @@
 //! ```
 //!
 //! What is refused is refused with a number of one table, [`Refusal`]; nothing panics, and no declared number is acted on before it is
-//! checked. A refused file comes with the offset at which it is broken, in a [`LoadError`]. [`entries`] has the twelve entries themselves,
+//! checked. A refused file comes with the offset at which it is broken, in a [`LoadError`]. [`entries`] has the fourteen entries themselves,
 //! over slices that the caller lends.
 
 #![deny(unsafe_code)]
@@ -114,6 +114,18 @@ pub const fn table_room(m: usize) -> usize {
 /// How many entries the table of the failure oracle of a word of m letters takes.
 #[must_use]
 pub const fn failure_table_room(m: usize) -> usize {
+    10 * (m + 1)
+}
+
+/// How many words of 64 bits the sets take in the compact rows of a word of m letters.
+#[must_use]
+pub const fn compact_sets_room(m: usize) -> usize {
+    4 * (m + 1)
+}
+
+/// How many entries the targets take in the compact rows of a word of m letters.
+#[must_use]
+pub const fn compact_targets_room(m: usize) -> usize {
     10 * (m + 1)
 }
 

@@ -18,6 +18,8 @@ pub(crate) struct Search {
     /// How many failure arrows were taken.
     failures: u64,
     tables: Vec<u16>,
+    /// The sets of compact rows, whose targets are the tables.
+    sets: Vec<u64>,
     list: Vec<u32>,
     /// The most finds that are listed at a time. The list gets so long when a part may have so many.
     most_listed: usize,
@@ -42,6 +44,7 @@ impl Search {
             letters: 0,
             failures: 0,
             tables: vec![0; engine.table_room(m)],
+            sets: vec![0; engine.sets_room(m)],
             list: Vec::new(),
             most_listed: LEAST_LIST.max(LIST_FOR_A_LETTER * m),
             at: 0,
@@ -165,6 +168,7 @@ impl Search {
                 self.failures += failures;
                 Tally { count, letters }
             }),
+            Engine::Compact => entries::compact_search(word, part, &mut self.sets, tables, list),
         };
         let tally = told.expect("a mark's word, rooms and parts are within the limits");
         self.engine = self.engine.after(part.len(), tally.letters);
@@ -186,7 +190,7 @@ mod tests {
     use super::Search;
     use crate::{Engine, Mark};
 
-    const ENGINES: [Engine; 4] = [Engine::Auto, Engine::Backward, Engine::Turbo, Engine::Failure];
+    const ENGINES: [Engine; 5] = [Engine::Auto, Engine::Backward, Engine::Turbo, Engine::Failure, Engine::Compact];
 
     /// The first find, and how many letters were read for it.
     fn first(word: &[u8], text: &[u8], engine: Engine) -> (Option<usize>, u64) {

@@ -2,7 +2,7 @@
 use marks::entries::{self, Tally};
 use marks::{table_room, Engine, Mark, LONGEST_TEXT, LONGEST_WORD};
 
-const ENGINES: [Engine; 4] = [Engine::Auto, Engine::Backward, Engine::Turbo, Engine::Failure];
+const ENGINES: [Engine; 5] = [Engine::Auto, Engine::Backward, Engine::Turbo, Engine::Failure, Engine::Compact];
 
 /// What `Auto` may read once in a text beyond two letters for each. A word of more than 64 letters is never tried.
 fn tried(m: usize) -> u64 {
@@ -200,7 +200,7 @@ fn auto_searches_backward_as_long_as_that_is_fair_and_a_long_word_never() {
     let mut seed = 362436069;
     let text = random_bytes(&mut seed, 3_000_000, 4);
     for m in [4, 64] {
-        let [auto, backward, turbo, _] = ENGINES.map(|engine| mark(&text[..m], engine).tally(&text).letters);
+        let [auto, backward, turbo, ..] = ENGINES.map(|engine| mark(&text[..m], engine).tally(&text).letters);
         assert!(auto < backward + backward / 50 && auto < turbo, "{m} letters: {auto}, {backward}, {turbo}");
     }
     // more than one letter for each, and fair
@@ -208,7 +208,7 @@ fn auto_searches_backward_as_long_as_that_is_fair_and_a_long_word_never() {
     let mut finds = mark_of_two.find_iter(&text_of_two);
     assert!(finds.tally().letters > 300_000 && finds.engine() == Engine::Auto);
     for m in [65, LONGEST_WORD] {
-        let [auto, _, turbo, _] = ENGINES.map(|engine| mark(&text[..m], engine).tally(&text));
+        let [auto, _, turbo, ..] = ENGINES.map(|engine| mark(&text[..m], engine).tally(&text));
         assert_eq!(auto, turbo);
     }
 }

@@ -361,7 +361,7 @@ fn a_mark_is_found_in_more_than_an_entry_takes() {
 
 #[test]
 fn only_this_engine_takes_failure_arrows() {
-    for engine in [Engine::Auto, Engine::Backward, Engine::Turbo] {
+    for engine in [Engine::Auto, Engine::Backward, Engine::Turbo, Engine::Compact] {
         let mark = Mark::new("ab").unwrap().engine(engine);
         let mut finds = mark.find_iter(b"acacac");
         assert_eq!((finds.tally().count, finds.failures()), (0, 0));

@@ -2,7 +2,10 @@
 //! a searcher that is refused: the piece and the list cannot be touched, and no byte behind it can. So with a search that is refused. An offset is written only
 //! by the refusals that have one. Rides are listed without a look behind the text, whatever their headers declare. And a thread of 64 KiB has stack enough for
 //! a search.
-use marks::{entries, failure_table_room, table_room, Refusal, LONGEST_TEXT, LONGEST_WORD, RIDE_TABLES, SEARCHER};
+use marks::{
+    compact_sets_room, compact_targets_room, entries, failure_table_room, table_room, Refusal, LONGEST_TEXT, LONGEST_WORD, RIDE_TABLES,
+    SEARCHER,
+};
 use std::{ffi::c_void, ptr};
 
 const PAGE: usize = 65_536;
@@ -72,6 +75,29 @@ extern "C" {
         count: *mut u64,
         letters: *mut u64,
         failures: *mut u64,
+    ) -> u32;
+    fn marks_compact_build(
+        word: *const u8,
+        word_len: usize,
+        sets: *mut u64,
+        sets_len: usize,
+        targets: *mut u16,
+        targets_len: usize,
+        m: *mut u64,
+    ) -> u32;
+    fn marks_compact_search(
+        word: *const u8,
+        word_len: usize,
+        text: *const u8,
+        text_len: usize,
+        sets: *mut u64,
+        sets_len: usize,
+        targets: *mut u16,
+        targets_len: usize,
+        finds: *mut u32,
+        finds_len: usize,
+        count: *mut u64,
+        letters: *mut u64,
     ) -> u32;
     fn marks_take(
         searcher: *mut u8,
@@ -279,6 +305,81 @@ fn a_refused_failure_oracle_touches_nothing() {
     assert_eq!(failure_with_all_forbidden(LONGEST_WORD, LONGEST_TEXT, room - 1), 3);
 }
 
+/// The same of compact rows: what their search says, and their building too where the text is not what is refused.
+fn compact_with_all_forbidden(word_len: usize, text_len: usize, sets_len: usize, targets_len: usize) -> u32 {
+    let [word, text, sets, targets, finds] = [(); 5].map(|()| forbidden_behind_a_page(1));
+    let (sets, targets, finds): (*mut u64, *mut u16, *mut u32) = (sets.cast(), targets.cast(), finds.cast());
+    let (mut m, mut count, mut letters, finds_len) = (99, 99, 99, 1 << 10);
+    // SAFETY: as above.
+    let built = unsafe { marks_compact_build(word, word_len, sets, sets_len, targets, targets_len, &mut m) };
+    // SAFETY: as above.
+    let searched = unsafe {
+        marks_compact_search(
+            word,
+            word_len,
+            text,
+            text_len,
+            sets,
+            sets_len,
+            targets,
+            targets_len,
+            finds,
+            finds_len,
+            &mut count,
+            &mut letters,
+        )
+    };
+    assert_eq!((m, count, letters), (99, 99, 99));
+    assert!(searched == built || searched == 4);
+    searched
+}
+
+#[test]
+fn refused_compact_rows_touch_nothing() {
+    let (sets, targets) = (compact_sets_room(LONGEST_WORD), compact_targets_room(LONGEST_WORD));
+    assert_eq!(compact_with_all_forbidden(0, LONGEST_TEXT + 1, 0, 0), 1);
+    assert_eq!(compact_with_all_forbidden(LONGEST_WORD + 1, LONGEST_TEXT + 1, 0, 0), 2);
+    assert_eq!(compact_with_all_forbidden(LONGEST_WORD, LONGEST_TEXT + 1, sets - 1, targets - 1), 4);
+    assert_eq!(compact_with_all_forbidden(4, usize::MAX >> 1, 0, 0), 4);
+    assert_eq!(compact_with_all_forbidden(LONGEST_WORD, LONGEST_TEXT, sets - 1, targets), 3);
+    assert_eq!(compact_with_all_forbidden(LONGEST_WORD, LONGEST_TEXT, sets, targets - 1), 3);
+}
+
+/// Builds compact rows and searches with them where nothing can be touched behind the word, the text, rooms of just the length that is needed, and a list for
+/// one find. The count and that find.
+fn compact_with_forbidden_rest(word: &[u8], text: &[u8]) -> (u64, u32) {
+    let lent = |bytes: &[u8]| {
+        let end = forbidden_behind_a_page(1);
+        // SAFETY: the last bytes of a page that may be written.
+        unsafe {
+            ptr::copy_nonoverlapping(bytes.as_ptr(), end.sub(bytes.len()), bytes.len());
+            end.sub(bytes.len())
+        }
+    };
+    let (m, word, text_len, text) = (word.len(), lent(word), text.len(), lent(text));
+    let (sets_len, targets_len) = (compact_sets_room(m), compact_targets_room(m));
+    let [sets, targets, finds] = [8 * sets_len, 2 * targets_len, 4].map(|bytes| lent(&vec![7; bytes]));
+    let (mut built, mut count, mut letters) = (99, 99, 99);
+    // SAFETY: the entries are lent the last bytes of pages, which may be read and written, and are not to touch those behind them.
+    unsafe {
+        let (sets, targets, finds): (*mut u64, *mut u16, *mut u32) = (sets.cast(), targets.cast(), finds.cast());
+        assert_eq!((marks_compact_build(word, m, sets, sets_len, targets, targets_len, &mut built), built), (0, m as u64));
+        let said = marks_compact_search(word, m, text, text_len, sets, sets_len, targets, targets_len, finds, 1, &mut count, &mut letters);
+        assert_eq!(said, 0);
+        (count, *finds)
+    }
+}
+
+#[test]
+fn nothing_is_touched_behind_what_compact_rows_are_lent() {
+    let (every, zeros): (Vec<u8>, Vec<u8>) = ((0..=255).collect(), vec![0; 1_000]);
+    for word in [&b"a"[..], b"ab", &every, &zeros, &[&zeros[..], b"b"].concat()] {
+        assert_eq!(compact_with_forbidden_rest(word, &[b"xy", word].concat()), (1, 2));
+        assert_eq!(compact_with_forbidden_rest(word, &[b"xy".repeat(10_000), word.repeat(2)].concat()).1, 20_000);
+        assert_eq!(compact_with_forbidden_rest(word, &word[1..]).0, 0);
+    }
+}
+
 /// Lists rides where nothing can be touched, the text and the tables having so many elements. What it says.
 fn salvage_with_all_forbidden(text_len: usize, tables_len: usize) -> u32 {
     let [text, tables, starts, kinds] = [(); 4].map(|()| forbidden_behind_a_page(1));
@@ -361,10 +462,14 @@ type Count = fn(&[u8], &[u8], &mut [u16], &mut [u32]) -> Result<u64, Refusal>;
 fn a_thread_of_64_kib_has_stack_enough() {
     let of_one_letter = vec![b'a'; LONGEST_WORD];
     let ends_otherwise = [&of_one_letter[1..], b"b"].concat();
-    let searches: [Count; 3] = [
+    let searches: [Count; 4] = [
         |word, text, tables, finds| entries::search(word, text, tables, finds).map(|tally| tally.count),
         |word, text, tables, finds| entries::turbo(word, text, tables, finds).map(|tally| tally.count),
         |word, text, tables, finds| entries::failure_search(word, text, tables, finds).map(|tally| tally.count),
+        |word, text, targets, finds| {
+            let mut sets = vec![0; compact_sets_room(word.len())];
+            entries::compact_search(word, text, &mut sets, targets, finds).map(|tally| tally.count)
+        },
     ];
     for word in [of_one_letter, ends_otherwise] {
         for count_by in searches {

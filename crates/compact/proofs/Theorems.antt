@@ -11,27 +11,27 @@ use native.Mathlib.Numerals.{add-one, one-add}
 use native.Mathlib.Decide.{decLt, decLe}
 use native.Mathlib.Omega.{arith}
 use lib.ListN.{length, List·getD-eq-default}
+use lib.Pow.{pow-pos}
 use lib.Seq.{take-append-seam}
 use borrow.Author.Tests.{le-leb, ne-eqb}
-use Rattle.words.specs.Lists.{at, from}
+use Rattle.words.specs.Lists.{at}
 use Rattle.words.specs.Words.{Letter, Word, letter}
-use Rattle.words.proofs.Lists.{map-from-at, none-where, entry-below}
-use Rattle.oracle.specs.Arrows.{State, Delta}
+use Rattle.words.proofs.Lists.{map-from-at, none-where}
+use Rattle.oracle.specs.Arrows.{State}
 use Rattle.oracle.specs.SuffixRule.{oracle}
 use Rattle.oracle.specs.Supply.{supply}
 use Rattle.oracle.proofs.Targets.{never}
 use Rattle.oracle.proofs.Chain.{zero-on, chain-arrow}
 use Rattle.oracle.proofs.Theorems.{oracle-supplied, supply-lower, no-supply}
 use Rattle.table.specs.Table.{tableOf, readWord, readArrow, readSupply}
-use Rattle.table.proofs.ReadBack.{reads-no-supply}
 use Rattle.table.proofs.Theorems.{oracle-over, table-arrow}
-use Rattle.compact.specs.Compact.{setsRoom, compactRoom, arrowNumber, isArrow, setWord, targetsUpTo, compactFrom, compactSets}
+use Rattle.compact.specs.Compact.{setsRoom, compactRoom, arrowNumber, isArrow, targetsUpTo, compactFrom, compactSets}
 use Rattle.compact.specs.Compact.{compactTable, inSet, howMany, readCompact}
 use Rattle.compact.specs.CompactFormed.{CompactFormed}
-use Rattle.compact.proofs.Bits.{bits-small}
 use Rattle.compact.proofs.Targets.{targets-rise, target-at, target-of}
-use Rattle.compact.proofs.CompactRows.{sets-size, word-at, compact-size, letters-there, supplies-there, starts-there, targets-there}
-use Rattle.compact.proofs.ReadBack.{set-told, place-told, reads-compact, beyond-state, beyond-bytes}
+use Rattle.compact.proofs.CompactRows.{sets-size, word-at, compact-size}
+use Rattle.compact.proofs.CompactRows.{letters-there, supplies-there, zeros-there, starts-there, targets-there}
+use Rattle.compact.proofs.ReadBack.{word-small, set-told, place-told, reads-compact, beyond-state, beyond-bytes}
 use Rattle.compact.proofs.Few.{targets-few}
 
 module _ (p : Word) where
@@ -101,6 +101,26 @@ module _ (p : Word) where
       let there : at L (suc m + suc x) ≡ S (suc x) = rw (← add-one m) (supplies-there p (oracle p) S (suc x) (omega arith)) ∙ rw (one-add x) at value in
       rw (ne-eqb (suc x) 0 (λ e. omega arith), le-leb (suc x) m h, there, s .1)
 
+  -- ── Word by word and entry by entry ──────────────────────────────────────
+
+  -- a state's set are the letters on which an arrow leaves it
+  pub compact-set : (x : State) → x ≤ length p → (c : Letter) → c < 256 → inSet (compactSets p) x c ≡ isArrow (oracle p x c)
+  unfolding compactSets
+  compact-set x h c l = set-told (oracle p) m Z (word-at (oracle p) m) x h c l
+
+  -- words of 64 bits
+  pub compact-words-small : (i : ℕ) → at (compactSets p) i < 2 ^ 64
+  unfolding compactSets
+  compact-words-small i = by-cases (decLt i (setsRoom m))
+      (λ h. rw (word-at (oracle p) m i h) (word-small (oracle p) i))
+      (λ h. rw (List·getD-eq-default Z 0 {n = i} (omega (arith, sets-size (oracle p) m))) (pow-pos 64))
+
+  -- the targets of all arrows, and zeros behind them
+  pub compact-targets : (i : ℕ) → i < 2 * (length p + 1)
+      → at (compactTable p) (8 * (length p + 1) + i) ≡ at (targetsUpTo (oracle p) (256 * (length p + 1))) i
+  unfolding compactTable
+  compact-targets = targets-there p (oracle p) _
+
   -- ── Lookups ──────────────────────────────────────────────────────────────
 
   -- where a word's targets start is behind the smaller letters' targets of its state
@@ -138,8 +158,8 @@ module _ (p : Word) where
       all = targetsUpTo (oracle p) (256 * (m + 1))
 
   last-empty : (c : Letter) → c < 256 → inSet Z m c ≡ false
-  unfolding compactSets isArrow
-  last-empty c l = set-told (oracle p) m Z (word-at (oracle p) m) m (omega arith) c l ∙ ap isArrow (no-arrow m c (omega arith))
+  unfolding isArrow
+  last-empty c l = compact-set m (omega arith) c l ∙ ap isArrow (no-arrow m c (omega arith))
 
   pub compact-formed : length p < 30000 → ((i : ℕ) → letter p i < 256) → CompactFormed (compactSets p) (compactTable p) (length p)
   compact-formed few bytes = record {
@@ -157,3 +177,55 @@ module _ (p : Word) where
         let all = compact-agrees-all bytes in
         all x c ∙ none-first x c (sym (all 0 c) ∙ e);
   }
+
+  -- ── Small ────────────────────────────────────────────────────────────────
+
+  supplies-small : (i : ℕ) → i < m + 1 → at L (m + 1 + i) ≤ m
+  unfolding compactTable
+  supplies-small zero h = omega (arith, supplies-there p (oracle p) (λ x. Option·getD (supply p x) 0) 0 h)
+  supplies-small (suc i) h =
+      let S : State → State = λ x. Option·getD (supply p x) 0 in
+      let value = rw (one-add i) at (map-from-at S 1 m i 0 (omega arith)) in
+      let s = supply-lower p (suc i) (omega arith) (omega arith) in
+      let lower : S (suc i) ≡ s .0 = rw (s .1) in
+      omega (arith, supplies-there p (oracle p) S (suc i) h, value, lower, s .2)
+
+  zeros-between : (i : ℕ) → i < 2 * (m + 1) → at L (2 * (m + 1) + i) ≡ 0
+  unfolding compactTable
+  zeros-between = zeros-there p (oracle p) _
+
+  corner : at L 0 ≡ 0
+  unfolding compactTable
+  corner = letters-there p (oracle p) _ 0 (omega arith)
+
+  -- entries of 16 bits
+  pub compact-entries-small : length p < 30000 → ((i : ℕ) → letter p i < 256) → (i : ℕ) → at (compactTable p) i < 65536
+  compact-entries-small few bytes i =
+      by-cases (decLt i (m + 1)) (front i) (λ h.
+      by-cases (decLt i (2 * (m + 1))) (λ l. row (m + 1) supply-row (omega arith) (omega arith)) (λ l.
+      by-cases (decLt i (4 * (m + 1))) (λ k. row (2 * (m + 1)) zero-rows (omega arith) (omega arith)) (λ k.
+      by-cases (decLt i (8 * (m + 1))) (λ j. row (4 * (m + 1)) start-rows (omega arith) (omega arith)) (λ j.
+      by-cases (decLt i (10 * (m + 1))) (λ u. row (8 * (m + 1)) target-rows (omega arith) (omega arith)) (λ u. behind (omega arith))))))
+    where
+      -- what holds of each of k entries from a on holds of i, if it is one of them
+      row : {k : ℕ} (a : ℕ) → ((j : ℕ) → j < k → at L (a + j) < 65536) → a ≤ i → i < a + k → at L i < 65536
+      row a small h l = let e : a + (i - a) ≡ i = omega arith in rw e at (small (i - a) (omega arith))
+
+      front : (i : ℕ) → i < m + 1 → at L i < 65536
+      front zero h = omega (arith, corner)
+      front (suc i) h = omega (arith, rw (add-one i) at (letter-at i (omega arith)), bytes i)
+
+      supply-row : (j : ℕ) → j < m + 1 → at L (m + 1 + j) < 65536
+      supply-row j h = omega (arith, supplies-small j h)
+
+      zero-rows : (j : ℕ) → j < 2 * (m + 1) → at L (2 * (m + 1) + j) < 65536
+      zero-rows j h = omega (arith, zeros-between j h)
+
+      start-rows : (j : ℕ) → j < 4 * (m + 1) → at L (4 * (m + 1) + j) < 65536
+      start-rows j h = omega (arith, start j h, targets-rise (oracle p) (64 * j) (256 * (m + 1)) (omega arith), targets-fit)
+
+      target-rows : (j : ℕ) → j < 2 * (m + 1) → at L (8 * (m + 1) + j) < 65536
+      target-rows j h = omega (arith, target-bound j h)
+
+      behind : 10 * (m + 1) ≤ i → at L i < 65536
+      behind h = omega (arith, List·getD-eq-default L 0 {n = i} (omega (arith, compact-table-size)))

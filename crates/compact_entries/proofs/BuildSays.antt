@@ -21,7 +21,7 @@ use Rattle.answers.specs.declared.SizeAnswer.{SizeAnswer}
 use Rattle.answers.specs.Answers.{done, refused, emptyWord, longWord, shortRoom, refusesOnly, oneOf}
 use Rattle.answers.proofs.Answers.{done-not-refused, size-answer-one}
 use Rattle.compact_entries.specs.CompactBuild.{Outcome, outcome, compactBuilt, compactBuildSays}
-use Rattle.compact_entries.specs.Cases.{CompactBuildCase}
+use Rattle.compact_entries.specs.Cases.{TooSmall, CompactBuildCase}
 use Rattle.compact_entries.proofs.Rooms.{Rooms, small, enough, rooms, short-told, enough-told}
 use Rattle.compact_entries.proofs.Rooms.{words-front, words-rest, entries-front, entries-rest}
 
@@ -54,6 +54,17 @@ module _ (word : Word) (Z T : List ℕ) where
 
   pub compact-build-is : (o : Outcome) → (compactBuildSays word Z T ≡ o) ↔ CompactBuildCase word Z T o
   compact-build-is o = (λ e. rw e at case, given)
+
+  -- 3 is for either room, and for nothing else
+  pub short-exactly : 1 ≤ m → m ≤ longestWord → (compactBuildSays word Z T .answer ≡ refused shortRoom) ↔ TooSmall m Z T
+  short-exactly h l = (told, λ s. ap (λ o. o .answer) (given (CompactBuildCase.short-room h l s)))
+    where
+      told : compactBuildSays word Z T .answer ≡ refused shortRoom → TooSmall m Z T
+      told e = by (rooms m Z T)
+        where
+          by : Rooms m Z T → TooSmall m Z T
+          by (small s) = s
+          by (enough s t) = done-not-refused (sym (ap (λ o. o .answer) (given (CompactBuildCase.accepted h l s t))) ∙ e)
 
   -- it refuses with numbers of the table alone
   pub compact-build-numbers : refusesOnly (1 ∷ 2 ∷ 3 ∷ []) (compactBuildSays word Z T .answer) ≡ true

@@ -11,3 +11,4 @@ pub mod OneLetterMarks
 pub mod FailureOracle
 pub mod EditionTwo
 pub mod SalvageLister
+pub mod CompactRows

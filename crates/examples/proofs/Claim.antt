@@ -1,4 +1,4 @@
--- Every example of the table holds: the checker computes the rules, the supplies, the searches, the tables, the files, their
+-- Every example of the table holds: the checker computes the rules, the supplies, the searches, the tables in all forms, the files, their
 -- checks, the refusals, the pieces and the rides, and compares.
 use lib.Dec.{T}
 use Rattle.words.specs.Lists.{from, only, first}
@@ -16,6 +16,9 @@ use Rattle.table.specs.Table.{tableFrom, tableOf}
 use Rattle.failure.specs.FailureRule.{failureOf, ask, pathEnd, askIn, repair, afterSuffix, failureRule, failureWalk}
 use Rattle.failure.specs.FailureSteps.{readBoth, failureWindows, failureStepsWith, failureSteps}
 use Rattle.failure_table.specs.FailureTable.{wordAlone, slotted, layFailures, layArrows, failureTableFrom, failureTable}
+use Rattle.compact.specs.Compact.{isArrow, asList, fromBits, setWord, targetsUpTo, setsFrom, compactFrom, compactSets, compactTable}
+use Rattle.compact_entries.specs.CompactBuild.{compactBuildSays}
+use Rattle.compact_entries.specs.CompactSearch.{compactSearchSays}
 use Rattle.number.specs.Number.{groups, spellNumber, refuses, see, seeNumber, numberAt}
 use Rattle.saved.specs.File.{edition, stepsFrom, spellSteps, ownSteps, body, spell}
 use Rattle.loaded.specs.Load.{frontWithin, twoAt, arrowsAt, ending}
@@ -34,7 +37,7 @@ use Rattle.stream.specs.Opening.{openSays}
 use Rattle.stream.specs.Taking.{takeSays}
 use Rattle.examples.specs.Examples.{is, isNone, walked, empty, has, failsTo, gives, isRefused, isRefusedAt}
 use Rattle.examples.specs.Examples.{loadInRooms, leaves, refusesIn, refusesToSave}
-use Rattle.examples.specs.Examples.{shows, isDoneWith, takenInTurn, holds, allHold, word, digit, bytes, table}
+use Rattle.examples.specs.Examples.{shows, isDoneWith, isTallied, takenInTurn, holds, allHold, word, digit, bytes, table}
 
 pub examples-hold : T (allHold table)
 unfolding from only first same stands occurrences longestWord longestText longestStreamed leastSaved greatestFile
@@ -44,10 +47,11 @@ unfolding from only first same stands occurrences longestWord longestText longes
     readDown afterFind windows steps backward forward turboWindows turboSteps turbo
     failureOf ask pathEnd askIn repair afterSuffix failureRule failureWalk readBoth failureWindows failureStepsWith failureSteps
     wordAlone slotted layFailures layArrows failureTableFrom failureTable
+    isArrow asList fromBits setWord targetsUpTo setsFrom compactFrom compactSets compactTable compactBuildSays compactSearchSays
     groups spellNumber refuses see seeNumber numberAt edition stepsFrom spellSteps ownSteps body spell
     frontWithin twoAt arrowsAt ending asPlain endingEither verdictEither loadWithin saveIn
     shifted fed digits bitsOf check sealed
     filledTo dotFit allowed dataSize headerInside inHeader kindOf ridesAt rides salvageSays
-    is isNone walked empty has failsTo joined gives isRefused isRefusedAt loadInRooms leaves refusesIn refusesToSave shows isDoneWith
+    is isNone walked empty has failsTo joined gives isRefused isRefusedAt loadInRooms leaves refusesIn refusesToSave shows isDoneWith isTallied
     takenInTurn holds allHold word digit bytes table
 examples-hold = tt

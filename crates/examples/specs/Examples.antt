@@ -30,6 +30,9 @@ use Rattle.table.specs.Table.{room, tableOf}
 use Rattle.failure.specs.FailureRule.{Fails, failureOf, symbols, askIn, failureRule, failureWalk}
 use Rattle.failure.specs.FailureSteps.{failureSteps}
 use Rattle.failure_table.specs.FailureTable.{failureRoom, failureTable}
+use Rattle.compact.specs.Compact.{setsRoom, compactRoom, compactSets, compactTable}
+use Rattle.compact_entries.specs.CompactBuild.{compactBuildSays}
+use Rattle.compact_entries.specs.CompactSearch.{compactSearchSays}
 use Rattle.saved.specs.File.{spell}
 use Rattle.loaded.specs.Load.{Front, letters, stop}
 use Rattle.crc.specs.Check.{check}
@@ -38,6 +41,7 @@ use Rattle.editions.specs.Either.{frontEither}
 use Rattle.answers.specs.Answers.{Answer, done, refused, refusedAt}
 use Rattle.mark_files.specs.Load.{Outcome, loadSays}
 use Rattle.mark_files.specs.Save.{saveIn}
+use Rattle.finds.specs.declared.Tally.{Tally}
 use Rattle.finds.specs.Finds.{filled}
 use Rattle.rides.specs.Rides.{dotFit, rides, starts, kinds}
 use Rattle.salvage.specs.Salvage.{dotFitRoom, salvageSays}
@@ -70,6 +74,12 @@ pub data Example : Type 0 where
   failureRows : (word : Word) (rows : List (List ℕ)) → Example
   -- a word and a text, the starts of the occurrences, the letters read and the failure arrows taken
   failureSearch : (word text : Word) (starts : List Place) (letters failures : ℕ) → Example
+  -- a word's compact rows: its words, and its entries row by row
+  compactRowsOf : (word : Word) (words : List ℕ) (rows : List (List ℕ)) → Example
+  -- a word and a text, searched with compact rows in rooms for just these: the starts of the occurrences, the letters read
+  compactSearch : (word text : Word) (starts : List Place) (letters : ℕ) → Example
+  -- a word, refused with a number in so many words and entries, which leaves them as they were
+  compactRefused : (word : Word) (words entries number : ℕ) → Example
   -- a word and its whole file
   fileOf : (word : Word) (file : List ℕ) → Example
   -- the check of a string of bytes
@@ -168,6 +178,11 @@ isDoneWith (done m) n = eqb m n
 isDoneWith (refused r) n = false
 isDoneWith (refusedAt r p) n = false
 
+unfoldable pub isTallied : Answer Tally → ℕ → ℕ → Bool
+isTallied (done t) c n = eqb (t .count) c && eqb (t .letters) n
+isTallied (refused r) c n = false
+isTallied (refusedAt r p) c n = false
+
 -- the pieces are taken in turn from s on, with a list of three entries
 unfoldable pub takenInTurn : Searcher → List Word → List (List Place) → ℕ → Bool
 takenInTurn s [] [] k = eqb (s .keep) k
@@ -209,6 +224,15 @@ holds (failureRows p rows) =
 holds (failureSearch w t starts n f) =
     let r = failureSteps w t in
     same (r .starts) starts && (eqb (r .letters) n && (eqb (r .failures) f && same (occurrences w t) starts))
+holds (compactRowsOf p words rows) = same (compactSets p) words && same (compactTable p) (joined rows)
+holds (compactSearch w t starts n) =
+    let m = length w in
+    let o = compactSearchSays w t (replicate (setsRoom m) 9) (replicate (compactRoom m) 9) (replicate (length starts) 9) in
+    isTallied (o .answer) (length starts) n
+    && (same (o .sets) (compactSets (mirror w)) && (same (o .tables) (compactTable (mirror w)) && same (o .finds) starts))
+holds (compactRefused p k e n) =
+    let o = compactBuildSays p (replicate k 9) (replicate e 9) in
+    isRefused (o .answer) n && (same (o .sets) (replicate k 9) && same (o .tables) (replicate e 9))
 holds (fileOf p f) = same (spell p) f
 holds (checkOf l c) = eqb (check l) c
 holds (checkedFileOf p f) = same (spellIn checked p) f
@@ -380,4 +404,20 @@ table =
     (0 ∷ 14 ∷ []) (1 ∷ 0 ∷ 7 ∷ [])
     ∷ salvages (bytes "2E 46 49 54") (7 ∷ []) (7 ∷ []) 0 (7 ∷ []) (7 ∷ [])
     ∷ salvageRefused (bytes "0C 10 64 00 02 00 00 00 2E 46 49 54 61 62 00 00") 29 3
+    ∷ compactRowsOf (word "ab") (0 ∷ 25769803776 ∷ 0 ∷ 0 ∷ 0 ∷ 17179869184 ∷ 0 ∷ 0 ∷ 0 ∷ 0 ∷ 0 ∷ 0 ∷ [])
+    ((0 ∷ 97 ∷ 98 ∷ []) ∷ (0 ∷ 0 ∷ 0 ∷ []) ∷ (0 ∷ 0 ∷ 0 ∷ 0 ∷ 0 ∷ 0 ∷ []) ∷ (0 ∷ 0 ∷ 2 ∷ 2 ∷ 2 ∷ 2 ∷ 3 ∷ 3 ∷ 3 ∷ 3 ∷ 3 ∷ 3 ∷ [])
+    ∷ (1 ∷ 2 ∷ 2 ∷ 0 ∷ 0 ∷ 0 ∷ []) ∷ [])
+    ∷ compactRowsOf (bytes "00 40 FF")
+    (1 ∷ 1 ∷ 0 ∷ 9223372036854775808 ∷ 0 ∷ 1 ∷ 0 ∷ 0 ∷ 0 ∷ 0 ∷ 0 ∷ 9223372036854775808 ∷ 0 ∷ 0 ∷ 0 ∷ 0 ∷ [])
+    ((0 ∷ 0 ∷ 64 ∷ 255 ∷ []) ∷ (0 ∷ 0 ∷ 0 ∷ 0 ∷ []) ∷ (0 ∷ 0 ∷ 0 ∷ 0 ∷ 0 ∷ 0 ∷ 0 ∷ 0 ∷ [])
+    ∷ (0 ∷ 1 ∷ 2 ∷ 2 ∷ 3 ∷ 3 ∷ 4 ∷ 4 ∷ 4 ∷ 4 ∷ 4 ∷ 4 ∷ 5 ∷ 5 ∷ 5 ∷ 5 ∷ []) ∷ (1 ∷ 2 ∷ 3 ∷ 2 ∷ 3 ∷ 0 ∷ 0 ∷ 0 ∷ []) ∷ [])
+    ∷ compactRowsOf (word "aba") (0 ∷ 25769803776 ∷ 0 ∷ 0 ∷ 0 ∷ 17179869184 ∷ 0 ∷ 0 ∷ 0 ∷ 8589934592 ∷ 0 ∷ 0 ∷ 0 ∷ 0 ∷ 0 ∷ 0 ∷ [])
+    ((0 ∷ 97 ∷ 98 ∷ 97 ∷ []) ∷ (0 ∷ 0 ∷ 0 ∷ 1 ∷ []) ∷ (0 ∷ 0 ∷ 0 ∷ 0 ∷ 0 ∷ 0 ∷ 0 ∷ 0 ∷ [])
+    ∷ (0 ∷ 0 ∷ 2 ∷ 2 ∷ 2 ∷ 2 ∷ 3 ∷ 3 ∷ 3 ∷ 3 ∷ 4 ∷ 4 ∷ 4 ∷ 4 ∷ 4 ∷ 4 ∷ []) ∷ (1 ∷ 2 ∷ 2 ∷ 3 ∷ 0 ∷ 0 ∷ 0 ∷ 0 ∷ []) ∷ [])
+    ∷ compactSearch (word "aba") (word "ababa") (0 ∷ 2 ∷ []) 6
+    ∷ compactSearch (word "abc") (word "xxxxxx") [] 2
+    ∷ compactSearch (word "abc") (word "ab") [] 0
+    ∷ compactRefused [] 9 9 1
+    ∷ compactRefused (word "ab") 11 30 3
+    ∷ compactRefused (word "ab") 12 29 3
     ∷ []

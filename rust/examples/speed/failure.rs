@@ -45,7 +45,7 @@ fn line(word: &[u8], text: &[u8]) -> (String, Said) {
 }
 
 /// The least and the greatest of some numbers.
-fn range(numbers: impl IntoIterator<Item = f64>) -> String {
+pub fn range(numbers: impl IntoIterator<Item = f64>) -> String {
     let (least, most) = numbers.into_iter().fold((f64::INFINITY, 0f64), |(least, most), number| (least.min(number), most.max(number)));
     format!("{least:.1} to {most:.1}")
 }
@@ -98,7 +98,7 @@ fn going_round(m: usize) -> Vec<u8> {
     b"abadbcaabdbaba".iter().chain([b'b'].iter().cycle()).take(m).copied().collect()
 }
 
-fn random_words(m: usize, letters: u64) -> Vec<Vec<u8>> {
+pub fn random_words(m: usize, letters: u64) -> Vec<Vec<u8>> {
     (0..WORDS).map(|i| Random(88172645463325252 + i).bytes(m, letters)).collect()
 }
 
@@ -114,7 +114,7 @@ fn builds(words: &[Vec<u8>]) -> [f64; 2] {
 }
 
 /// Microseconds, with two digits where they are few.
-fn us(took: f64) -> String {
+pub fn us(took: f64) -> String {
     if took < 10.0 {
         format!("{took:.2}")
     } else {

@@ -1,9 +1,10 @@
-//! speed [TABLE..]: measures `build`, `load`, `search`, `turbo`, `take`, `salvage` and the failure oracle on this machine, damages files and
-//! counts what becomes of them, and prints the tables of docs/SPEED.md, or those that are named, each between two lines that name it. Run it
-//! by `tools/speed`.
+//! speed [TABLE..]: measures `build`, `load`, `search`, `turbo`, `take`, `salvage`, the failure oracle and compact rows on this machine,
+//! damages files and counts what becomes of them, and prints the tables of docs/SPEED.md, or those that are named, each between two lines
+//! that name it. Run it by `tools/speed`.
 
 mod arrows;
 mod clock;
+mod compact;
 mod damage;
 mod editions;
 mod faces;
@@ -249,6 +250,8 @@ const TABLES: &[(&str, fn())] = &[
     ("failure", failure::random_times),
     ("failure_hostile", failure::hostile_times),
     ("failure_build", failure::build_times),
+    ("compact", compact::random_times),
+    ("compact_build", compact::build_times),
     ("arrows", arrows::of_random_words),
     ("arrows_all", arrows::of_all_words),
 ];

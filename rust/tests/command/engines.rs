@@ -2,7 +2,7 @@
 
 use crate::{Folder, Said};
 
-const ENGINES: [&str; 4] = ["auto", "backward", "turbo", "failure"];
+const ENGINES: [&str; 5] = ["auto", "backward", "turbo", "compact", "failure"];
 
 /// The letters that were read in all, as `--stats` tells them of one file.
 #[track_caller]
@@ -60,6 +60,19 @@ marks: short: found 0 in 1 byte; 0 letters read, 0.00 a byte
 }
 
 #[test]
+fn compact_rows_read_the_letters_of_the_backward_search() {
+    let text: Vec<u8> = (0..200_000u32).map(|i| b'a' + (i * i / 7 % 3) as u8).collect();
+    let here = Folder::new("compact").with("ride", "ababa").with("long", &text);
+    let told = "marks: ride: found 2 in 5 bytes; 6 letters read, 1.20 a byte\n";
+    here.marks(&["find", "--stats", "--engine", "compact", "aba", "ride"]).is_with(0, "0\n2\n", told);
+    let by = |engine, how| here.marks(&["find", "--stats", "--engine", engine, how, "abca", "long"]);
+    for how in ["-c", "-X", "--json"] {
+        let [backward, compact] = ["backward", "compact"].map(|engine| by(engine, how));
+        assert_eq!((compact.out, compact.err), (backward.out, backward.err));
+    }
+}
+
+#[test]
 fn the_failure_arrows_that_were_taken_are_told_by_the_engine_that_has_them() {
     let here = Folder::new("failures").with("ride", "ababa").with("ac", "ac").with("short", "a");
     let by = |word, files: &[&str]| here.marks(&[&["find", "--stats", "--engine", "failure", word], files].concat());
@@ -75,7 +88,7 @@ marks: short: found 0 in 1 byte; 0 letters read, 0.00 a byte; 0 failure arrows t
     let object = r#"{"file":"ride","found":2,"bytes":5,"letters":6,"failures":0}"#;
     let count = r#"{"file":"ride","count":2}"#;
     here.marks(&["find", "-c", "--json", "--stats", "--engine=failure", "aba", "ride"]).is(0, &format!("{count}\n{object}\n"));
-    for engine in &ENGINES[..3] {
+    for engine in &ENGINES[..4] {
         let said = here.marks(&["find", "--stats", "--json", "--engine", engine, "ab", "ac"]);
         assert!(!said.out.contains("failures") && said.out.contains("letters"), "{}", said.out);
     }

@@ -4,7 +4,7 @@ use crate::{told, Folder, Said};
 use marks::{LONGEST_FILE, LONGEST_WORD};
 
 const COMMANDS: [&str; 6] = ["find", "salvage", "save", "check", "show", "help"];
-const OPTIONS: [&str; 25] = [
+const OPTIONS: [&str; 26] = [
     "hex",
     "mark",
     "hex-offsets",
@@ -27,6 +27,7 @@ const OPTIONS: [&str; 25] = [
     "edition",
     "dot",
     "failure",
+    "compact",
     "help",
     "version",
     "generate",
@@ -60,7 +61,9 @@ fn help_has_all_there_is() {
     for option in OPTIONS {
         assert!(whole.contains(&format!(" --{option} ")), "{option}");
     }
-    for word in ["mirror", "auto", "backward", "turbo", "failure", "m*m/2", "file_hex", "Status:", "Examples:", "Mark files:", "$'..'"] {
+    for word in
+        ["mirror", "auto", "backward", "turbo", "failure", "compact", "m*m/2", "file_hex", "Status:", "Examples:", "Mark files:", "$'..'"]
+    {
         assert!(whole.contains(word) || good(here.marks(&["help", "find"])).contains(word), "{word}");
     }
     assert!(whole.contains(&format!("WORD has 1 to {} bytes", told(LONGEST_WORD))));
@@ -138,7 +141,7 @@ fn bash_completes_the_line() {
         lines.retain(|line| !line.is_empty());
         lines
     };
-    let engines = ["auto", "backward", "turbo", "failure"];
+    let engines = ["auto", "backward", "turbo", "failure", "compact"];
     assert_eq!(offered(&["marks", ""]), COMMANDS);
     assert_eq!(offered(&["marks", "s"]), ["salvage", "save", "show"]);
     assert_eq!(offered(&["marks", "help", "c"]), ["check"]);
@@ -150,6 +153,8 @@ fn bash_completes_the_line() {
     assert_eq!(offered(&["marks", "salvage", "--extract", "=", "oth"]), ["other"]);
     assert_eq!(offered(&["marks", "find", "--st"]), ["--stats"]);
     assert_eq!(offered(&["marks", "show", "--f"]), ["--failure"]);
+    assert_eq!(offered(&["marks", "show", "--c"]), ["--compact"]);
+    assert_eq!(offered(&["marks", "find", "--engine", "c"]), ["compact"]);
     assert_eq!(offered(&["marks", "-c", "find", "--engine", "=", "turbo", "--max"]), ["--max-count"]);
     assert_eq!(offered(&["marks", "find", "--engine", ""]), engines);
     assert_eq!(offered(&["marks", "find", "--engine", "="]), engines);

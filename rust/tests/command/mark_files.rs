@@ -30,7 +30,8 @@ fn is_told(folder: &str, bytes: &[u8], refusal: Refusal, offset: usize, advice: 
     let good = "good: good, finds \"baabbba\" (edition 1, 7 letters; it holds the mirror, \"abbbaab\")";
     assert_eq!(unindented, [&format!("bad: refused: {told}"), good]);
     assert_eq!((said.err.as_str(), said.status), ("", Some(1)));
-    for words in [&["find", "-m", "bad", "ride"][..], &["show", "bad"], &["show", "--dot", "bad"], &["show", "--failure", "bad"]] {
+    let show: [&[&str]; 4] = [&["show", "bad"], &["show", "--dot", "bad"], &["show", "--failure", "bad"], &["show", "--compact", "bad"]];
+    for words in [&[&["find", "-m", "bad", "ride"][..]], &show[..]].concat() {
         here.marks(words).is_with(2, "", &format!("marks: bad: {told}\n"));
     }
 }
@@ -173,6 +174,34 @@ state  letter  failure  arrows out: letter>state, the spine's first
 }
 
 #[test]
+fn show_prints_compact_rows_with_their_memory() {
+    let here = Folder::new("show-compact").with("file", GOOD).with("checked", CHECKED);
+    let said = here.marks(&["show", "--compact", "file"]);
+    assert_eq!(here.marks(&["show", "--compact", "checked"]).out, said.out);
+    said.is(
+        0,
+        "\
+finds  \"baabbba\"
+holds  \"abbbaab\", its mirror, because the search reads backward
+size   7 letters, 11 arrows
+memory 256 bytes of sets and 160 of targets, where the first form has 96
+
+state  letter  supply  start  arrows out: letter>state, by rising letter
+    0                      0  a>1  b>2
+    1  a            0      2  a>6  b>2
+    2  b            0      4  a>5  b>3
+    3  b            2      6  a>5  b>4
+    4  b            3      8  a>5
+    5  a            1      9  a>6
+    6  a            1     10  b>7
+    7  b            2     11
+",
+    );
+    let dots = ["--compact", "--"].map(|form| here.marks(&["show", "--dot", form, "file"]).out);
+    assert_eq!(dots[0], dots[1]);
+}
+
+#[test]
 fn a_table_fits_the_screen_however_many_arrows_there_are() {
     let here = Folder::new("wide");
     let every: String = (0..=255u8).map(|byte| format!("{byte:02x}")).collect();
@@ -184,6 +213,12 @@ fn a_table_fits_the_screen_however_many_arrows_there_are() {
     // state 0 has an arrow on each letter, each other state but the last the one of the spine
     assert_eq!(rows.iter().skip(1).flat_map(|row| row[21..].split_whitespace()).count(), 256 + 255);
     assert!(rows[1].starts_with("    0                  \\xff>1  \\xfe>2"), "{}", rows[1]);
+    let said = here.marks(&["show", "--compact", "file"]);
+    assert!(said.out.contains("\nmemory 8224 bytes of sets and 5140 of targets, where the first form has 3084\n"), "{}", said.out);
+    let rows: Vec<&str> = said.out.lines().skip(5).collect();
+    assert!(rows.iter().all(|row| row.len() <= 80), "{}", said.out);
+    assert_eq!(rows.iter().skip(1).flat_map(|row| row[28.min(row.len())..].split_whitespace()).count(), 256 + 255);
+    assert!(rows[1].starts_with("    0                      0  \\x00>256  \\x01>255"), "{}", rows[1]);
 }
 
 #[test]

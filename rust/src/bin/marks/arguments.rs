@@ -111,7 +111,13 @@ fn check(words: Words) -> Result<Command, Trouble> {
 }
 
 fn show(words: Words) -> Result<Command, Trouble> {
-    let (dot, kind) = (words.has("dot"), if words.has("failure") { Kind::Failure } else { Kind::Factor });
+    words.one_of("show", &["failure", "compact"], "choose one")?;
+    let dot = words.has("dot");
+    let kind = match ["failure", "compact"].map(|long| words.has(long)) {
+        [true, _] => Kind::Failure,
+        [_, true] => Kind::Compact,
+        _ => Kind::Factor,
+    };
     let Ok([file]) = <[OsString; 1]>::try_from(words.rest) else {
         return Err(Trouble::new("show", "it takes one MARKFILE", "name one that marks save wrote, or - for standard input"));
     };

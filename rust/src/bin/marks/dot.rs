@@ -9,7 +9,7 @@ use crate::{
 pub fn lines(oracle: &Oracle) -> Vec<String> {
     let held = oracle.word();
     let (name, extra) = match oracle.kind {
-        Kind::Factor => ("oracle", "style=dashed, constraint=false"),
+        Kind::Factor | Kind::Compact => ("oracle", "style=dashed, constraint=false"),
         Kind::Failure => ("failure oracle", "constraint=false"),
     };
     let title = format!("finds {}: the {name} of its mirror, {}", quoted(&mirror(&held)), quoted(&held));

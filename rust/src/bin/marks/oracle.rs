@@ -1,32 +1,44 @@
 //! An oracle, read from its table by the rule of docs/TABLE.md: entries are looked up, and nothing is worked out.
 
-use marks::{entries, failure_table_room, table_room, LoadError, LONGEST_WORD};
+use marks::{compact_sets_room, compact_targets_room, entries, failure_table_room, table_room, LoadError, LONGEST_WORD};
 use std::iter;
 
-/// Which oracle of a word.
+/// Which oracle of a word, and in which form.
 #[derive(Clone, Copy, PartialEq)]
 pub enum Kind {
     Factor,
     Failure,
+    /// The same oracle as the first, as compact rows.
+    Compact,
 }
 
 pub struct Oracle {
-    /// Rows of m+1 entries: six, or ten of a failure oracle. The first has the letters in both.
+    /// Rows of m+1 entries: six, or ten of a failure oracle or of compact rows. The first has the letters in each.
     table: Vec<u16>,
+    /// The sets of compact rows, four words for each state.
+    sets: Vec<u64>,
     m: usize,
     pub kind: Kind,
 }
 
 impl Oracle {
-    /// The oracle in a mark file, or the failure oracle of the same word.
+    /// The oracle in a mark file, or the failure oracle or the compact rows of the same word.
     pub fn of_file(file: &[u8], kind: Kind) -> Result<Oracle, LoadError> {
-        let (mut word, mut table) = (vec![0; LONGEST_WORD], vec![0; table_room(LONGEST_WORD)]);
+        let (mut word, mut table, mut sets) = (vec![0; LONGEST_WORD], vec![0; table_room(LONGEST_WORD)], Vec::new());
         let m = entries::load(file, &mut word, &mut table)?;
-        if kind == Kind::Failure {
-            table = vec![0; failure_table_room(m)];
-            entries::failure_build(&word[..m], &mut table).expect("a file's word is within the limits");
-        }
-        Ok(Oracle { table, m, kind })
+        let made = match kind {
+            Kind::Factor => Ok(m),
+            Kind::Failure => {
+                table = vec![0; failure_table_room(m)];
+                entries::failure_build(&word[..m], &mut table)
+            }
+            Kind::Compact => {
+                (sets, table) = (vec![0; compact_sets_room(m)], vec![0; compact_targets_room(m)]);
+                entries::compact_build(&word[..m], &mut sets, &mut table)
+            }
+        };
+        made.expect("a file's word is within the limits");
+        Ok(Oracle { table, sets, m, kind })
     }
 
     fn entry(&self, row: usize, place: usize) -> usize {
@@ -49,7 +61,7 @@ impl Oracle {
 
     /// State 0 has none, and no state of a failure oracle.
     pub fn supply(&self, state: usize) -> Option<usize> {
-        (self.kind == Kind::Factor && state > 0).then(|| self.entry(1, state))
+        (self.kind != Kind::Failure && state > 0).then(|| self.entry(1, state))
     }
 
     /// Where the failure arrow leads, which only states of a failure oracle have. None leads to state 0.
@@ -62,12 +74,35 @@ impl Oracle {
         (state < self.m).then_some(state + 1)
     }
 
-    /// Where the arrows on letters beside the spine lead: rising, in a failure oracle in the order in which they were added.
+    /// Where the targets of a state start in their row, which only compact rows tell.
+    pub fn start(&self, state: usize) -> Option<usize> {
+        (self.kind == Kind::Compact).then(|| self.entry(4, 4 * state))
+    }
+
+    /// Every arrow on a letter that leaves a state: the letter, and where it leads. The spine's is first, but in compact rows they are by rising letter.
+    pub fn arrows(&self, state: usize) -> Vec<(u8, usize)> {
+        match self.start(state) {
+            Some(start) => (0..=u8::MAX).filter(|letter| self.is_in_set(state, *letter)).zip(self.targets(start)).collect(),
+            None => self.spine(state).into_iter().chain(self.extra(state)).filter_map(|to| Some((self.letter(to)?, to))).collect(),
+        }
+    }
+
+    fn is_in_set(&self, state: usize, letter: u8) -> bool {
+        self.sets[4 * state + usize::from(letter / 64)] >> (letter % 64) & 1 == 1
+    }
+
+    /// The row of targets of compact rows, from a place on.
+    fn targets(&self, start: usize) -> impl Iterator<Item = usize> + '_ {
+        (start..).map(|place| self.entry(8, place))
+    }
+
+    /// Where the arrows on letters beside the spine lead: rising, in a failure oracle in the order in which they were added, in compact rows by letter.
     pub fn extra(&self, state: usize) -> Vec<usize> {
         match (self.kind, self.spine(state)) {
             (Kind::Factor, Some(next)) => (self.entry(2, state)..self.entry(2, next)).map(|slot| self.entry(3, slot)).collect(),
             (Kind::Factor, None) => Vec::new(),
             (Kind::Failure, _) => self.chain(state),
+            (Kind::Compact, spine) => self.arrows(state).into_iter().map(|(_, to)| to).filter(|to| spine != Some(*to)).collect(),
         }
     }
 
@@ -119,11 +154,31 @@ mod tests {
     }
 
     #[test]
+    fn compact_rows_have_the_arrows_of_the_oracle() {
+        let every: Vec<u8> = (0..=255).chain(b"abbbaab".repeat(30)).collect();
+        for word in [b"abbbaab".to_vec(), b"abcacdace".to_vec(), b"aa".to_vec(), every] {
+            let file = Mark::new(&word).unwrap().to_file().unwrap();
+            let [first, compact] = [Kind::Factor, Kind::Compact].map(|kind| Oracle::of_file(&file, kind).unwrap());
+            assert_eq!(compact.word(), first.word());
+            let mut before = 0;
+            for state in first.states() {
+                let mut arrows = first.arrows(state);
+                arrows.sort_unstable();
+                assert_eq!((compact.arrows(state), compact.start(state)), (arrows, Some(before)));
+                let mut extra = compact.extra(state);
+                extra.sort_unstable();
+                assert_eq!((extra, compact.supply(state)), (first.extra(state), first.supply(state)));
+                before += compact.arrows(state).len();
+            }
+        }
+    }
+
+    #[test]
     fn slots_are_followed_from_the_newest_to_the_oldest() {
         let mut table = vec![0; 10 * 3];
         // state 1 has slots 2 and 1, which lead to 2 and 1
         (table[2 * 3 + 1], table[3 * 3 + 2], table[4 * 3 + 2], table[4 * 3 + 1]) = (2, 1, 2, 1);
-        let oracle = Oracle { table, m: 2, kind: Kind::Failure };
+        let oracle = Oracle { table, sets: Vec::new(), m: 2, kind: Kind::Failure };
         assert_eq!(oracle.states().map(|x| oracle.extra(x)).collect::<Vec<_>>(), [vec![], vec![1, 2], vec![]]);
     }
 }

@@ -1,4 +1,4 @@
-//! `marks show`: the oracle in a mark file, or the failure oracle of the same word, as a table or as text for a picture.
+//! `marks show`: the oracle in a mark file, its compact rows, or the failure oracle of the same word, as a table or as text for a picture.
 
 use crate::{
     dot, input, names,
@@ -7,6 +7,7 @@ use crate::{
     trouble::Trouble,
     word::{counted, letter, mirror, quoted},
 };
+use marks::{compact_sets_room, compact_targets_room, table_room};
 use std::ffi::OsStr;
 
 /// The columns of a screen.
@@ -24,32 +25,48 @@ pub fn show(name: &OsStr, kind: Kind, as_dot: bool, output: &mut Output) -> Resu
 
 fn table(oracle: &Oracle, size: usize) -> Vec<String> {
     let held = oracle.word();
-    let arrows = held.len() + oracle.states().map(|state| oracle.extra(state).len()).sum::<usize>();
-    let size = match oracle.kind {
-        Kind::Factor => format!("{}, {}, {}", counted(size, "byte"), counted(held.len(), "letter"), counted(arrows, "arrow")),
-        Kind::Failure => {
-            let failures = oracle.states().filter_map(|state| oracle.failure(state)).count();
-            format!("{}, {}, {}", counted(held.len(), "letter"), counted(arrows, "symbol arrow"), counted(failures, "failure arrow"))
-        }
-    };
+    let order = if oracle.kind == Kind::Compact { "by rising letter" } else { "the spine's first" };
     let mut lines = vec![
         format!("finds  {}", quoted(&mirror(&held))),
         format!("holds  {}, its mirror, because the search reads backward", quoted(&held)),
-        format!("size   {size}"),
-        String::new(),
-        format!("state  letter  {}  arrows out: letter>state, the spine's first", third_column(oracle)),
+        format!("size   {}", numbers(oracle, size)),
     ];
+    if oracle.kind == Kind::Compact {
+        lines.push(format!("memory {}", memory(held.len())));
+    }
+    lines.extend([String::new(), format!("state  letter  {}  arrows out: letter>state, {order}", columns(oracle))]);
     for state in oracle.states() {
         lines.extend(rows(oracle, state).iter().map(|row| row.trim_end().to_string()));
     }
     lines
 }
 
-/// The name of the third column.
-fn third_column(oracle: &Oracle) -> &'static str {
+/// How much of everything there is.
+fn numbers(oracle: &Oracle, size: usize) -> String {
+    let (letters, arrows) =
+        (counted(oracle.word().len(), "letter"), oracle.states().map(|state| oracle.arrows(state).len()).sum::<usize>());
+    match oracle.kind {
+        Kind::Factor => format!("{}, {letters}, {}", counted(size, "byte"), counted(arrows, "arrow")),
+        Kind::Compact => format!("{letters}, {}", counted(arrows, "arrow")),
+        Kind::Failure => {
+            let failures = oracle.states().filter_map(|state| oracle.failure(state)).count();
+            format!("{letters}, {}, {}", counted(arrows, "symbol arrow"), counted(failures, "failure arrow"))
+        }
+    }
+}
+
+/// The bytes of both forms of an oracle of m letters.
+fn memory(m: usize) -> String {
+    let (sets, targets, table) = (8 * compact_sets_room(m), 2 * compact_targets_room(m), 2 * table_room(m));
+    format!("{sets} bytes of sets and {targets} of targets, where the first form has {table}")
+}
+
+/// The names of the columns between letter and arrows.
+fn columns(oracle: &Oracle) -> &'static str {
     match oracle.kind {
         Kind::Factor => "supply",
         Kind::Failure => "failure",
+        Kind::Compact => "supply  start",
     }
 }
 
@@ -57,12 +74,14 @@ fn third_column(oracle: &Oracle) -> &'static str {
 fn rows(oracle: &Oracle, state: usize) -> Vec<String> {
     let into = oracle.letter(state).map(letter).unwrap_or_default();
     let other = oracle.supply(state).or(oracle.failure(state)).map(|state| state.to_string()).unwrap_or_default();
-    let width = third_column(oracle).len();
-    let mut rows = vec![format!("{state:>5}  {into:<6}  {other:>width$}")];
-    for target in oracle.spine(state).into_iter().chain(oracle.extra(state)) {
-        let arrow = format!("  {}>{target}", oracle.letter(target).map(letter).unwrap_or_default());
+    let start = oracle.start(state).map(|start| format!("  {start:>5}")).unwrap_or_default();
+    let width = columns(oracle).len() - start.len();
+    let mut rows = vec![format!("{state:>5}  {into:<6}  {other:>width$}{start}")];
+    let front = rows[0].len();
+    for (on, target) in oracle.arrows(state) {
+        let arrow = format!("  {}>{target}", letter(on));
         if rows[rows.len() - 1].len() + arrow.len() > SCREEN {
-            rows.push(" ".repeat(15 + width));
+            rows.push(" ".repeat(front));
         }
         rows.last_mut().expect("there is a row").push_str(&arrow);
     }

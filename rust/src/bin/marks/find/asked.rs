@@ -74,6 +74,7 @@ fn engine(words: &Words) -> Engine {
         Some("backward") => Engine::Backward,
         Some("turbo") => Engine::Turbo,
         Some("failure") => Engine::Failure,
+        Some("compact") => Engine::Compact,
         _ => Engine::Auto,
     }
 }

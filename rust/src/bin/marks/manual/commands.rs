@@ -57,8 +57,8 @@ pub static COMMANDS: [Command; 6] = [
     Command {
         name: "show",
         forms: &[("MARKFILE", "its oracle as a table: states, supplies, arrows")],
-        more: &["The oracle is the automaton that the search walks; find --engine failure walks the one that --failure shows. The file - \
-             is standard input."],
+        more: &["The oracle is the automaton that the search walks; find --engine failure walks the one that --failure shows, and find \
+             --engine compact the form that --compact shows. The file - is standard input."],
         of_commands: false,
     },
     Command {

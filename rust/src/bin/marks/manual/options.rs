@@ -12,7 +12,7 @@ const ALL: &[&str] = &["find", "salvage", "save", "check", "show", "help"];
 /// What an option has where nothing is said of it.
 const PLAIN: Known = Known { short: None, long: "", value: None, commands: &[], line: "", more: "" };
 
-pub static OPTIONS: [Known; 25] = [
+pub static OPTIONS: [Known; 26] = [
     Known {
         short: Some(b'x'),
         long: "hex",
@@ -103,7 +103,8 @@ pub static OPTIONS: [Known; 25] = [
                that is fair, then over to turbo; for a word of more than 64 bytes it is turbo from the start. Failure walks the failure \
                oracle, and is there for its fewer arrows and for comparing: for a word of m bytes that repeats itself, making its table \
                walks up to m*m/2 letters, 8.4 million for 4,096 bytes, for each part of a file again, and it may read m letters for each \
-               byte of a hostile file, as backward may.",
+               byte of a hostile file, as backward may. Compact is backward with compact rows, the form for boards with little stack: it \
+               reads the same letters, and shows here what such a board does.",
         ..PLAIN
     },
     Known {
@@ -169,6 +170,15 @@ pub static OPTIONS: [Known; 25] = [
         line: "the failure oracle of the same word",
         more: "It is the automaton that find --engine failure walks. A state may have one failure arrow, taken only where no arrow on the \
                letter leaves the state, and reading none. --dot draws these arrows dashed. It is not in the file: it is made of the word.",
+        ..PLAIN
+    },
+    Known {
+        long: "compact",
+        commands: &["show"],
+        line: "the same oracle as compact rows, and their memory",
+        more: "It is the form that find --engine compact walks, with the same arrows: for each state the letters with an arrow as a set of \
+               256 bits, and all targets in one row, in which those of a state begin at its start. How many bytes both have is told, \
+               beside those of the first form, which show prints without it. It is not in the file: it is made of the word.",
         ..PLAIN
     },
     Known { short: Some(b'h'), long: "help", commands: ALL, line: "this help; -h is shorter than --help", ..PLAIN },

@@ -12,7 +12,7 @@ pub const MARKFILE: Value = Value {
 
 pub const ENGINE: Value = Value {
     name: "NAME",
-    kind: Kind::OneOf(&["auto", "backward", "turbo", "failure"]),
+    kind: Kind::OneOf(&["auto", "backward", "turbo", "failure", "compact"]),
     missing: "no name follows it",
     advice: "",
     advice_of_two: "choose one",
