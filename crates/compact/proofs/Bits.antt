@@ -2,7 +2,7 @@
 use mathlib.Core.Path.{_≡_, refl, sym, ap, ap₂, _∙_}
 use mathlib.Core.Logic.{_≢_, by-cases}
 use mathlib.Core.Bool.{Bool, true, false, cond, _||_}
-use Prim.Native.Nat.{ℕ, zero, suc, _+_, _-_, _*_, _/_, _%_, _^_, _≤_, _<_}
+use Prim.Native.Nat.{ℕ, zero, suc, _+_, _-_, _*_, _/_, _%_, _^_, _<_}
 use native.Mathlib.Nat.{one-mul, mod-lt, mod-eq-of-lt, div-eq-of-lt}
 use native.Mathlib.Numerals.{one-add}
 use native.Mathlib.Decide.{decLt, ℕ-discrete}
@@ -120,7 +120,10 @@ power-bit b d = by-cases (ℕ-discrete b d)
     higher e h =
         let k = b - d - 1 in
         let apart : k + 1 + d ≡ b = omega arith in
-        let shifted : 2 ^ b / 2 ^ d ≡ 2 ^ (k + 1) = ap (λ (i : ℕ). 2 ^ i / 2 ^ d) (sym apart) ∙ ap (λ (n : ℕ). n / 2 ^ d) (pow-add 2 (k + 1) d) ∙ shl-shr (2 ^ (k + 1)) d in
+        let shifted : 2 ^ b / 2 ^ d ≡ 2 ^ (k + 1) =
+        ap (λ (i : ℕ). 2 ^ i / 2 ^ d) (sym apart)
+        ∙ ap (λ (n : ℕ). n / 2 ^ d) (pow-add 2 (k + 1) d)
+        ∙ shl-shr (2 ^ (k + 1)) d in
         let even : 2 ^ (k + 1) % 2 ≡ 0 = rw (pow-add 2 k 1) (omega arith) in
         rw (shifted, even)
 

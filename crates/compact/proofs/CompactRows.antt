@@ -1,9 +1,9 @@
 -- THE WORDS AND THE ENTRIES of compact rows, place by place: what `setsFrom δ m` and `compactFrom p δ S` hold.
-use mathlib.Core.Path.{_≡_, refl, sym, ap, _∙_}
-use mathlib.Core.List.{List, [], _∷_, _++_, map}
-use Prim.Native.Nat.{ℕ, zero, suc, _+_, _*_, _≤_, _<_}
+use mathlib.Core.Path.{_≡_, sym, ap, _∙_}
+use mathlib.Core.List.{List, _∷_, _++_, map}
+use Prim.Native.Nat.{ℕ, zero, suc, _+_, _*_, _<_}
 use native.Mathlib.Nat.{zero-add}
-use native.Mathlib.Numerals.{one-add, add-one}
+use native.Mathlib.Numerals.{add-one}
 use native.Mathlib.Omega.{arith}
 use lib.ListN.{length, getD, take, replicate, length-append, length-map, length-take, length-replicate}
 use lib.ListN.{List·getD-append}
@@ -71,7 +71,8 @@ module _ (p : Word) (δ : Delta) (S : State → State) where
   pub compact-size : length L ≡ compactRoom (length p)
   unfolding compactFrom
   compact-size =
-      let e : length L ≡ length letterRow + (length supplyRow + (length zeros + (length startRows + length targetRows))) = simp length-append in
+      let behind = length supplyRow + (length zeros + (length startRows + length targetRows)) in
+      let e : length L ≡ length letterRow + behind = simp length-append in
       omega (arith, e, supply-row, zero-rows, start-rows, target-rows)
 
   -- the letters, behind a zero

@@ -1,7 +1,6 @@
 -- AS FEW AS THE RULE'S ARROWS: the arrows by number are all different, and each is among those that the suffix rule adds or has from the
 -- start. So their targets fit into two rows.
 use mathlib.Core.Path.{_≡_, refl, ap, _∙_}
-use mathlib.Core.Logic.{_≢_}
 use mathlib.Core.Option.{Option, none, some}
 use mathlib.Core.List.{List, [], _∷_, _++_, List·Memᴰ, List·Memᴰ·head, List·Memᴰ·tail}
 use Prim.Native.Nat.{ℕ, zero, suc, _+_, _-_, _*_, _/_, _%_, _≤_, _<_}
@@ -9,7 +8,7 @@ use native.Mathlib.Omega.{arith}
 use lib.ListN.{length, length-append}
 use Rattle.words.specs.Words.{Word}
 use Rattle.words.proofs.Distinct.{Distinct, empty, more, distinct-length}
-use Rattle.oracle.specs.Arrows.{State, Arrow, arrow, Delta, target}
+use Rattle.oracle.specs.Arrows.{State, Arrow, arrow, Delta}
 use Rattle.oracle.specs.SuffixRule.{suffixRule, oracle}
 use Rattle.oracle.proofs.Targets.{target-member}
 use Rattle.oracle.proofs.Theorems.{arrows-between}

@@ -1,14 +1,13 @@
--- A LOOKUP in formed rows, in the terms that code has: past the last state, along the spine, at a letter that is not in the state's set, and
--- at one that is, whose target stands where its word's targets start and behind those of the ones below it.
-use mathlib.Core.Path.{_≡_, refl, sym, ap, _∙_}
+-- A LOOKUP in formed rows, in the terms that code has: past the last state, along the spine, at a letter that is not in the state's set,
+-- and at one that is, whose target stands where its word's targets start and behind those of the ones below it.
+use mathlib.Core.Path.{_≡_, sym, ap, _∙_}
 use mathlib.Core.Logic.{by-cases}
 use mathlib.Core.Bool.{true, false}
-use mathlib.Core.Option.{Option, none, some}
+use mathlib.Core.Option.{none, some}
 use mathlib.Core.List.{List}
-use Prim.Native.Nat.{ℕ, zero, suc, _+_, _-_, _*_, _/_, _%_, _≤_, _<_}
+use Prim.Native.Nat.{ℕ, _+_, _-_, _*_, _/_, _%_, _≤_, _<_}
 use native.Mathlib.Decide.{ℕ-discrete}
 use native.Mathlib.Omega.{arith}
-use lib.ListN.{length}
 use Rattle.words.specs.Lists.{at}
 use Rattle.words.specs.Words.{Letter}
 use Rattle.oracle.specs.Arrows.{State}

@@ -1,17 +1,17 @@
 -- RANK: the ones of a state's four words, masked to letters below c, are the letters below c in its set. Each word adds those of its 64
 -- letters that are below c (`rank-step`), and after four all are counted.
-use mathlib.Core.Path.{_≡_, refl, sym, ap, ap₂, _∙_}
+use mathlib.Core.Path.{_≡_, refl, ap, _∙_}
 use mathlib.Core.Logic.{by-cases}
 use mathlib.Core.Bool.{cond}
 use mathlib.Core.List.{List}
-use Prim.Native.Nat.{ℕ, zero, suc, _+_, _-_, _*_, _/_, _%_, _≤_, _<_}
+use Prim.Native.Nat.{ℕ, suc, _+_, _-_, _*_, _/_, _%_, _≤_, _<_}
 use native.Mathlib.Decide.{decLe}
 use native.Mathlib.Omega.{arith}
 use lib.Dec.{leb}
 use borrow.Author.Tests.{le-leb, lt-leb}
 use Rattle.words.specs.Lists.{at}
 use Rattle.oracle.specs.Arrows.{State}
-use Rattle.compact.specs.Compact.{arrowNumber, bitAt, marked, inSet, howMany}
+use Rattle.compact.specs.Compact.{bitAt, inSet, howMany}
 use Rattle.compact.specs.CompactFormed.{OnesBelow}
 use Rattle.compact.proofs.Counting.{count-split, count-same, count-most}
 
@@ -62,7 +62,8 @@ module _ (Z : List ℕ) (x : State) where
       rw (word, bit)
 
   -- the first r of them
-  pub word-count : (k r : ℕ) → r ≤ 64 → howMany (inSet Z x) (64 * k + r) ≡ howMany (inSet Z x) (64 * k) + howMany (bitAt (at Z (4 * x + k))) r
+  pub word-count : (k r : ℕ) → r ≤ 64
+      → howMany (inSet Z x) (64 * k + r) ≡ howMany (inSet Z x) (64 * k) + howMany (bitAt (at Z (4 * x + k))) r
   word-count k r h =
       count-split (inSet Z x) (64 * k) r
       ∙ ap (λ (n : ℕ). howMany (inSet Z x) (64 * k) + n)
@@ -73,7 +74,8 @@ module _ (Z : List ℕ) (x : State) where
     up-to : ℕ → ℕ
     up-to i = cond (leb c (64 * i)) c (64 * i)
 
-    rank-step : (i : ℕ) {r : ℕ} → OnesBelow (at Z (4 * x + i)) i c r → howMany (inSet Z x) (up-to (suc i)) ≡ howMany (inSet Z x) (up-to i) + r
+    rank-step : (i : ℕ) {r : ℕ} → OnesBelow (at Z (4 * x + i)) i c r
+        → howMany (inSet Z x) (up-to (suc i)) ≡ howMany (inSet Z x) (up-to i) + r
     unfolding up-to
     rank-step i {r} B = by-cases (decLe c (64 * i))
         (λ h. rw (le-leb c (64 * suc i) (omega arith), le-leb c (64 * i) h, B .nothing h) (omega arith))
@@ -96,7 +98,9 @@ module _ (Z : List ℕ) (x : State) where
     unfolding up-to howMany
     rank-told h {r₀} {r₁} {r₂} {r₃} B₀ B₁ B₂ B₃ =
         let e : 4 * x + 0 ≡ 4 * x = omega arith in
-        let start : howMany (inSet Z x) (up-to 0) ≡ 0 = by-cases (decLe c 0) (λ l. let z : c ≡ 0 = omega arith in rw (le-leb c 0 l, z)) (λ l. rw (lt-leb c 0 (omega arith))) in
+        let start : howMany (inSet Z x) (up-to 0) ≡ 0 = by-cases (decLe c 0)
+        (λ l. let z : c ≡ 0 = omega arith in rw (le-leb c 0 l, z))
+        (λ l. rw (lt-leb c 0 (omega arith))) in
         let end : up-to 4 ≡ c = rw (le-leb c 256 h) in
         let all = rw end at (rank-step 3 B₃) in
         omega (arith, start, rank-step 0 (rw (← e) at B₀), rank-step 1 B₁, rank-step 2 B₂, all)

@@ -3,14 +3,13 @@
 -- smaller letters of the set counts the arrows of smaller numbers from that state (`count-told`), and behind the state's start that is
 -- the target's place (`place-told`).
 use mathlib.Core.Path.{_≡_, refl, sym, ap, ap₂, _∙_}
-use mathlib.Core.Logic.{by-cases}
 use mathlib.Core.Bool.{Bool, true, false, cond, _&&_}
 use mathlib.Core.Option.{Option, none, some}
 use mathlib.Core.List.{List}
 use Prim.Native.Nat.{ℕ, _+_, _*_, _/_, _%_, _^_, _≤_, _<_}
 use native.Mathlib.Omega.{arith}
 use lib.ListN.{length}
-use lib.Dec.{ltb, leb}
+use lib.Dec.{leb}
 use borrow.Author.Tests.{lt-ltb, le-ltb, le-leb, lt-leb}
 use Rattle.words.specs.Lists.{at}
 use Rattle.words.specs.Words.{Letter, Word}
@@ -19,7 +18,7 @@ use Rattle.compact.specs.Compact.{arrowNumber, arrowAt, isArrow, setWord
 use Rattle.compact.specs.Compact.{bitAt, inSet, howMany, readCompact}
 use Rattle.compact.proofs.Bits.{bits-at, bits-small}
 use Rattle.compact.proofs.Counting.{count-split, count-same}
-use Rattle.compact.proofs.Targets.{there, targets-length, target-inside, target-at, targets-rise}
+use Rattle.compact.proofs.Targets.{there, targets-length, target-inside, target-at}
 use Rattle.compact.proofs.CompactRows.{word-at, starts-there, targets-there}
 
 -- ── Sets ───────────────────────────────────────────────────────────────────
@@ -55,7 +54,8 @@ module _ (δ : Delta) (m : ℕ) (Z : List ℕ) (told : (i : ℕ) → i < 4 * (m 
     set-told c l = number-told (arrowNumber x c) (omega arith) ∙ ap isArrow (arrow-of δ x c l)
 
     -- those of smaller letters
-    pub count-told : (c : Letter) → c ≤ 256 → length (targetsUpTo δ (256 * x)) + howMany (inSet Z x) c ≡ length (targetsUpTo δ (arrowNumber x c))
+    pub count-told : (c : Letter) → c ≤ 256
+        → length (targetsUpTo δ (256 * x)) + howMany (inSet Z x) c ≡ length (targetsUpTo δ (arrowNumber x c))
     count-told c l =
         ap₂ (λ (a b : ℕ). a + b) (targets-length δ (256 * x)) (count-same (inSet Z x) (λ d. there δ (arrowNumber x d)) c same)
         ∙ sym (count-split (there δ) (256 * x) c)
@@ -100,7 +100,8 @@ module _ (p : Word) (δ : Delta) (S : State → State) (few : length (targetsUpT
   abbrev L : List ℕ
   L = compactFrom p δ S
 
-  pub place-told : (x : State) (c : Letter) → x ≤ m → c ≤ 256 → at L (4 * (m + 1) + 4 * x) + howMany (inSet Z x) c ≡ length (targetsUpTo δ (arrowNumber x c))
+  pub place-told : (x : State) (c : Letter) → x ≤ m → c ≤ 256
+      → at L (4 * (m + 1) + 4 * x) + howMany (inSet Z x) c ≡ length (targetsUpTo δ (arrowNumber x c))
   place-told x c h l =
       let e : 64 * (4 * x) ≡ 256 * x = omega arith in
       ap (λ (a : ℕ). a + howMany (inSet Z x) c) (starts-there p δ S (4 * x) (omega arith) ∙ ap (λ (g : ℕ). length (targetsUpTo δ g)) e)

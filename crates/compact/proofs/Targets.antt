@@ -1,7 +1,7 @@
 -- THE ROW OF TARGETS: each arrow's target stands behind those of the arrows with smaller numbers, and nothing else stands there.
-use mathlib.Core.Path.{_≡_, refl, sym, ap, ap₂, _∙_}
+use mathlib.Core.Path.{_≡_, refl, ap, ap₂, _∙_}
 use mathlib.Core.Logic.{by-cases}
-use mathlib.Core.Bool.{Bool, true, cond}
+use mathlib.Core.Bool.{Bool, cond}
 use mathlib.Core.Option.{Option, none, some}
 use mathlib.Core.List.{List, [], _∷_, _++_}
 use Prim.Native.Nat.{ℕ, zero, suc, _+_, _≤_, _<_}
@@ -13,7 +13,7 @@ use lib.Seq.{getD-append-add}
 use Rattle.words.specs.Lists.{at}
 use Rattle.oracle.specs.Arrows.{State, Delta}
 use Rattle.compact.specs.Compact.{arrowAt, isArrow, asList, targetsUpTo, howMany}
-use Rattle.compact.proofs.Counting.{count-rises, count-passes}
+use Rattle.compact.proofs.Counting.{count-rises}
 
 as-list-length : (o : Option State) → length (asList o) ≡ cond (isArrow o) 1 0
 unfolding asList isArrow
@@ -58,7 +58,8 @@ module _ (δ : Delta) where
 
     pub target-at : (k : ℕ) → g < k → at (targetsUpTo δ k) (length (targetsUpTo δ g)) ≡ y
     target-at k h =
-        let here : at (targetsUpTo δ g ++ (y ∷ [])) (length (targetsUpTo δ g)) ≡ y = rw (add-zero (length (targetsUpTo δ g))) at (getD-append-add (targetsUpTo δ g) (y ∷ []) 0 0) in
+        let behind = getD-append-add (targetsUpTo δ g) (y ∷ []) 0 0 in
+        let here : at (targetsUpTo δ g ++ (y ∷ [])) (length (targetsUpTo δ g)) ≡ y = rw (add-zero (length (targetsUpTo δ g))) at behind in
         targets-stay (suc g) k (length (targetsUpTo δ g)) (omega arith) (target-inside (suc g) (omega arith))
         ∙ ap (λ (l : List State). at l (length (targetsUpTo δ g))) next
         ∙ here

@@ -1,10 +1,10 @@
 -- THE THEOREMS on compact rows, for every word of whatever length, each a sentence about the definitions alone: they have 4(m+1) words of
 -- 64 bits and 10(m+1) entries of 16; the rule reads from them, for every state and byte, what is read from the first form; the word and
 -- the supplies are read from them as from that.
-use mathlib.Core.Path.{_≡_, refl, sym, ap, _∙_}
+use mathlib.Core.Path.{_≡_, sym, ap, _∙_}
 use mathlib.Core.Logic.{by-cases}
 use mathlib.Core.Bool.{false}
-use mathlib.Core.Option.{Option, none, some, Option·getD}
+use mathlib.Core.Option.{none, Option·getD}
 use mathlib.Core.List.{List}
 use Prim.Native.Nat.{ℕ, zero, suc, _+_, _*_, _-_, _^_, _≤_, _<_}
 use native.Mathlib.Numerals.{add-one, one-add}
@@ -98,7 +98,8 @@ module _ (p : Word) where
       let s = supply-lower p (suc x) (omega arith) h in
       let S : State → State = λ x. Option·getD (supply p x) 0 in
       let value = map-from-at S 1 m x 0 h in
-      let there : at L (suc m + suc x) ≡ S (suc x) = rw (← add-one m) (supplies-there p (oracle p) S (suc x) (omega arith)) ∙ rw (one-add x) at value in
+      let there : at L (suc m + suc x) ≡ S (suc x) =
+      rw (← add-one m) (supplies-there p (oracle p) S (suc x) (omega arith)) ∙ rw (one-add x) at value in
       rw (ne-eqb (suc x) 0 (λ e. omega arith), le-leb (suc x) m h, there, s .1)
 
   -- ── Word by word and entry by entry ──────────────────────────────────────
@@ -169,7 +170,9 @@ module _ (p : Word) where
     starts = λ x h k l.
         let e : 64 * (4 * x + k) ≡ arrowNumber x (64 * k) = omega arith in
         start (4 * x + k) (omega arith) ∙ ap (λ (g : ℕ). length (targetsUpTo (oracle p) g)) e ∙ sym (place x (64 * k) h (omega arith));
-    fits = λ x h. omega (arith, place x 256 h (omega arith), targets-rise (oracle p) (arrowNumber x 256) (256 * (m + 1)) (omega arith), targets-fit);
+    fits = λ x h.
+        let all = targets-rise (oracle p) (arrowNumber x 256) (256 * (m + 1)) (omega arith) in
+        omega (arith, place x 256 h (omega arith), all, targets-fit);
     targets = target-bound;
     spine = λ x h. rw (letter-at x h, add-one x) (compact-arrow x (letter p x) (bytes x) ∙ oracle-over p .spine x h);
     last = λ c l. last-empty c l;

@@ -1,8 +1,8 @@
 -- COMPACT ROWS: a second form of the table of an oracle over a word of m letters, n = m + 1, and the rule by which it is read. It has 4n
 -- words of 64 bits and ten rows of n entries. Arrows are numbered: 256x + c is the number of the one from state x on the letter c.
 --
---   words, bit d of word i    whether there is an arrow of the number 64i + d; so the words 4x to 4x + 3 are the set of the letters on which
---                             an arrow leaves state x
+--   words, bit d of word i    whether there is an arrow of the number 64i + d; so the words 4x to 4x + 3 are the set of the letters on
+--                             which an arrow leaves state x
 --   row 0, entry i            the letter of state i, for i from 1 to m
 --   row 1, entry i            the supply of state i, for i from 1 to m
 --   rows 2 and 3              zero

@@ -18,7 +18,7 @@ use Rattle.table.specs.Table.{readWord, readSupply}
 use Rattle.compact.specs.Compact.{setsRoom, compactRoom, compactSets, compactTable, readCompact}
 use Rattle.compact.proofs.Theorems.{compact-arrow, compact-word, compact-supply}
 use Rattle.answers.specs.declared.SizeAnswer.{SizeAnswer}
-use Rattle.answers.specs.Answers.{done, refused, emptyWord, longWord, shortRoom, refusesOnly, oneOf}
+use Rattle.answers.specs.Answers.{done, refused, shortRoom, refusesOnly, oneOf}
 use Rattle.answers.proofs.Answers.{done-not-refused, size-answer-one}
 use Rattle.compact_entries.specs.CompactBuild.{Outcome, outcome, compactBuilt, compactBuildSays}
 use Rattle.compact_entries.specs.Cases.{TooSmall, CompactBuildCase}
@@ -91,7 +91,8 @@ module _ (word : Word) (Z T : List ℕ) where
     pub words : take (setsRoom m) Y ≡ compactSets word
     pub entries : take (compactRoom m) L ≡ compactTable word
     pub reads-word : readWord m (take (compactRoom m) L) ≡ word
-    pub reads-arrows : (x : State) (c : Letter) → c < 256 → readCompact m (take (setsRoom m) Y) (take (compactRoom m) L) x c ≡ oracle word x c
+    pub reads-arrows : (x : State) (c : Letter) → c < 256
+        → readCompact m (take (setsRoom m) Y) (take (compactRoom m) L) x c ≡ oracle word x c
     pub reads-supplies : (x : State) → x ≤ m → readSupply m (take (compactRoom m) L) x ≡ supply word x
     pub other-words : drop (setsRoom m) Y ≡ drop (setsRoom m) Z
     pub other-entries : drop (compactRoom m) L ≡ drop (compactRoom m) T

@@ -1,16 +1,16 @@
 -- TWO ROOMS: whether one of them is too small, as a test and as a statement; and what stands in each once its front has been filled.
-use mathlib.Core.Path.{_≡_, refl, sym, ap, _∙_}
+use mathlib.Core.Path.{_≡_, refl, ap, _∙_}
 use mathlib.Core.Logic.{inl, inr, ⊎-elim, by-cases}
 use mathlib.Core.Bool.{Bool, true, false, _||_}
 use mathlib.Core.List.{List, _++_}
-use Prim.Native.Nat.{ℕ, _≤_, _<_}
+use Prim.Native.Nat.{ℕ, _≤_}
 use native.Mathlib.Decide.{decLt}
 use native.Mathlib.Omega.{arith}
-use lib.ListN.{length, take, drop, length-append, length-reverse}
+use lib.ListN.{length, take, drop}
 use lib.Seq.{take-at, drop-at}
 use lib.Dec.{ltb}
 use borrow.Author.Tests.{lt-ltb, le-ltb}
-use Rattle.words.specs.Words.{Word, mirror}
+use Rattle.words.specs.Words.{Word}
 use Rattle.compact.specs.Compact.{setsRoom, compactRoom, compactSets, compactTable}
 use Rattle.compact.proofs.Theorems.{compact-sets-size, compact-table-size}
 use Rattle.compact_entries.specs.CompactBuild.{compactShort}

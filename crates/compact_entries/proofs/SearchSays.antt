@@ -1,10 +1,10 @@
--- THE THEOREMS on `compactSearchSays`: each refusal exactly where it is tabled, what a refusal leaves, what the code's scan comes to, that a
--- search with the first form finds and counts the same, and that the promise allows one outcome.
+-- THE THEOREMS on `compactSearchSays`: each refusal exactly where it is tabled, what a refusal leaves, what the code's scan comes to, and
+-- that the promise allows one outcome.
 use mathlib.Core.Path.{_≡_, refl, sym, ap, _∙_}
 use mathlib.Core.Bool.{true}
 use mathlib.Core.Logic.{_↔_}
 use mathlib.Core.List.{List, [], _∷_, _++_}
-use Prim.Native.Nat.{ℕ, _+_, _*_, _-_, _≤_, _<_}
+use Prim.Native.Nat.{ℕ, _+_, _-_, _≤_, _<_}
 use native.Mathlib.Decide.{decLt}
 use native.Mathlib.Omega.{arith}
 use lib.ListN.{length, take, drop, replicate, length-append, length-drop, length-replicate, length-reverse}
@@ -23,7 +23,7 @@ use Rattle.compact.specs.Compact.{setsRoom, compactRoom, compactSets, compactTa
 use Rattle.compact.specs.CompactFormed.{CompactFormed}
 use Rattle.compact.proofs.Theorems.{compact-agrees-all, compact-formed}
 use Rattle.answers.specs.declared.TallyAnswer.{TallyAnswer}
-use Rattle.answers.specs.Answers.{done, refused, emptyWord, longWord, longText, shortRoom, refusesOnly, oneOf}
+use Rattle.answers.specs.Answers.{done, refused, refusesOnly, oneOf}
 use Rattle.answers.proofs.Answers.{done-not-refused, tally-answer-one}
 use Rattle.marks.specs.Search.{found}
 use Rattle.compact_entries.specs.CompactSearch.{Outcome, outcome, compactSearched, compactSearchSays}
@@ -120,7 +120,8 @@ module _ (word : Word) {Y P : List ℕ} (R S : List ℕ) (filled-in : (Y ≡ com
       → F′ ≡ filled (steps (readCompact size (take (setsRoom size) (Y ++ R)) (take (compactRoom size) (P ++ S))) word text .starts) F
       → {S′ : List ℕ} → S ≡ S′
       → outcome (done t) (Y ++ R) (P ++ S) F′
-      ≡ outcome (done (found word text)) (compactSets (mirror word) ++ R) (compactTable (mirror word) ++ S′) (filled (occurrences word text) F)
+      ≡ outcome (done (found word text)) (compactSets (mirror word) ++ R) (compactTable (mirror word) ++ S′)
+      (filled (occurrences word text) F)
   scan-counts text F t f kept = rw (
     t,
     f,

@@ -1,6 +1,6 @@
 -- BEGINNING: the first form of a word in the front of entries that were cleared. Rows 4 and 5 of a first form are zero, so all behind its
 -- row 3 is.
-use mathlib.Core.Path.{_≡_, refl, sym, ap, _∙_}
+use mathlib.Core.Path.{_≡_, ap, _∙_}
 use mathlib.Core.Logic.{by-cases}
 use mathlib.Core.List.{List, _++_}
 use Prim.Native.Nat.{ℕ, suc, _+_, _*_, _-_, _≤_, _<_}
@@ -15,7 +15,7 @@ use Rattle.words.proofs.Lists.{at-behind}
 use Rattle.words.proofs.Loops.{zeros-at}
 use Rattle.oracle.specs.SuffixRule.{oracle}
 use Rattle.chains.specs.Letters.{wordIn}
-use Rattle.table.specs.Table.{room, tableOf}
+use Rattle.table.specs.Table.{tableOf}
 use Rattle.table.proofs.Copying.{mirror-small}
 use Rattle.table.proofs.Rows.{row-4}
 use Rattle.table.proofs.Theorems.{table-size}
@@ -48,12 +48,15 @@ module _ (p : Word) {m k : ℕ} {T r : List ℕ} (long : length p ≡ m) (few : 
   unfolding tableOf
   spare = row-4 p (oracle p) _
 
+  all-size : length T ≡ k
+  all-size = ap length cleared ∙ length-replicate k 0
+
   first : FirstForm p L m
   first = record {
     long = long;
     few = few;
     bytes = bytes;
-    size = length-append r _ ∙ omega (arith, front-size, length-drop (6 * (m + 1)) T, ap length cleared, length-replicate {A = ℕ} k 0, size);
+    size = length-append r _ ∙ omega (arith, front-size, length-drop (6 * (m + 1)) T, all-size, size);
     rows = λ i h. front i (omega arith);
   }
 
@@ -72,5 +75,6 @@ module _ (p : Word) {m k : ℕ} {T r : List ℕ} (long : length p ≡ m) (few : 
   finish-asked Z z = (first-own first, (z, zeros))
 
   -- and what it leaves is the word's
-  pub finish-told : {Y K : List ℕ} → (Y ≡ compactSets (wordIn L m)) × (K ≡ compactTable (wordIn L m)) → (Y ≡ compactSets p) × (K ≡ compactTable p)
+  pub finish-told : {Y K : List ℕ} → (Y ≡ compactSets (wordIn L m)) × (K ≡ compactTable (wordIn L m))
+      → (Y ≡ compactSets p) × (K ≡ compactTable p)
   finish-told says = rw (own-word first) at says

@@ -157,8 +157,8 @@ module _ {p : Word} {L : List ℕ} {m : ℕ} (F : FirstForm p L m) where
   unfolding compactSets
   sets-done e = rw (F .long) e
 
-  module _ {L₁ L₂ : List ℕ} (S : WithStarts (oracle p) m L L₁) (P : AllTargets (oracle (wordIn L₁ m)) m L₁ L₂) {a k : ℕ} (two : a ≡ 2 * (m + 1))
-      (as-many : k ≡ a) {C : List ℕ} (cleared : C ≡ replicate (length (midOf a k L₂)) 0) where
+  module _ {L₁ L₂ : List ℕ} (S : WithStarts (oracle p) m L L₁) (P : AllTargets (oracle (wordIn L₁ m)) m L₁ L₂) {a k : ℕ}
+      (two : a ≡ 2 * (m + 1)) (as-many : k ≡ a) {C : List ℕ} (cleared : C ≡ replicate (length (midOf a k L₂)) 0) where
     put : AllTargets (oracle p) m L₁ L₂
     put = rw (own-word (still-first S)) at P
 

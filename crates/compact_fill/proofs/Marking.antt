@@ -15,16 +15,15 @@ use lib.Seq.{getD-set-same, getD-set-other, ext-getD}
 use lib.Bits.{bitOr, or-lt}
 use lib.Dec.{eqb}
 use lib.Pow.{pow-lt, pow-pos}
-use borrow.Author.Tests.{eqb-true, eq-eqb, ne-eqb}
+use borrow.Author.Tests.{eq-eqb, ne-eqb}
 use Rattle.words.specs.Lists.{at}
 use Rattle.words.specs.Words.{Letter, Word}
-use Rattle.words.proofs.Lists.{true-not-false}
 use Rattle.words.proofs.Loops.{zeros-at}
 use Rattle.oracle.specs.Arrows.{State, Delta}
 use Rattle.oracle.specs.SuffixRule.{oracle}
 use Rattle.oracle.proofs.Targets.{never}
 use Rattle.compact.specs.Compact.{setsRoom, arrowNumber, isArrow, setWord, setsFrom, bitAt, marked, inSet}
-use Rattle.compact.proofs.Bits.{bits-small, same-bits, or-bit}
+use Rattle.compact.proofs.Bits.{same-bits, or-bit}
 use Rattle.compact.proofs.Counting.{shifted-one}
 use Rattle.compact.proofs.Targets.{there}
 use Rattle.compact.proofs.CompactRows.{sets-size, word-at}
@@ -67,7 +66,9 @@ bit-set Z g h = rw (shifted-one (g % 64) (omega arith)) (record {
         ∙ ap (λ (t : Bool). bitAt (at Z (g / 64)) (k % 64) || t) (same-test (g % 64) (k % 64) g k (λ q. omega arith) (λ q. omega arith)))
 
     other : (k : ℕ) → k / 64 ≢ g / 64 → marked (set Z (g / 64) w) k ≡ marked Z k || eqb g k
-    other k e = rw (getD-set-other Z (g / 64) (k / 64) w 0 e, ne-eqb g k (λ q. e (sym (ap (λ (i : ℕ). i / 64) q)))) (sym (or-false (marked Z k)))
+    other k e =
+        let apart : g ≢ k = λ q. e (sym (ap (λ (i : ℕ). i / 64) q)) in
+        rw (getD-set-other Z (g / 64) (k / 64) w 0 e, ne-eqb g k apart) (sym (or-false (marked Z k)))
 
 -- ── One state ──────────────────────────────────────────────────────────────
 
@@ -89,7 +90,8 @@ module _ {p : Word} {x : State} {Z : List ℕ} where
   marked-none = record { size = refl; small = λ s. s; own = λ c l. sym (or-false (inSet Z x c)); others = λ g h. refl }
 
   -- one more
-  pub marked-one : {Z′ Z″ : List ℕ} {j : ℕ} {d : Letter} → MarkedSome p x Z Z′ j → d ≡ letterInto p (at (outTargets p x) j) → letterInto p (at (outTargets p x) j) < 256
+  pub marked-one : {Z′ Z″ : List ℕ} {j : ℕ} {d : Letter} → MarkedSome p x Z Z′ j → d ≡ letterInto p (at (outTargets p x) j)
+      → letterInto p (at (outTargets p x) j) < 256
       → WithBit Z′ (arrowNumber x d) Z″ → MarkedSome p x Z Z″ (j + 1)
   unfolding among
   marked-one {Z′} {Z″} {j} {d} M e byte K = rw (add-one j) (record {
@@ -97,14 +99,16 @@ module _ {p : Word} {x : State} {Z : List ℕ} where
     small = λ s. K .small (M .small s);
     own = λ c l.
         K .told (arrowNumber x c)
-        ∙ ap (λ (t : Bool). inSet Z′ x c || t) (same-test (arrowNumber x d) (arrowNumber x c) d c (λ q. omega arith) (λ q. omega arith) ∙ ap (λ (i : ℕ). eqb i c) e)
+        ∙ ap (λ (t : Bool). inSet Z′ x c || t) (same-test (arrowNumber x d) (arrowNumber x c) d c (λ q. omega arith) (λ q. omega arith))
+        ∙ ap (λ (i : ℕ). inSet Z′ x c || eqb i c) e
         ∙ ap (λ (t : Bool). t || eqb (letterInto p (at (outTargets p x) j)) c) (M .own c l)
         ∙ or-assoc (inSet Z x c) (among p x c j) _;
     others = λ g h. K .told g ∙ rw (ne-eqb (arrowNumber x d) g (λ q. h (omega (arith, e)))) (or-false (marked Z′ g)) ∙ M .others g h;
   })
 
 -- none of them
-among-none : (p : Word) (x : State) (c : Letter) (k : ℕ) → ((j : ℕ) → j < k → letterInto p (at (outTargets p x) j) ≢ c) → among p x c k ≡ false
+among-none : (p : Word) (x : State) (c : Letter) (k : ℕ) → ((j : ℕ) → j < k → letterInto p (at (outTargets p x) j) ≢ c)
+    → among p x c k ≡ false
 unfolding among
 among-none p x c zero f = refl
 among-none p x c (suc k) f = rw (among-none p x c k (λ j h. f j (omega arith)), ne-eqb _ c (f k (omega arith)))
@@ -176,7 +180,8 @@ state-more {δ} {m} {Z} {Z′} {x} U M = record {
         let told : marked Z′ (arrowNumber x (g % 256)) ≡ isArrow (δ x (g % 256)) = rw empty at own in
         rw same at told ∙ ap (λ (y : ℕ). isArrow (δ y (g % 256))) (sym e)
 
-pub all-marked : {δ : Delta} {m : ℕ} {Z : List ℕ} {x : State} → MarkedUpTo δ m Z x → x ≡ m → ((c : Letter) → δ m c ≡ none) → Z ≡ setsFrom δ m
+pub all-marked : {δ : Delta} {m : ℕ} {Z : List ℕ} {x : State} → MarkedUpTo δ m Z x → x ≡ m → ((c : Letter) → δ m c ≡ none)
+    → Z ≡ setsFrom δ m
 unfolding isArrow
 all-marked {δ} {m} {Z} {x} U e none-last = ext-getD 0 Z (setsFrom δ m) (U .size ∙ sym (sets-size δ m)) (λ i h. word i (rw (U .size) at h))
   where

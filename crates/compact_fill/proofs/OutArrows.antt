@@ -3,7 +3,7 @@
 use mathlib.Core.Path.{_≡_, refl, sym, ap, _∙_}
 use mathlib.Core.Logic.{_≢_, by-cases}
 use mathlib.Core.Option.{some}
-use mathlib.Core.List.{List, _∷_, List·Memᴰ, List·Memᴰ·head, List·Memᴰ·tail}
+use mathlib.Core.List.{List, List·Memᴰ, List·Memᴰ·head, List·Memᴰ·tail}
 use Prim.Native.Nat.{ℕ, zero, suc, pred, _+_, _*_, _-_, _≤_, _<_}
 use native.Mathlib.Numerals.{one-add, add-one}
 use native.Mathlib.Decide.{ℕ-discrete}
@@ -107,13 +107,17 @@ module _ {p : Word} {L : List ℕ} {m : ℕ} (F : FirstForm p L m) where
 
     -- few enough
     pub starts-fit : start x + length (outTargets p x) ≤ m + 1
-    starts-fit = omega (arith, F .long, before-room (oracle p) p x (suc (length p)) (omega (arith, F .long)), oracle-extras-fit p (suc (length p)))
+    starts-fit =
+        let n = suc (length p) in
+        omega (arith, F .long, before-room (oracle p) p x n (omega (arith, F .long)), oracle-extras-fit p n)
 
     -- each but the first is in its slot
-    pub slot-there : (j : ℕ) → j ≢ 0 → j < length (outTargets p x) → at L (3 * (m + 1) + at L (2 * (m + 1) + x) + (j - 1)) ≡ at (outTargets p x) j
+    pub slot-there : (j : ℕ) → j ≢ 0 → j < length (outTargets p x)
+        → at L (3 * (m + 1) + at L (2 * (m + 1) + x) + (j - 1)) ≡ at (outTargets p x) j
     slot-there zero f l = absurd (f refl)
     slot-there (suc j) f l =
-        let e : 3 * (m + 1) + at L (2 * (m + 1) + x) + (suc j - 1) ≡ 3 * (m + 1) + (start x + j) = omega (arith, starts-there x (omega arith)) in
+        let own = starts-there x (omega arith) in
+        let e : 3 * (m + 1) + at L (2 * (m + 1) + x) + (suc j - 1) ≡ 3 * (m + 1) + (start x + j) = omega (arith, own) in
         ap (at L) e
         ∙ targets-there (start x + j) (omega (arith, starts-fit))
         ∙ own-targets p (oracle p) x (suc (length p)) (omega (arith, F .long)) j (omega arith)

@@ -3,10 +3,9 @@
 -- stays, and in the end the rows of targets hold those of all arrows and zeros.
 use mathlib.Core.Path.{_≡_, refl, sym, ap, _∙_}
 use mathlib.Core.Logic.{_≢_, by-cases}
-use mathlib.Core.Bool.{Bool}
 use mathlib.Core.Option.{Option, none, some}
 use mathlib.Core.List.{List}
-use Prim.Native.Nat.{ℕ, zero, suc, _+_, _*_, _/_, _%_, _^_, _≤_, _<_}
+use Prim.Native.Nat.{ℕ, suc, _+_, _*_, _/_, _%_, _≤_, _<_}
 use native.Mathlib.Numerals.{add-one}
 use native.Mathlib.Decide.{decLt, ℕ-discrete}
 use native.Mathlib.Omega.{arith}
@@ -20,10 +19,10 @@ use Rattle.oracle.specs.Arrows.{State, Delta}
 use Rattle.oracle.specs.SuffixRule.{oracle}
 use Rattle.oracle.proofs.Targets.{never}
 use Rattle.chains.specs.Letters.{wordIn}
-use Rattle.compact.specs.Compact.{setsRoom, arrowNumber, arrowAt, setWord, targetsUpTo, setsFrom, bitAt, inSet, howMany}
+use Rattle.compact.specs.Compact.{arrowNumber, arrowAt, setWord, targetsUpTo, setsFrom, bitAt, inSet, howMany}
 use Rattle.compact.proofs.Counting.{count-split, count-same, all-ones}
 use Rattle.compact.proofs.Targets.{there, targets-length, targets-rise, target-inside, target-at, target-of}
-use Rattle.compact.proofs.CompactRows.{sets-size, word-at}
+use Rattle.compact.proofs.CompactRows.{word-at}
 use Rattle.compact.proofs.ReadBack.{word-told, word-small, count-told, arrow-of}
 use Rattle.compact.proofs.Theorems.{targets-fit}
 use Rattle.compact_fill.specs.Filling.{outTargets, letterInto, placeOf, FirstForm, WithStarts, WithTargets, AllTargets}
@@ -118,11 +117,13 @@ module _ {p : Word} {L : List ℕ} {m : ℕ} (F : FirstForm p L m) (x : State) (
       counted : (c : Letter) → c < 256 → at L (4 * (m + 1) + 4 * x) + howMany (inSet Z x) c ≡ placeOf p x c
       counted c l =
           let at-state : 64 * (4 * x) ≡ 256 * x = omega arith in
-          ap (λ (a : ℕ). a + howMany (inSet Z x) c) (S .starts (4 * x) (omega arith) ∙ ap (λ (g : ℕ). length (targetsUpTo (oracle p) g)) at-state)
+          ap (λ (a : ℕ). a + howMany (inSet Z x) c) (S .starts (4 * x) (omega arith))
+          ∙ ap (λ (g : ℕ). length (targetsUpTo (oracle p) g) + howMany (inSet Z x) c) at-state
           ∙ count-told (oracle p) m Z (λ i k. rw e (word-at (oracle p) m i k)) x (omega arith) c (omega arith)
 
   -- arrows on different letters have different places
-  apart : {c d : Letter} {y z : State} → c < 256 → d < 256 → oracle p x c ≡ some y → oracle p x d ≡ some z → c ≢ d → placeOf p x c ≢ placeOf p x d
+  apart : {c d : Letter} {y z : State} → c < 256 → d < 256 → oracle p x c ≡ some y → oracle p x d ≡ some z → c ≢ d
+      → placeOf p x c ≢ placeOf p x d
   apart {c} {d} k l e f q = by-cases (decLt c d)
       (λ u v. omega (arith, target-inside (oracle p) (arrowNumber x c) (arrow-of (oracle p) x c k ∙ e) (arrowNumber x d) (omega arith)))
       (λ u v. omega (arith, target-inside (oracle p) (arrowNumber x d) (arrow-of (oracle p) x d l ∙ f) (arrowNumber x c) (omega arith)))
@@ -153,8 +154,8 @@ module _ {p : Word} {L : List ℕ} {m : ℕ} (F : FirstForm p L m) (x : State) (
           ≡ at (outTargets p x) j
       here = rw (← e) (getD-set-same L′ _ y 0 inside)
 
-      earlier : (i : ℕ) → i < j → at (set L′ (8 * (m + 1) + placeOf p x (letterInto p y)) y) (8 * (m + 1) + placeOf p x (letterInto p (at (outTargets p x) i)))
-          ≡ at (outTargets p x) i
+      earlier : (i : ℕ) → i < j → at (set L′ (8 * (m + 1) + placeOf p x (letterInto p y)) y)
+          (8 * (m + 1) + placeOf p x (letterInto p (at (outTargets p x) i))) ≡ at (outTargets p x) i
       earlier i k =
           let o = out-leads F x h i (omega arith) in
           by-cases (ℕ-discrete (letterInto p (at (outTargets p x) i)) (letterInto p y))
@@ -194,7 +195,8 @@ module _ {p : Word} {L : List ℕ} {m : ℕ} (F : FirstForm p L m) {x : State} (
   pub target-told : (j : ℕ) {y : ℕ} → y ≡ at (outTargets (wordIn L m) x) j → y ≡ at (outTargets p x) j
   target-told j e = e ∙ ap (λ (q : Word). at (outTargets q x) j) (own-word F)
 
-  pub place-asked : {y : State} {Z : List ℕ} → oracle p x (letterInto p y) ≡ some y → Z ≡ setsFrom (oracle p) m → WithStarts (oracle p) m L L
+  pub place-asked : {y : State} {Z : List ℕ} → oracle p x (letterInto p y) ≡ some y → Z ≡ setsFrom (oracle p) m
+      → WithStarts (oracle p) m L L
       → (FirstForm (wordIn L m) L m × (x < m) × (oracle (wordIn L m) x (letterInto (wordIn L m) y) ≡ some y))
       × ((Z ≡ setsFrom (oracle (wordIn L m)) m) × WithStarts (oracle (wordIn L m)) m L L)
   place-asked e z S = rw (own-word F) ((F, h, e), (z, S))
@@ -207,7 +209,8 @@ module _ {p : Word} {L : List ℕ} {m : ℕ} (F : FirstForm p L m) {x : State} (
 -- the targets of the states below x are in place, and behind them are zeros
 pub record PuttingAll (p : Word) (m : ℕ) (L L′ : List ℕ) (x : State) : Type 0 where
   pub size : length L′ ≡ length L
-  pub put : (g : ℕ) → g / 256 < x → (y : State) → arrowAt (oracle p) g ≡ some y → at L′ (8 * (m + 1) + length (targetsUpTo (oracle p) g)) ≡ y
+  pub put : (g : ℕ) → g / 256 < x → (y : State) → arrowAt (oracle p) g ≡ some y
+      → at L′ (8 * (m + 1) + length (targetsUpTo (oracle p) g)) ≡ y
   pub before : (i : ℕ) → i < 8 * (m + 1) → at L′ i ≡ at L i
   pub behind : (i : ℕ) → length (targetsUpTo (oracle p) (256 * x)) ≤ i → at L′ (8 * (m + 1) + i) ≡ 0
 
@@ -237,7 +240,8 @@ module _ {p : Word} {m : ℕ} {L : List ℕ} where
         P .behind (8 * (m + 1) + i) (omega arith) ∙ A .behind i (omega (arith, risen));
   })
 
-  pub all-end : {L′ : List ℕ} {x : State} → PuttingAll p m L L′ x → x ≡ m → ((c : Letter) → oracle p m c ≡ none) → AllTargets (oracle p) m L L′
+  pub all-end : {L′ : List ℕ} {x : State} → PuttingAll p m L L′ x → x ≡ m → ((c : Letter) → oracle p m c ≡ none)
+      → AllTargets (oracle p) m L L′
   all-end {L′} {x} A e none-last = record { size = A .size; targets = λ i h. target i; before = A .before }
     where
       row : List State

@@ -117,8 +117,10 @@ fn count_starts(sets: &[u64], table: &mut [u16], m: usize)
 fn place_for(sets: &[u64], table: &[u16], m: usize, x: words::State, y: words::State) -> usize
     requires { ⌜ FirstForm (wordIn (now table) m) (now table) m × (x .0 < m)
         × (oracle (wordIn (now table) m) (x .0) (letterInto (wordIn (now table) m) (y .0)) ≡ some (y .0)) ⌝ }
-    requires { ⌜ (now sets ≡ setsFrom (oracle (wordIn (now table) m)) m) × WithStarts (oracle (wordIn (now table) m)) m (now table) (now table) ⌝ }
-    ensures { λ r. ⌜ (r < 2 * (m + 1)) × (r ≡ placeOf (wordIn (now (table .entry)) m) (x .0) (letterInto (wordIn (now (table .entry)) m) (y .0))) ⌝ }
+    requires { ⌜ (now sets ≡ setsFrom (oracle (wordIn (now table) m)) m)
+        × WithStarts (oracle (wordIn (now table) m)) m (now table) (now table) ⌝ }
+    ensures { λ r. ⌜ (r < 2 * (m + 1))
+        × (r ≡ placeOf (wordIn (now (table .entry)) m) (x .0) (letterInto (wordIn (now (table .entry)) m) (y .0))) ⌝ }
 {
     let c = letter_into(table, m, y);
     let smaller = compact::rank(sets, x, c.0 as usize);
@@ -129,7 +131,8 @@ fn place_for(sets: &[u64], table: &[u16], m: usize, x: words::State, y: words::S
 // The targets of x.
 fn put_state(sets: &[u64], table: &mut [u16], m: usize, x: words::State)
     requires { ⌜ FirstForm (wordIn (now table) m) (now table) m × (x .0 < m) ⌝ }
-    requires { ⌜ (now sets ≡ setsFrom (oracle (wordIn (now table) m)) m) × WithStarts (oracle (wordIn (now table) m)) m (now table) (now table) ⌝ }
+    requires { ⌜ (now sets ≡ setsFrom (oracle (wordIn (now table) m)) m)
+        × WithStarts (oracle (wordIn (now table) m)) m (now table) (now table) ⌝ }
     ensures { λ _. ⌜ WithTargets (oracle (wordIn (now (table .entry)) m)) m (x .0) (now (table .entry)) (now (table .exit)) ⌝ }
 {
     let k = arrow_count(table, m, x);
@@ -145,7 +148,8 @@ fn put_state(sets: &[u64], table: &mut [u16], m: usize, x: words::State)
 // All targets, in rows that are zero.
 fn put_all(sets: &[u64], table: &mut [u16], m: usize)
     requires { ⌜ FirstForm (wordIn (now table) m) (now table) m × ((i : ℕ) → 8 * (m + 1) ≤ i → at (now table) i ≡ 0) ⌝ }
-    requires { ⌜ (now sets ≡ setsFrom (oracle (wordIn (now table) m)) m) × WithStarts (oracle (wordIn (now table) m)) m (now table) (now table) ⌝ }
+    requires { ⌜ (now sets ≡ setsFrom (oracle (wordIn (now table) m)) m)
+        × WithStarts (oracle (wordIn (now table) m)) m (now table) (now table) ⌝ }
     ensures { λ _. ⌜ AllTargets (oracle (wordIn (now (table .entry)) m)) m (now (table .entry)) (now (table .exit)) ⌝ }
 {
     let mut x = 0;

@@ -1,27 +1,27 @@
 -- COMPACT ROWS, the eleventh request of 02, sentence by sentence: each is quoted, and under it stands what says just that.
-use mathlib.Core.Path.{_≡_, refl, sym, ap, _∙_}
+use mathlib.Core.Path.{_≡_, sym, ap, _∙_}
 use mathlib.Core.Bool.{true}
-use mathlib.Core.Logic.{_↔_, _⊎_, inl, inr}
+use mathlib.Core.Logic.{_↔_, _⊎_}
 use mathlib.Core.Option.{some}
 use mathlib.Core.List.{List, [], _∷_}
-use Prim.Native.Nat.{ℕ, suc, _+_, _-_, _*_, _/_, _%_, _^_, _≤_, _<_}
+use Prim.Native.Nat.{ℕ, _+_, _-_, _*_, _^_, _≤_, _<_}
 use native.Mathlib.Omega.{arith}
-use lib.ListN.{length, take, drop}
+use lib.ListN.{length, take}
 use Rattle.words.specs.Lists.{at}
-use Rattle.words.specs.Words.{Letter, Word, Place, letter, mirror}
+use Rattle.words.specs.Words.{Letter, Word, Place, letter}
 use Rattle.words.specs.Limits.{longestWord, longestText}
 use Rattle.words.proofs.Limits.{words-fit}
 use Rattle.oracle.specs.Arrows.{State, Delta}
 use Rattle.oracle.specs.SuffixRule.{oracle}
 use Rattle.oracle.specs.Supply.{supply}
 use Rattle.table.specs.Table.{room, tableOf, readWord, readArrow, readSupply}
-use Rattle.compact.specs.Compact.{setsRoom, compactRoom, arrowNumber, isArrow, targetsUpTo, setsFrom, compactFrom, compactSets}
+use Rattle.compact.specs.Compact.{setsRoom, compactRoom, isArrow, targetsUpTo, setsFrom, compactFrom, compactSets}
 use Rattle.compact.specs.Compact.{compactTable, bitAt, inSet, howMany, readCompact}
 use Rattle.compact.proofs.Ranking.{word-letter}
-use Rattle.compact.proofs.ReadBack.{reads-some, reads-none, reads-compact}
+use Rattle.compact.proofs.ReadBack.{reads-some, reads-compact}
 use Rattle.compact.proofs.Few.{targets-few}
 use Rattle.compact.proofs.Theorems as Compact
-use Rattle.answers.specs.Answers.{done, refused, refusesOnly, shortRoom}
+use Rattle.answers.specs.Answers.{refused, refusesOnly, shortRoom}
 use Rattle.answers.specs.declared.SizeAnswer.{SizeAnswer}
 use Rattle.answers.specs.declared.TallyAnswer.{TallyAnswer}
 use Rattle.marks.specs.Build.{buildSays}
@@ -32,7 +32,7 @@ use Rattle.compact_entries.specs.CompactBuild as CompactBuild
 use Rattle.compact_entries.specs.CompactBuild.{compactBuilt, compactBuildSays}
 use Rattle.compact_entries.specs.CompactSearch as CompactSearch
 use Rattle.compact_entries.specs.CompactSearch.{compactSearched, compactSearchSays}
-use Rattle.compact_entries.specs.Cases.{TooSmall, CompactBuildCase, CompactSearchCase}
+use Rattle.compact_entries.specs.Cases.{CompactBuildCase, CompactSearchCase}
 use Rattle.compact_entries.proofs.BuildSays as Build
 use Rattle.compact_entries.proofs.SearchSays as Search
 

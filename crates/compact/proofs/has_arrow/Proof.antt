@@ -1,4 +1,3 @@
-use native.Mathlib.Omega.{arith}
 use borrow.Author.Needs.{needs}
 use Rattle.compact.specs.Compact.{bitAt}
 use Rattle.compact.proofs.has_arrow.Statement.{statement}

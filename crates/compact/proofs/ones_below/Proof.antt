@@ -1,8 +1,7 @@
 -- `compact::ones_below` meets its contract: none of the word, all of it, or the bits below c.
-use mathlib.Core.Path.{refl}
 use native.Mathlib.Omega.{arith}
 use borrow.Author.Needs.{needs}
-use Rattle.compact.specs.Compact.{bitAt, howMany}
+use Rattle.compact.specs.Compact.{bitAt}
 use Rattle.compact.proofs.Counting.{all-ones, count-most}
 use Rattle.compact.proofs.Ranking.{none-below, all-below, some-below}
 use Rattle.compact.proofs.ones_below.Statement.{statement}

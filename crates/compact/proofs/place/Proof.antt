@@ -1,10 +1,8 @@
 -- `compact::place` meets its contract: what the word's start and the ones below the bit make together is the target's place (`look-place`),
 -- and that is within the rows of targets (`look-inside`).
-use mathlib.Core.Path.{ap, _∙_}
-use Prim.Native.Nat.{ℕ, _+_, _*_, _/_, _<_}
+use Prim.Native.Nat.{_+_, _*_, _/_, _<_}
 use native.Mathlib.Omega.{arith}
 use borrow.Author.Needs.{needs}
-use Rattle.words.specs.Lists.{at}
 use Rattle.compact.specs.Compact.{arrowNumber}
 use Rattle.compact.proofs.Looking.{look-place, look-inside}
 use Rattle.compact.proofs.place.Statement.{statement}

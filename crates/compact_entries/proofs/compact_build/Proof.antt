@@ -1,5 +1,5 @@
--- `compact_entries::compact_build` meets its contract: each way out is a case of `CompactBuildCase`, and for each `given` says what is to be
--- answered.
+-- `compact_entries::compact_build` meets its contract: each way out is a case of `CompactBuildCase`, and for each `given` says what is to
+-- be answered.
 use mathlib.Core.Logic.{inl, inr}
 use mathlib.Core.Path.{sym}
 use native.Mathlib.Omega.{arith}

@@ -1,6 +1,6 @@
 -- `compact_fill::count_starts` meets its contract: before word i the arrows of the words before it are counted. The measure is how many
 -- words are left.
-use mathlib.Core.Path.{_≡_, ap, _∙_}
+use mathlib.Core.Path.{ap, _∙_}
 use mathlib.Core.List.{List}
 use Prim.Native.Nat.{ℕ, _-_}
 use native.Mathlib.Omega.{arith}
@@ -27,7 +27,8 @@ cast-table c =
     let at-start = at-loop .before in
     let F = at-start .pre .0 in
     let C = at-loop .loop .inv in
-    omega (arith, C .counted, counted-few (wordIn (at-start .args .table .now) (at-start .args .m)) (at-loop .loop .i) (F .long) (C .inside), F .few)
+    let few = counted-few (wordIn (at-start .args .table .now) (at-start .args .m)) (at-loop .loop .i) (F .long) (C .inside) in
+    omega (arith, C .counted, few, F .few)
 
 slice-write-table : tie.Need-slice-write-table Inv-loop μ-loop
 slice-write-table c =

@@ -1,7 +1,6 @@
 -- `compact_fill::fill` meets its contract: the first form stands in cleared entries, and finishing leaves the compact rows of the same
 -- word.
 use mathlib.Core.Path.{refl, sym, ap, _∙_}
-use Prim.Native.Nat.{_*_, _+_}
 use native.Mathlib.Omega.{arith}
 use lib.ListN.{length, length-replicate}
 use lib.Seq.{length-take-le}

@@ -1,7 +1,6 @@
--- `compact_fill::fill_mirror` meets its contract: the first form stands in cleared entries, and finishing leaves the compact rows of the same
--- word; a mirror's letters are bytes too.
+-- `compact_fill::fill_mirror` meets its contract: the first form stands in cleared entries, and finishing leaves the compact rows of the
+-- same word; a mirror's letters are bytes too.
 use mathlib.Core.Path.{sym, ap, _∙_}
-use Prim.Native.Nat.{_*_, _+_}
 use native.Mathlib.Omega.{arith}
 use lib.ListN.{length, length-replicate, length-reverse}
 use lib.Seq.{length-take-le}
@@ -32,7 +31,8 @@ finish-requires c κs =
     let at-known = at-clear .before .before .before .before in
     let at-start = at-known .before in
     let word = at-start .args .word .now in
-    finish-asked (mirror word) (length-reverse word) (at-start .pre .0) (mirror-bytes word (λ i. omega (arith, at-known .shared-slice-known .given i)))
+    let bytes = mirror-bytes word (λ i. omega (arith, at-known .shared-slice-known .given i)) in
+    finish-asked (mirror word) (length-reverse word) (at-start .pre .0) bytes
     (at-start .pre .2) (at-clear .clear .ensures) (at-fill-mirror .fill-mirror .ensures) (at-start .args .sets .now) (at-start .pre .1)
 
 returns : tie.Need-returns
@@ -43,7 +43,8 @@ returns c =
     let at-known = at-clear .before .before .before .before in
     let at-start = at-known .before in
     let word = at-start .args .word .now in
-    finish-told (mirror word) (length-reverse word) (at-start .pre .0) (mirror-bytes word (λ i. omega (arith, at-known .shared-slice-known .given i)))
+    let bytes = mirror-bytes word (λ i. omega (arith, at-known .shared-slice-known .given i)) in
+    finish-told (mirror word) (length-reverse word) (at-start .pre .0) bytes
     (at-start .pre .2) (at-clear .clear .ensures) (at-fill-mirror .fill-mirror .ensures) (at-finish .finish .ensures)
 
 pub fill-mirror-spec : {M : Type 1} → statement M

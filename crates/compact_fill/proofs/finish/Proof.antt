@@ -37,8 +37,8 @@ returns c =
     let F = at-start .pre .0 in
     let rows = 2 * (at-start .args .m + 1) in (
       sets-done F (at-mark-all .mark-all .ensures),
-      table-done F (at-count-starts .count-starts .ensures) (at-put-all .put-all .ensures) {a = rows} {k = 2 * rows - rows} refl (omega arith)
-          (at-clear .clear .ensures),
+      table-done F (at-count-starts .count-starts .ensures) (at-put-all .put-all .ensures) {a = rows} {k = 2 * rows - rows} refl
+          (omega arith) (at-clear .clear .ensures),
     )
 
 pub finish-spec : {M : Type 1} → statement M

@@ -1,6 +1,6 @@
 -- `compact_fill::mark_state` meets its contract: before arrow j the first j are marked. The measure is how many are left.
-use mathlib.Core.Path.{_≡_, ap, _∙_}
-use Prim.Native.Nat.{_-_, _≤_, _<_}
+use mathlib.Core.Path.{ap, _∙_}
+use Prim.Native.Nat.{_-_, _≤_}
 use native.Mathlib.Omega.{arith}
 use borrow.Author.Needs.{needs}
 use Rattle.chains.specs.Letters.{wordIn}

@@ -1,5 +1,5 @@
--- `compact_fill::put_all` meets its contract: before state x the targets of the states below it are in place. The measure is how many states
--- are left.
+-- `compact_fill::put_all` meets its contract: before state x the targets of the states below it are in place. The measure is how many
+-- states are left.
 use Prim.Native.Nat.{_-_, _≤_}
 use native.Mathlib.Omega.{arith}
 use borrow.Author.Needs.{needs}

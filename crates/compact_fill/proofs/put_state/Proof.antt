@@ -54,7 +54,8 @@ loop-again c =
     let F = first-kept (at-start .pre .0 .0) x h P in (
       omega (arith, at-loop-test .loop-test .taken),
       putting-step (at-start .pre .0 .0) x h P (omega (arith, at-loop-test .loop-test .taken, at-arrow-count .arrow-count .ensures))
-          (target-told F h (at-loop .loop .j) (at-arrow-target .arrow-target .ensures)) (place-told F h (at-arrow-target .arrow-target .result .0) (c .place-for .ensures .1)),
+          (target-told F h (at-loop .loop .j) (at-arrow-target .arrow-target .ensures))
+          (place-told F h (at-arrow-target .arrow-target .result .0) (c .place-for .ensures .1)),
     )
 
 returns : tie.Need-returns Inv-loop μ-loop
