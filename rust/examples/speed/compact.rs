@@ -1,7 +1,8 @@
-//! Compact rows: the search with them beside that with the first form, on random texts, and the making of them beside that of the first form.
+//! Compact rows: the search with them beside that with the first form, on random and on hostile texts, and the making of them beside that of the first form.
 
-use crate::clock::{by_turns, ms};
+use crate::clock::by_turns;
 use crate::failure::{random_words, range, us};
+use crate::linear::{hostile_searches, hostile_texts};
 use crate::{per_letter, Random};
 use marks::entries::{build, compact_build, compact_search, search};
 use marks::{compact_sets_room, compact_targets_room, table_room, LONGEST_WORD};
@@ -11,6 +12,14 @@ const ALPHABETS: [u64; 4] = [2, 4, 20, 256];
 
 /// The lengths of the words that are looked for, and of those whose rows are made.
 const LENGTHS: [usize; 6] = [4, 16, 64, 256, 1024, LONGEST_WORD];
+
+/// So long is a text in which neither search prepares any arrows.
+const SHORT_TEXT: usize = 8191;
+
+/// A hostile text has so many letters, of which both searches may read m for each.
+const HOSTILE_TEXT: usize = 256 << 10;
+
+const HEAD: &str = "compact search, µs | search | compact search / search | letters read by both |";
 
 /// How many finds both searches list.
 const LIST: usize = 1024;
@@ -39,23 +48,45 @@ fn line(word: &[u8], text: &[u8]) -> (String, f64) {
         0.5,
         [&mut || compact_search(word, text, &mut sets, &mut targets, &mut list), &mut || search(word, text, &mut table, &mut first_list)],
     );
-    let (times, ratio) = ([ours, first].map(|took| ms(Some(took))).join(" | "), ours / first);
+    let (times, ratio) = ([ours, first].map(|took| us(took * 1e6)).join(" | "), ours / first);
     (format!("{times} | {ratio:.2} | {:.4} |", per_letter(said.letters, text)), ratio)
 }
 
-/// Words that stand in a random text.
-pub fn random_times() {
-    println!("| Alphabet | Word | compact search, ms | search | compact search / search | letters read by both |\n|{}", "---|".repeat(6));
+/// Words that stand in a random text of n letters, from a third of it on.
+fn times_in(n: usize) {
+    println!("| Alphabet | Word | {HEAD}\n|{}", "---|".repeat(6));
     let ranges = ALPHABETS.map(|letters| {
-        let text = Random(362436069 + letters).bytes(16 << 20, letters);
+        let text = Random(362436069 + letters).bytes(n, letters);
         let ratios = LENGTHS.map(|m| {
-            let (line, ratio) = line(&text[5_000_000..5_000_000 + m], &text);
+            let (line, ratio) = line(&text[n / 3..n / 3 + m], &text);
             println!("| {letters} | {m} | {line}");
             ratio
         });
         format!("{} over {letters}", range(ratios))
     });
     println!("\nSo many times the search's time, by letters: {}.", ranges.join(", "));
+}
+
+pub fn random_times() {
+    times_in(16 << 20);
+}
+
+pub fn short_times() {
+    times_in(SHORT_TEXT);
+}
+
+/// Words and texts as a stranger would choose them.
+pub fn hostile_times() {
+    println!("| Word | m | {HEAD}\n|{}", "---|".repeat(6));
+    let (texts, mut ratios) = (hostile_texts(HOSTILE_TEXT), Vec::new());
+    for (name, text, word_of) in hostile_searches(&texts) {
+        for m in &LENGTHS[..5] {
+            let (line, ratio) = line(&word_of(&text[..*m]), text);
+            println!("| {name} | {m} | {line}");
+            ratios.push(ratio);
+        }
+    }
+    println!("\n{} times the search's time.", range(ratios));
 }
 
 /// Microseconds of `compact_build` and of `build` for one of the words, by turns. Short words are built more often in a run.

@@ -251,6 +251,8 @@ const TABLES: &[(&str, fn())] = &[
     ("failure_hostile", failure::hostile_times),
     ("failure_build", failure::build_times),
     ("compact", compact::random_times),
+    ("compact_short", compact::short_times),
+    ("compact_hostile", compact::hostile_times),
     ("compact_build", compact::build_times),
     ("arrows", arrows::of_random_words),
     ("arrows_all", arrows::of_all_words),
