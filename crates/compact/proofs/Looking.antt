@@ -5,7 +5,7 @@ use mathlib.Core.Logic.{by-cases}
 use mathlib.Core.Bool.{true, false}
 use mathlib.Core.Option.{none, some}
 use mathlib.Core.List.{List}
-use Prim.Native.Nat.{ℕ, _+_, _-_, _*_, _/_, _%_, _≤_, _<_}
+use Prim.Native.Nat.{ℕ, _+_, _*_, _/_, _%_, _≤_, _<_}
 use native.Mathlib.Decide.{ℕ-discrete}
 use native.Mathlib.Omega.{arith}
 use Rattle.words.specs.Lists.{at}
@@ -52,3 +52,9 @@ module _ {Z L : List ℕ} {m : ℕ} (F : CompactFormed Z L m) (x : State) (c : L
     -- and the arrow leads to what stands there
     pub look-some : {r : ℕ} → r ≡ at L (4 * (m + 1) + 4 * x) + howMany (inSet Z x) c → readCompact m Z L x c ≡ some (at L (8 * (m + 1) + r))
     look-some q = reads-some m Z L x c (omega arith) byte e ∙ ap (λ (i : ℕ). some (at L (8 * (m + 1) + i))) (sym q)
+
+    -- both of what code counts
+    pub look-found : {r : ℕ}
+        → r ≡ at L (4 * (m + 1) + arrowNumber x c / 64) + howMany (bitAt (at Z (arrowNumber x c / 64))) (arrowNumber x c % 64)
+        → (r < 2 * (m + 1)) × (readCompact m Z L x c ≡ some (at L (8 * (m + 1) + r)))
+    look-found q = (omega (arith, q, look-place h, look-inside), look-some (q ∙ look-place h))

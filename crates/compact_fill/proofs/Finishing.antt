@@ -1,6 +1,7 @@
--- FINISHING: the sets are marked, the starts counted and the targets put; the two rows that were the first form's alone are cleared. What
--- stands then are the compact rows of the word that stood in row 0 at the start, place by place.
-use mathlib.Core.Path.{_≡_, refl, sym, ap, _∙_}
+-- FINISHING: all states have their sets, starts and targets; the last one, which no arrow leaves, gets its starts, and the two rows that
+-- were the first form's alone are cleared. What stands then are the compact rows of the word that stood in row 0 at the start, place by
+-- place.
+use mathlib.Core.Path.{_≡_, sym, ap, _∙_}
 use mathlib.Core.Logic.{by-cases}
 use mathlib.Core.List.{List}
 use mathlib.Core.Option.{Option·getD}
@@ -20,10 +21,10 @@ use Rattle.oracle.specs.Supply.{supply}
 use Rattle.chains.specs.Letters.{wordIn}
 use Rattle.table.specs.Table.{tableOf}
 use Rattle.table.proofs.Rows.{row-0, row-1-first, row-1}
-use Rattle.compact.specs.Compact.{targetsUpTo, setsFrom, compactSets, compactTable}
-use Rattle.compact.proofs.CompactRows.{letters-there, supplies-there, zeros-there, starts-there, targets-there}
+use Rattle.compact.specs.Compact.{setsRoom, targetsUpTo, setsFrom, compactSets, compactTable}
+use Rattle.compact.proofs.CompactRows.{sets-size, word-at, letters-there, supplies-there, zeros-there, starts-there, targets-there}
 use Rattle.compact.proofs.Theorems.{compact-table-size}
-use Rattle.compact_fill.specs.Filling.{FirstForm, WithStarts, AllTargets}
+use Rattle.compact_fill.specs.Filling.{firstPlace, FirstForm, OwnWords, WithStarts, AllStates}
 use Rattle.compact_fill.proofs.OutArrows.{own-word, first-stays}
 
 -- ── Two rows cleared ───────────────────────────────────────────────────────
@@ -131,39 +132,27 @@ rowed-table {p} {m} {K} R e = by (rw (← e) at R)
 
 -- ── All rows ───────────────────────────────────────────────────────────────
 
-module _ {p : Word} {L : List ℕ} {m : ℕ} (F : FirstForm p L m) where
+module _ {p : Word} {L : List ℕ} {m : ℕ} (F : FirstForm p L m) {L₁ : List ℕ} (A : AllStates (oracle p) m L L₁) where
   -- the first form is still there
-  still-first : {L₁ : List ℕ} → WithStarts (oracle p) m L L₁ → FirstForm p L₁ m
-  still-first S = first-stays F (S .size) (S .before)
+  still-first : FirstForm p L₁ m
+  still-first = first-stays F (A .size) (A .before)
 
-  -- what the targets' code asks for
-  pub all-asked : {Z L₁ : List ℕ} → ((i : ℕ) → 4 * (m + 1) ≤ i → at L i ≡ 0) → WithStarts (oracle p) m L L₁ → Z ≡ setsFrom (oracle p) m
-      → (FirstForm (wordIn L₁ m) L₁ m × ((i : ℕ) → 8 * (m + 1) ≤ i → at L₁ i ≡ 0))
-      × ((Z ≡ setsFrom (oracle (wordIn L₁ m)) m) × WithStarts (oracle (wordIn L₁ m)) m L₁ L₁)
-  all-asked zeros S z = rw (own-word (still-first S)) (
-    (still-first S, λ i h. S .behind i h ∙ zeros i (omega arith)),
-    (
-      z,
-      record {
-        size = refl;
-        starts = S .starts;
-        before = λ i h. refl;
-        behind = λ i h. refl;
-      },
-    ),
+  -- what the starts of the last state ask for
+  pub last-asked : {Z : List ℕ} {all : ℕ} → Z ≡ setsFrom (oracle p) m → all ≡ firstPlace (oracle p) m
+      → (FirstForm (wordIn L₁ m) L₁ m × (m ≤ m) × (setsRoom m ≤ length Z))
+      × (OwnWords (oracle (wordIn L₁ m)) m Z × (all ≡ firstPlace (oracle (wordIn L₁ m)) m))
+  last-asked {Z} z counted = rw (own-word still-first) (
+    (still-first, omega arith, omega (arith, ap length z, sets-size (oracle p) m)),
+    (λ k h. rw z (word-at (oracle p) m (4 * m + k) (omega arith)), counted),
   )
 
-  pub sets-done : {Z : List ℕ} → Z ≡ setsFrom (oracle p) m → Z ≡ compactSets p
-  unfolding compactSets
-  sets-done e = rw (F .long) e
-
-  module _ {L₁ L₂ : List ℕ} (S : WithStarts (oracle p) m L L₁) (P : AllTargets (oracle (wordIn L₁ m)) m L₁ L₂) {a k : ℕ}
+  module _ {L₂ : List ℕ} (says : WithStarts (oracle (wordIn L₁ m)) m m L₁ L₂) {a k : ℕ}
       (two : a ≡ 2 * (m + 1)) (as-many : k ≡ a) {C : List ℕ} (cleared : C ≡ replicate (length (midOf a k L₂)) 0) where
-    put : AllTargets (oracle p) m L₁ L₂
-    put = rw (own-word (still-first S)) at P
+    S : WithStarts (oracle p) m m L₁ L₂
+    S = rw (own-word still-first) at says
 
     size : length L₂ ≡ 10 * (m + 1)
-    size = put .size ∙ S .size ∙ F .size
+    size = S .size ∙ A .size ∙ F .size
 
     room : a + k ≤ length L₂
     room = omega (arith, size)
@@ -171,15 +160,27 @@ module _ {p : Word} {L : List ℕ} {m : ℕ} (F : FirstForm p L m) where
     behind : (i : ℕ) → 4 * (m + 1) ≤ i → at (putMid a k L₂ C) i ≡ at L₂ i
     behind i h = let e : a + (k + (i - a - k)) ≡ i = omega arith in rw e at (cleared-behind L₂ a k room cleared (i - a - k))
 
+    start : (i : ℕ) → i < 4 * (m + 1) → at L₂ (4 * (m + 1) + i) ≡ length (targetsUpTo (oracle p) (64 * i))
+    start i h = by-cases (decLt i (4 * m))
+        (λ l. S .before (4 * (m + 1) + i) (omega arith) ∙ A .starts i l)
+        (λ l.
+        let e : 4 * (m + 1) + (4 * m + (i - 4 * m)) ≡ 4 * (m + 1) + i = omega arith in
+        let number : 4 * m + (i - 4 * m) ≡ i = omega arith in
+        rw (e, number) at (S .starts (i - 4 * m) (omega arith)))
+
     pub table-done : putMid a k L₂ C ≡ compactTable p
     table-done = rowed-table (record {
       size = cleared-size L₂ a k room cleared ∙ size;
       kept = λ i h.
           cleared-before L₂ a k room cleared i (omega arith)
-          ∙ put .before i (omega arith)
           ∙ S .before i (omega arith)
+          ∙ A .before i (omega arith)
           ∙ F .rows i (omega arith);
       zeros = λ i h. ap (λ (b : ℕ). at (putMid a k L₂ C) (b + i)) (sym two) ∙ cleared-here L₂ a k room cleared i (omega arith);
-      starts = λ i h. behind (4 * (m + 1) + i) (omega arith) ∙ put .before (4 * (m + 1) + i) (omega arith) ∙ S .starts i h;
-      targets = λ i h. behind (8 * (m + 1) + i) (omega arith) ∙ put .targets i h;
+      starts = λ i h. behind (4 * (m + 1) + i) (omega arith) ∙ start i h;
+      targets = λ i h. behind (8 * (m + 1) + i) (omega arith) ∙ S .behind (8 * (m + 1) + i) (omega arith) ∙ A .targets i h;
     }) (F .long)
+
+pub sets-done : {p : Word} {L : List ℕ} {m : ℕ} → FirstForm p L m → {Z : List ℕ} → Z ≡ setsFrom (oracle p) m → Z ≡ compactSets p
+unfolding compactSets
+sets-done F e = rw (F .long) e

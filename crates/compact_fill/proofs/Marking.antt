@@ -21,6 +21,7 @@ use Rattle.words.specs.Words.{Letter, Word}
 use Rattle.words.proofs.Loops.{zeros-at}
 use Rattle.oracle.specs.Arrows.{State, Delta}
 use Rattle.oracle.specs.SuffixRule.{oracle}
+use Rattle.oracle.specs.FileOrder.{extraTargets}
 use Rattle.oracle.proofs.Targets.{never}
 use Rattle.compact.specs.Compact.{setsRoom, arrowNumber, isArrow, setWord, setsFrom, bitAt, marked, inSet}
 use Rattle.compact.proofs.Bits.{same-bits, or-bit}
@@ -28,7 +29,7 @@ use Rattle.compact.proofs.Counting.{shifted-one}
 use Rattle.compact.proofs.Targets.{there}
 use Rattle.compact.proofs.CompactRows.{sets-size, word-at}
 use Rattle.compact.proofs.ReadBack.{word-told, word-small}
-use Rattle.compact_fill.specs.Filling.{outTargets, letterInto, FirstForm, Words64, WithBit, WithSet}
+use Rattle.compact_fill.specs.Filling.{outTargets, letterInto, FirstForm, Words64, WithBit, NoneOf, WithSet, OwnWords}
 use Rattle.compact_fill.proofs.OutArrows.{out-leads, arrow-among}
 
 or-false : (b : Bool) → b || false ≡ b
@@ -144,6 +145,56 @@ module _ {p : Word} {L : List ℕ} {m : ℕ} (F : FirstForm p L m) (x : State) (
     others = M .others;
   }
 
+  -- the spine's alone
+  module _ (alone : length (outTargets p x) ≡ 1) where
+    pub lone-among : (c : Letter) → isArrow (oracle p x c) ≡ eqb (letterInto p (x + 1)) c
+    unfolding among
+    lone-among c =
+        let no-extra : length (extraTargets (oracle p) p x) ≡ 0 = omega (arith, alone) in
+        rw (add-one x) (sym (rw no-extra at (all-among c)))
+
+    pub lone-marked : {Z Z′ : List ℕ} {d : Letter} → d ≡ letterInto p (x + 1) → WithBit Z (arrowNumber x d) Z′ → WithSet (oracle p) x Z Z′
+    lone-marked e K = state-marked (marked-one marked-none (rw (add-one x) at e) (F .bytes _) K) (sym alone)
+
+  -- the spine's and another
+  module _ (both : length (outTargets p x) ≡ 2) where
+    abbrev other : Letter
+    other = letterInto p (at (outTargets p x) 1)
+
+    pub pair-among : (c : Letter) → isArrow (oracle p x c) ≡ eqb (letterInto p (x + 1)) c || eqb other c
+    unfolding among
+    pair-among c =
+        let one-extra : length (extraTargets (oracle p) p x) ≡ 1 = omega (arith, both) in
+        rw (add-one x) (sym (rw one-extra at (all-among c)))
+
+    pub pair-marked : {Z Z₁ Z₂ : List ℕ} {c d : Letter} → c ≡ letterInto p (x + 1) → d ≡ other → WithBit Z (arrowNumber x c) Z₁
+        → WithBit Z₁ (arrowNumber x d) Z₂ → WithSet (oracle p) x Z Z₂
+    pair-marked e q K M =
+        let first = marked-one marked-none (rw (add-one x) at e) (F .bytes _) K in
+        state-marked (marked-one first q (F .bytes _) M) (sym both)
+
+-- ── Words of arrows ────────────────────────────────────────────────────────
+
+-- a word of 64 bits that tells of the arrows of its numbers is the word of these arrows
+word-of : (δ : Delta) (Z : List ℕ) (i : ℕ) → at Z i < 2 ^ 64 → ((d : ℕ) → d < 64 → marked Z (64 * i + d) ≡ there δ (64 * i + d))
+    → at Z i ≡ setWord δ i
+word-of δ Z i small told = same-bits 64 (at Z i) (setWord δ i) small (word-small δ i) (λ d l.
+    let word : (64 * i + d) / 64 ≡ i = omega arith in
+    let place : (64 * i + d) % 64 ≡ d = omega arith in
+    (rw (word, place) at (told d l)) ∙ sym (word-told δ i d l))
+
+module _ {δ : Delta} {x : State} {Z Z′ : List ℕ} (empty : NoneOf x Z) (M : WithSet δ x Z Z′) where
+  -- where the set of x was empty, it tells of its arrows
+  own-told : (g : ℕ) → g / 256 ≡ x → marked Z′ g ≡ there δ g
+  own-told g e =
+      let same : arrowNumber x (g % 256) ≡ g = omega arith in
+      let own = M .own (g % 256) (omega arith) in
+      let told : marked Z′ (arrowNumber x (g % 256)) ≡ isArrow (δ x (g % 256)) = rw (empty (g % 256) (omega arith)) at own in
+      rw same at told ∙ ap (λ (y : ℕ). isArrow (δ y (g % 256))) (sym e)
+
+  pub own-words : Words64 Z → OwnWords δ x Z′
+  own-words small k h = word-of δ Z′ (4 * x + k) (M .small small (4 * x + k)) (λ d l. own-told (64 * (4 * x + k) + d) (omega arith))
+
 -- ── All states ─────────────────────────────────────────────────────────────
 
 -- the states below x are marked, and no other
@@ -162,42 +213,30 @@ nothing-marked {δ} {m} {Z} e = rw e (record {
   ahead = λ g h. rw (zeros-at (setsRoom m) (g / 64), zero-div (2 ^ (g % 64)));
 })
 
-pub state-more : {δ : Delta} {m : ℕ} {Z Z′ : List ℕ} {x : State} → MarkedUpTo δ m Z x → WithSet δ x Z Z′ → MarkedUpTo δ m Z′ (x + 1)
-state-more {δ} {m} {Z} {Z′} {x} U M = record {
-  size = M .size ∙ U .size;
-  small = M .small (U .small);
-  done = λ g h. by-cases (ℕ-discrete (g / 256) x)
-      (λ e. here g e)
-      (λ e. M .others g e ∙ U .done g (omega arith));
-  ahead = λ g h. M .others g (λ e. omega arith) ∙ U .ahead g (omega arith);
-}
-  where
-    here : (g : ℕ) → g / 256 ≡ x → marked Z′ g ≡ there δ g
-    here g e =
-        let same : arrowNumber x (g % 256) ≡ g = omega arith in
-        let own = M .own (g % 256) (omega arith) in
-        let empty : marked Z (arrowNumber x (g % 256)) ≡ false = U .ahead (arrowNumber x (g % 256)) (omega arith) in
-        let told : marked Z′ (arrowNumber x (g % 256)) ≡ isArrow (δ x (g % 256)) = rw empty at own in
-        rw same at told ∙ ap (λ (y : ℕ). isArrow (δ y (g % 256))) (sym e)
+module _ {δ : Delta} {m : ℕ} {Z : List ℕ} {x : State} (U : MarkedUpTo δ m Z x) where
+  pub next-empty : NoneOf x Z
+  next-empty c l = U .ahead (arrowNumber x c) (omega arith)
 
-pub all-marked : {δ : Delta} {m : ℕ} {Z : List ℕ} {x : State} → MarkedUpTo δ m Z x → x ≡ m → ((c : Letter) → δ m c ≡ none)
-    → Z ≡ setsFrom δ m
-unfolding isArrow
-all-marked {δ} {m} {Z} {x} U e none-last = ext-getD 0 Z (setsFrom δ m) (U .size ∙ sym (sets-size δ m)) (λ i h. word i (rw (U .size) at h))
-  where
-    told : (g : ℕ) → g / 256 ≤ m → marked Z g ≡ there δ g
-    told g h = by-cases (decLt (g / 256) m)
-        (λ l. U .done g (omega arith))
-        (λ l.
-        let last : g / 256 ≡ m = omega arith in
-        U .ahead g (omega arith) ∙ sym (rw last (ap isArrow (none-last (g % 256)))))
+  pub state-more : {Z′ : List ℕ} → WithSet δ x Z Z′ → MarkedUpTo δ m Z′ (x + 1)
+  state-more {Z′} M = record {
+    size = M .size ∙ U .size;
+    small = M .small (U .small);
+    done = λ g h. by-cases (ℕ-discrete (g / 256) x)
+        (λ e. own-told next-empty M g e)
+        (λ e. M .others g e ∙ U .done g (omega arith));
+    ahead = λ g h. M .others g (λ e. omega arith) ∙ U .ahead g (omega arith);
+  }
 
-    bit : (i : ℕ) → i < setsRoom m → (d : ℕ) → d < 64 → bitAt (at Z i) d ≡ bitAt (setWord δ i) d
-    bit i h d l =
-        let word : (64 * i + d) / 64 ≡ i = omega arith in
-        let place : (64 * i + d) % 64 ≡ d = omega arith in
-        let here : marked Z (64 * i + d) ≡ there δ (64 * i + d) = told (64 * i + d) (omega arith) in
-        (rw (word, place) at here) ∙ sym (word-told δ i d l)
+  pub all-marked : x ≡ m → ((c : Letter) → δ m c ≡ none) → Z ≡ setsFrom δ m
+  unfolding isArrow
+  all-marked e none-last = ext-getD 0 Z (setsFrom δ m) (U .size ∙ sym (sets-size δ m)) (λ i h. word i (rw (U .size) at h))
+    where
+      told : (g : ℕ) → g / 256 ≤ m → marked Z g ≡ there δ g
+      told g h = by-cases (decLt (g / 256) m)
+          (λ l. U .done g (omega arith))
+          (λ l.
+          let last : g / 256 ≡ m = omega arith in
+          U .ahead g (omega arith) ∙ sym (rw last (ap isArrow (none-last (g % 256)))))
 
-    word : (i : ℕ) → i < setsRoom m → at Z i ≡ at (setsFrom δ m) i
-    word i h = same-bits 64 (at Z i) (setWord δ i) (U .small i) (word-small δ i) (bit i h) ∙ sym (word-at δ m i h)
+      word : (i : ℕ) → i < setsRoom m → at Z i ≡ at (setsFrom δ m) i
+      word i h = word-of δ Z i (U .small i) (λ d l. told (64 * i + d) (omega arith)) ∙ sym (word-at δ m i h)

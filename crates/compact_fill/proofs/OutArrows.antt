@@ -134,6 +134,15 @@ module _ {p : Word} {L : List ℕ} {m : ℕ} (F : FirstForm p L m) where
         let t = extra-target (oracle p) p x (entry-in (extraTargets (oracle p) p x) j 0 (omega arith)) in
         record { up = omega (arith, t .0); inside = omega (arith, t .1, F .long); leads = t .2 }
 
+    -- where there is a second, it leads on another letter than the spine's
+    pub letters-differ : 1 < length (outTargets p x) → letterInto p (x + 1) ≢ letterInto p (at (outTargets p x) 1)
+    letters-differ l q =
+        let second = extra-target (oracle p) p x (entry-in (extraTargets (oracle p) p x) 0 0 (omega arith)) in
+        let spine : oracle p x (letterInto p (x + 1)) ≡ some (x + 1) = rw (add-one x) (out-leads 0 (omega arith) .leads) in
+        let other : oracle p x (letterInto p (x + 1)) ≡ some (at (outTargets p x) 1) = rw q (out-leads 1 l .leads) in
+        let same : x + 1 ≡ at (outTargets p x) 1 = cc in
+        omega (arith, same, second .0)
+
     -- and every arrow is among them
     pub record Among (c : Letter) (y : State) : Type 0 where
       pub index : ℕ

@@ -1,85 +1,34 @@
--- COUNTING STARTS AND PUTTING TARGETS: word by word, the arrows before it are counted (`Counting`); state by state, arrow by arrow, the
--- target goes behind those of the arrows with smaller numbers (`PuttingState`, `PuttingAll`). No other place is written, so what is put
--- stays, and in the end the rows of targets hold those of all arrows and zeros.
-use mathlib.Core.Path.{_≡_, refl, sym, ap, _∙_}
+-- PUTTING THE TARGETS OF A STATE: arrow by arrow (`PuttingState`), the target goes behind those of the arrows with smaller numbers. No
+-- other place is written, so what is put stays. With its starts that is all of a state (`with-state`).
+use mathlib.Core.Path.{_≡_, refl, sym, ap, ap₂, _∙_}
 use mathlib.Core.Logic.{_≢_, by-cases}
-use mathlib.Core.Option.{Option, none, some}
+use mathlib.Core.Bool.{cond}
+use mathlib.Core.Option.{Option, some}
 use mathlib.Core.List.{List}
-use Prim.Native.Nat.{ℕ, suc, _+_, _*_, _/_, _%_, _≤_, _<_}
+use Prim.Native.Nat.{ℕ, suc, pred, _+_, _*_, _/_, _%_, _≤_, _<_}
 use native.Mathlib.Numerals.{add-one}
 use native.Mathlib.Decide.{decLt, ℕ-discrete}
 use native.Mathlib.Omega.{arith}
-use lib.ListN.{length, set, length-set, List·getD-eq-default}
+use lib.ListN.{length, set, length-set}
 use lib.Seq.{getD-set-same, getD-set-other}
-use lib.Count.{ones}
+use lib.Dec.{ltb}
 use borrow.Author.Count.{below-more}
+use borrow.Author.Tests.{lt-ltb, le-ltb}
 use Rattle.words.specs.Lists.{at}
 use Rattle.words.specs.Words.{Letter, Word}
 use Rattle.oracle.specs.Arrows.{State, Delta}
 use Rattle.oracle.specs.SuffixRule.{oracle}
-use Rattle.oracle.proofs.Targets.{never}
 use Rattle.chains.specs.Letters.{wordIn}
-use Rattle.compact.specs.Compact.{arrowNumber, arrowAt, setWord, targetsUpTo, setsFrom, bitAt, inSet, howMany}
-use Rattle.compact.proofs.Counting.{count-split, count-same, all-ones}
-use Rattle.compact.proofs.Targets.{there, targets-length, targets-rise, target-inside, target-at, target-of}
-use Rattle.compact.proofs.CompactRows.{word-at}
-use Rattle.compact.proofs.ReadBack.{word-told, word-small, count-told, arrow-of}
+use Rattle.compact.specs.Compact.{setsRoom, arrowNumber, setWord, targetsUpTo, bitAt, howMany}
+use Rattle.compact.proofs.Counting.{count-split, count-same}
+use Rattle.compact.proofs.Targets.{there, targets-length, targets-rise, target-inside}
+use Rattle.compact.proofs.ReadBack.{word-told, arrow-of}
 use Rattle.compact.proofs.Theorems.{targets-fit}
-use Rattle.compact_fill.specs.Filling.{outTargets, letterInto, placeOf, FirstForm, WithStarts, WithTargets, AllTargets}
-use Rattle.compact_fill.proofs.OutArrows.{own-word, first-stays, out-leads, arrow-among}
-
--- ── Starts ─────────────────────────────────────────────────────────────────
-
--- the targets of one word more
-pub word-more : (δ : Delta) (i : ℕ) → length (targetsUpTo δ (64 * i)) + ones (setWord δ i) ≡ length (targetsUpTo δ (64 * (i + 1)))
-word-more δ i =
-    let e : 64 * i + 64 ≡ 64 * (i + 1) = omega arith in
-    let in-word : ones (setWord δ i) ≡ howMany (λ d. there δ (64 * i + d)) 64 =
-    all-ones (setWord δ i) 64 (word-small δ i) ∙ count-same (bitAt (setWord δ i)) (λ d. there δ (64 * i + d)) 64 (word-told δ i) in
-    let all = rw e at (count-split (there δ) (64 * i) 64) in
-    omega (arith, targets-length δ (64 * i), targets-length δ (64 * (i + 1)), in-word, all)
-
--- before word i: the arrows so far are counted, and the starts of the words before are there
-pub record Counting (δ : Delta) (m : ℕ) (L L′ : List ℕ) (before i : ℕ) : Type 0 where
-  pub size : length L′ ≡ length L
-  pub inside : i ≤ 4 * (m + 1)
-  pub counted : before ≡ length (targetsUpTo δ (64 * i))
-  pub starts : (k : ℕ) → k < i → at L′ (4 * (m + 1) + k) ≡ length (targetsUpTo δ (64 * k))
-  pub others : (k : ℕ) → (4 * (m + 1) ≤ k → 8 * (m + 1) ≤ k) → at L′ k ≡ at L k
-
-module _ {δ : Delta} {m : ℕ} {L : List ℕ} where
-  pub counting-start : Counting δ m L L 0 0
-  unfolding targetsUpTo
-  counting-start = record { size = refl; inside = omega arith; counted = refl; starts = λ k h. absurd (omega arith); others = λ k h. refl }
-
-  pub counting-step : {L′ : List ℕ} {before i w : ℕ} → Counting δ m L L′ before i → i < 4 * (m + 1) → 8 * (m + 1) ≤ length L
-      → w ≡ setWord δ i → Counting δ m L (set L′ (4 * (m + 1) + i) before) (before + ones w) (i + 1)
-  counting-step {L′} {before} {i} {w} C h room e = record {
-    size = simp length-set (C .size);
-    inside = omega arith;
-    counted = rw (e, C .counted) (word-more δ i);
-    starts = below-more _ i
-        (λ k l. getD-set-other L′ (4 * (m + 1) + i) (4 * (m + 1) + k) before 0 (λ q. omega arith) ∙ C .starts k l)
-        (getD-set-same L′ (4 * (m + 1) + i) before 0 (omega (arith, C .size)) ∙ C .counted);
-    others = λ k f. getD-set-other L′ (4 * (m + 1) + i) k before 0 (λ q. by-place k f q) ∙ C .others k f;
-  }
-    where
-      by-place : (k : ℕ) → (4 * (m + 1) ≤ k → 8 * (m + 1) ≤ k) → k ≢ 4 * (m + 1) + i
-      by-place k f q = let l = f (omega arith) in omega arith
-
-  pub counting-end : {L′ : List ℕ} {before i : ℕ} → Counting δ m L L′ before i → 4 * (m + 1) ≤ i → WithStarts δ m L L′
-  counting-end C h = record {
-    size = C .size;
-    starts = λ k l. C .starts k (omega arith);
-    before = λ k l. C .others k (λ q. absurd (omega arith));
-    behind = λ k l. C .others k (λ q. l);
-  }
-
--- no more than fit
-pub counted-few : (p : Word) {m : ℕ} (i : ℕ) → length p ≡ m → i ≤ 4 * (m + 1) → length (targetsUpTo (oracle p) (64 * i)) ≤ 2 * (m + 1)
-counted-few p {m} i e h =
-    let all : 64 * i ≤ 256 * (length p + 1) = omega arith in
-    omega (arith, targets-rise (oracle p) (64 * i) (256 * (length p + 1)) all, targets-fit p)
+use Rattle.compact_fill.specs.Filling.{outTargets, letterInto, placeOf, firstPlace, FirstForm, Words64, NoneOf, WithSet}
+use Rattle.compact_fill.specs.Filling.{OwnWords, OwnStarts, WithStarts, WithTargets, WithState}
+use Rattle.compact_fill.proofs.OutArrows.{spine-first, own-word, first-stays, out-leads, arrow-among}
+use Rattle.compact_fill.proofs.Marking.{own-words}
+use Rattle.compact_fill.proofs.Starts.{starts-few, lone-start, pair-start}
 
 one-target : {o : Option State} {y z : State} → o ≡ some y → o ≡ some z → y ≡ z
 one-target e f = cc
@@ -90,13 +39,13 @@ one-target e f = cc
 pub record PuttingState (p : Word) (m : ℕ) (x : State) (L L′ : List ℕ) (j : ℕ) : Type 0 where
   pub size : length L′ ≡ length L
   pub put : (i : ℕ) → i < j → at L′ (8 * (m + 1) + placeOf p x (letterInto p (at (outTargets p x) i))) ≡ at (outTargets p x) i
-  pub before : (i : ℕ) → i < 8 * (m + 1) + length (targetsUpTo (oracle p) (256 * x)) → at L′ i ≡ at L i
-  pub behind : (i : ℕ) → 8 * (m + 1) + length (targetsUpTo (oracle p) (256 * suc x)) ≤ i → at L′ i ≡ at L i
+  pub before : (i : ℕ) → i < 8 * (m + 1) + firstPlace (oracle p) x → at L′ i ≡ at L i
+  pub behind : (i : ℕ) → 8 * (m + 1) + firstPlace (oracle p) (suc x) ≤ i → at L′ i ≡ at L i
 
 module _ {p : Word} {L : List ℕ} {m : ℕ} (F : FirstForm p L m) (x : State) (h : x < m) where
   -- an arrow's number is one of the state's, and its place is within the state's own
   own-place : (c : Letter) (y : State) → c < 256 → oracle p x c ≡ some y
-      → (length (targetsUpTo (oracle p) (256 * x)) ≤ placeOf p x c) × (placeOf p x c < length (targetsUpTo (oracle p) (256 * suc x)))
+      → (firstPlace (oracle p) x ≤ placeOf p x c) × (placeOf p x c < firstPlace (oracle p) (suc x))
   own-place c y l e = (
     targets-rise (oracle p) (256 * x) (arrowNumber x c) (omega arith),
     target-inside (oracle p) (arrowNumber x c) (arrow-of (oracle p) x c l ∙ e) (256 * suc x) (omega arith),
@@ -109,17 +58,37 @@ module _ {p : Word} {L : List ℕ} {m : ℕ} (F : FirstForm p L m) (x : State) (
       let all : 256 * suc x ≤ 256 * (length p + 1) = omega (arith, F .long) in
       omega (arith, within .1, targets-rise (oracle p) (256 * suc x) (256 * (length p + 1)) all, targets-fit p, F .long)
 
-  -- where code looks for it
-  pub place-counted : {Z : List ℕ} → Z ≡ setsFrom (oracle p) m → {L₀ : List ℕ} → WithStarts (oracle p) m L₀ L → {c d : Letter} → d < 256
-      → c ≡ d → at L (4 * (m + 1) + 4 * x) + howMany (inSet Z x) c ≡ placeOf p x d
-  place-counted {Z} e S {c} {d} l same = rw same (counted d l)
+  -- where code looks for it: behind the start of its word, and behind the ones of that below its bit
+  pub place-counted : (Z : List ℕ) → OwnWords (oracle p) x Z → OwnStarts (oracle p) m x L → {c d : Letter} → d < 256 → c ≡ d
+      → at L (4 * (m + 1) + arrowNumber x c / 64) + howMany (bitAt (at Z (arrowNumber x c / 64))) (arrowNumber x c % 64) ≡ placeOf p x d
+  place-counted Z own starts {c} {d} l same = rw same counted
     where
-      counted : (c : Letter) → c < 256 → at L (4 * (m + 1) + 4 * x) + howMany (inSet Z x) c ≡ placeOf p x c
-      counted c l =
-          let at-state : 64 * (4 * x) ≡ 256 * x = omega arith in
-          ap (λ (a : ℕ). a + howMany (inSet Z x) c) (S .starts (4 * x) (omega arith))
-          ∙ ap (λ (g : ℕ). length (targetsUpTo (oracle p) g) + howMany (inSet Z x) c) at-state
-          ∙ count-told (oracle p) m Z (λ i k. rw e (word-at (oracle p) m i k)) x (omega arith) c (omega arith)
+      k : ℕ
+      k = d / 64
+
+      bits : ℕ
+      bits = arrowNumber x d % 64
+
+      word : arrowNumber x d / 64 ≡ 4 * x + k
+      word = omega arith
+
+      whole : 64 * (4 * x + k) + bits ≡ arrowNumber x d
+      whole = omega arith
+
+      start : at L (4 * (m + 1) + arrowNumber x d / 64) ≡ length (targetsUpTo (oracle p) (64 * (4 * x + k)))
+      start =
+          rw word (starts k (omega arith))
+
+      below : howMany (bitAt (at Z (arrowNumber x d / 64))) bits ≡ howMany (λ i. there (oracle p) (64 * (4 * x + k) + i)) bits
+      below =
+          ap (λ (i : ℕ). howMany (bitAt (at Z i)) bits) word
+          ∙ ap (λ (w : ℕ). howMany (bitAt w) bits) (own k (omega arith))
+          ∙ count-same (bitAt (setWord (oracle p) (4 * x + k))) _ bits (λ i q. word-told (oracle p) (4 * x + k) i (omega arith))
+
+      counted : at L (4 * (m + 1) + arrowNumber x d / 64) + howMany (bitAt (at Z (arrowNumber x d / 64))) bits ≡ placeOf p x d
+      counted =
+          let all = rw whole at (count-split (there (oracle p)) (64 * (4 * x + k)) bits) in
+          omega (arith, start, below, all, targets-length (oracle p) (64 * (4 * x + k)), targets-length (oracle p) (arrowNumber x d))
 
   -- arrows on different letters have different places
   apart : {c d : Letter} {y z : State} → c < 256 → d < 256 → oracle p x c ≡ some y → oracle p x d ≡ some z → c ≢ d
@@ -143,8 +112,8 @@ module _ {p : Word} {L : List ℕ} {m : ℕ} (F : FirstForm p L m) (x : State) (
       leads : oracle p x (letterInto p y) ≡ some y
       leads = rw e (out-leads F x h j l .leads)
 
-      within : (length (targetsUpTo (oracle p) (256 * x)) ≤ placeOf p x (letterInto p y))
-          × (placeOf p x (letterInto p y) < length (targetsUpTo (oracle p) (256 * suc x)))
+      within : (firstPlace (oracle p) x ≤ placeOf p x (letterInto p y))
+          × (placeOf p x (letterInto p y) < firstPlace (oracle p) (suc x))
       within = own-place (letterInto p y) y (F .bytes _) leads
 
       inside : 8 * (m + 1) + placeOf p x (letterInto p y) < length L′
@@ -167,13 +136,8 @@ module _ {p : Word} {L : List ℕ} {m : ℕ} (F : FirstForm p L m) (x : State) (
   first-kept P = first-stays F (P .size) (λ i k. P .before i (omega arith))
 
   -- and so do the starts
-  pub starts-kept : {L₀ L′ : List ℕ} {j : ℕ} → WithStarts (oracle p) m L₀ L → PuttingState p m x L L′ j → WithStarts (oracle p) m L′ L′
-  starts-kept S P = record {
-    size = refl;
-    starts = λ i k. P .before (4 * (m + 1) + i) (omega arith) ∙ S .starts i k;
-    before = λ i k. refl;
-    behind = λ i k. refl;
-  }
+  pub starts-kept : {L′ : List ℕ} {j : ℕ} → OwnStarts (oracle p) m x L → PuttingState p m x L L′ j → OwnStarts (oracle p) m x L′
+  starts-kept starts P k l = P .before (4 * (m + 1) + (4 * x + k)) (omega arith) ∙ starts k l
 
   pub putting-end : {L′ : List ℕ} {k : ℕ} → PuttingState p m x L L′ k → k ≡ length (outTargets p x) → WithTargets (oracle p) m x L L′
   putting-end P e = record {
@@ -183,6 +147,122 @@ module _ {p : Word} {L : List ℕ} {m : ℕ} (F : FirstForm p L m) (x : State) (
     before = P .before;
     behind = P .behind;
   }
+
+-- ── One state ──────────────────────────────────────────────────────────────
+
+-- its starts, then its targets
+pub with-state : {δ : Delta} {L L₁ L₂ : List ℕ} {m : ℕ} {x : State} → x < m → WithStarts δ m x L L₁ → WithTargets δ m x L₁ L₂
+    → WithState δ m x L L₂
+with-state {m = m} {x = x} h S T = record {
+  size = T .size ∙ S .size;
+  starts = λ k l. T .before (4 * (m + 1) + (4 * x + k)) (omega arith) ∙ S .starts k l;
+  put = T .put;
+  before = λ i l. T .before i (omega arith) ∙ S .before i l;
+  between = λ i l u. T .before i u ∙ S .behind i l;
+  behind = λ i l. T .behind i l ∙ S .behind i (omega arith);
+}
+
+-- where the spine's arrow leaves it alone, that one's target is its first; where another does too, the one on the smaller letter
+module _ {p : Word} {L : List ℕ} {m : ℕ} (F : FirstForm p L m) {x : State} (h : x < m) {before : ℕ}
+    (counted : before ≡ firstPlace (oracle p) x) where
+  abbrev c : Letter
+  c = letterInto p (x + 1)
+
+  abbrev other : State
+  other = at (outTargets p x) 1
+
+  abbrev d : Letter
+  d = letterInto p other
+
+  byte : (y : State) → letterInto p y ≤ 256
+  byte y = omega (arith, F .bytes (pred y))
+
+  abbrev one : ℕ → ℕ → ℕ
+  one e k = cond (ltb e k) 1 0
+
+  none-below-itself : (e : ℕ) → one e e ≡ 0
+  none-below-itself e = rw (le-ltb e e (omega arith))
+
+  below-all : (y : State) → one (letterInto p y) 256 ≡ 1
+  below-all y = rw (lt-ltb (letterInto p y) 256 (F .bytes (pred y)))
+
+  -- what code reads of the second
+  pub letter-of : {z : State} {b : Letter} → z ≡ other → b ≡ letterInto p z → b ≡ d
+  letter-of to on = on ∙ ap (letterInto p) to
+
+  -- no more than fit before it
+  pub few-before : before ≤ 2 * (m + 1)
+  few-before = omega (arith, counted, starts-few p (256 * x) (F .long) (omega arith))
+
+  -- the place of the spine's target is within the rows
+  first-inside : placeOf p x c < 2 * (m + 1)
+  first-inside =
+      let same = ap (λ (y : State). placeOf p x (letterInto p y)) (add-one x) in
+      omega (arith, same, place-inside F x h (suc x) (out-leads F x h 0 (omega arith) .leads))
+
+  module _ (alone : length (outTargets p x) ≡ 1) where
+    lone-place : before ≡ placeOf p x c
+    lone-place = omega (arith, counted, lone-start F h alone c (byte (x + 1)), none-below-itself c)
+
+    pub lone-inside : before < 2 * (m + 1)
+    lone-inside = omega (arith, lone-place, first-inside)
+
+    pub lone-next : before + 1 ≡ firstPlace (oracle p) (suc x)
+    lone-next =
+        let next : 256 * suc x ≡ arrowNumber x 256 = omega arith in
+        rw next (omega (arith, counted, lone-start F h alone 256 (omega arith), below-all (x + 1)))
+
+    -- by word, as code asks; 256 is below no letter
+    pub lone-word : {e : Letter} → e ≡ c → (i : ℕ) → i < 4
+        → before + cond (ltb e (64 * i)) 1 0 + cond (ltb 256 (64 * i)) 1 0 ≡ length (targetsUpTo (oracle p) (64 * (4 * x + i)))
+    lone-word same i l =
+        let number : 64 * (4 * x + i) ≡ arrowNumber x (64 * i) = omega arith in
+        let nothing : one 256 (64 * i) ≡ 0 = rw (le-ltb 256 (64 * i) (omega arith)) in
+        rw (number, same) (omega (arith, counted, lone-start F h alone (64 * i) (omega arith), nothing))
+
+    pub lone-state : {L₁ : List ℕ} → WithStarts (oracle p) m x L L₁ → WithState (oracle p) m x L (set L₁ (8 * (m + 1) + before) (x + 1))
+    lone-state S =
+        let F₁ = first-stays F (S .size) (λ i k. S .before i (omega arith)) in
+        let put = putting-step F₁ x h (putting-start F₁ x h) (omega (arith, alone)) (spine-first p x 0 refl) lone-place in
+        with-state h S (putting-end F₁ x h put (sym alone))
+
+  module _ (both : length (outTargets p x) ≡ 2) where
+    -- the places that code finds
+    module _ {a b : Letter} (to-spine : a ≡ c) (to-other : b ≡ d) where
+      spine-place : {r : ℕ} → r ≡ before + cond (ltb b a) 1 0 → r ≡ placeOf p x c
+      spine-place e =
+          omega (arith, e, ap₂ one to-other to-spine, counted, pair-start F h both c (byte (x + 1)), none-below-itself c)
+
+      other-place : {r : ℕ} → r ≡ before + cond (ltb a b) 1 0 → r ≡ placeOf p x d
+      other-place e =
+          omega (arith, e, ap₂ one to-spine to-other, counted, pair-start F h both d (byte other), none-below-itself d)
+
+      pub spine-inside : {r : ℕ} → r ≡ before + cond (ltb b a) 1 0 → r < 2 * (m + 1)
+      spine-inside e = omega (arith, spine-place e, first-inside)
+
+      pub other-inside : {r : ℕ} → r ≡ before + cond (ltb a b) 1 0 → r < 2 * (m + 1)
+      other-inside e = omega (arith, other-place e, place-inside F x h other (out-leads F x h 1 (omega (arith, both)) .leads))
+
+    pub pair-next : before + 2 ≡ firstPlace (oracle p) (suc x)
+    pair-next =
+        let next : 256 * suc x ≡ arrowNumber x 256 = omega arith in
+        rw next (omega (arith, counted, pair-start F h both 256 (omega arith), below-all (x + 1), below-all other))
+
+    pub pair-word : {a b : Letter} → a ≡ c → b ≡ d → (i : ℕ) → i < 4
+        → before + cond (ltb a (64 * i)) 1 0 + cond (ltb b (64 * i)) 1 0 ≡ length (targetsUpTo (oracle p) (64 * (4 * x + i)))
+    pair-word e q i l =
+        let number : 64 * (4 * x + i) ≡ arrowNumber x (64 * i) = omega arith in
+        rw (number, e, q) (omega (arith, counted, pair-start F h both (64 * i) (omega arith)))
+
+    pub pair-state : {L₁ : List ℕ} {a b r s z : ℕ} → WithStarts (oracle p) m x L L₁ → a ≡ c → b ≡ d
+        → r ≡ before + cond (ltb b a) 1 0 → s ≡ before + cond (ltb a b) 1 0 → z ≡ other
+        → WithState (oracle p) m x L (set (set L₁ (8 * (m + 1) + r) (x + 1)) (8 * (m + 1) + s) z)
+    pair-state S to-spine to-other first second to =
+        let F₁ = first-stays F (S .size) (λ i k. S .before i (omega arith)) in
+        let spine = spine-place to-spine to-other first in
+        let next = other-place to-spine to-other second ∙ ap (λ (y : State). placeOf p x (letterInto p y)) (sym to) in
+        let put = putting-step F₁ x h (putting-start F₁ x h) (omega (arith, both)) (spine-first p x 0 refl) spine in
+        with-state h S (putting-end F₁ x h (putting-step F₁ x h put (omega (arith, both)) to next) (sym both))
 
 -- ── As code asks ───────────────────────────────────────────────────────────
 
@@ -195,90 +275,25 @@ module _ {p : Word} {L : List ℕ} {m : ℕ} (F : FirstForm p L m) {x : State} (
   pub target-told : (j : ℕ) {y : ℕ} → y ≡ at (outTargets (wordIn L m) x) j → y ≡ at (outTargets p x) j
   target-told j e = e ∙ ap (λ (q : Word). at (outTargets q x) j) (own-word F)
 
-  pub place-asked : {y : State} {Z : List ℕ} → oracle p x (letterInto p y) ≡ some y → Z ≡ setsFrom (oracle p) m
-      → WithStarts (oracle p) m L L
+  pub place-asked : {y : State} (Z : List ℕ) → oracle p x (letterInto p y) ≡ some y → setsRoom m ≤ length Z → OwnWords (oracle p) x Z
+      → OwnStarts (oracle p) m x L
       → (FirstForm (wordIn L m) L m × (x < m) × (oracle (wordIn L m) x (letterInto (wordIn L m) y) ≡ some y))
-      × ((Z ≡ setsFrom (oracle (wordIn L m)) m) × WithStarts (oracle (wordIn L m)) m L L)
-  place-asked e z S = rw (own-word F) ((F, h, e), (z, S))
+      × ((setsRoom m ≤ length Z) × OwnWords (oracle (wordIn L m)) x Z × OwnStarts (oracle (wordIn L m)) m x L)
+  place-asked Z e room own starts = rw (own-word F) ((F, h, e), (room, own, starts))
 
   pub place-told : (y : State) {r : ℕ} → r ≡ placeOf (wordIn L m) x (letterInto (wordIn L m) y) → r ≡ placeOf p x (letterInto p y)
   place-told y e = rw (own-word F) at e
 
--- ── All targets ────────────────────────────────────────────────────────────
+  -- a state's targets, once it has its starts
+  module _ {L₁ : List ℕ} (S : WithStarts (oracle p) m x L L₁) where
+    started : FirstForm p L₁ m
+    started = first-stays F (S .size) (λ i k. S .before i (omega arith))
 
--- the targets of the states below x are in place, and behind them are zeros
-pub record PuttingAll (p : Word) (m : ℕ) (L L′ : List ℕ) (x : State) : Type 0 where
-  pub size : length L′ ≡ length L
-  pub put : (g : ℕ) → g / 256 < x → (y : State) → arrowAt (oracle p) g ≡ some y
-      → at L′ (8 * (m + 1) + length (targetsUpTo (oracle p) g)) ≡ y
-  pub before : (i : ℕ) → i < 8 * (m + 1) → at L′ i ≡ at L i
-  pub behind : (i : ℕ) → length (targetsUpTo (oracle p) (256 * x)) ≤ i → at L′ (8 * (m + 1) + i) ≡ 0
+    pub targets-asked : {Z Z′ : List ℕ} → NoneOf x Z → Words64 Z → WithSet (oracle p) x Z Z′ → setsRoom m ≤ length Z
+        → (FirstForm (wordIn L₁ m) L₁ m × (x < m))
+        × ((setsRoom m ≤ length Z′) × OwnWords (oracle (wordIn L₁ m)) x Z′ × OwnStarts (oracle (wordIn L₁ m)) m x L₁)
+    targets-asked empty small M room =
+        rw (own-word started) ((started, h), (omega (arith, M .size), own-words empty M small, S .starts))
 
-module _ {p : Word} {m : ℕ} {L : List ℕ} where
-  pub all-start : ((i : ℕ) → 8 * (m + 1) ≤ i → at L i ≡ 0) → PuttingAll p m L L 0
-  all-start zeros = record {
-    size = refl;
-    put = λ g h. absurd (omega arith);
-    before = λ i h. refl;
-    behind = λ i h. zeros (8 * (m + 1) + i) (omega arith);
-  }
-
-  pub all-step : {L′ L″ : List ℕ} {x : State} → PuttingAll p m L L′ x → WithTargets (oracle p) m x L′ L″ → PuttingAll p m L L″ (x + 1)
-  all-step {L′} {L″} {x} A P = rw (add-one x) (record {
-    size = P .size ∙ A .size;
-    put = λ g h y e. by-cases (ℕ-discrete (g / 256) x)
-        (λ q.
-        let number : arrowNumber x (g % 256) ≡ g = omega arith in
-        let leads : oracle p x (g % 256) ≡ some y = rw q at e in
-        rw number at (P .put (g % 256) (omega arith) y leads))
-        (λ q.
-        let earlier = target-inside (oracle p) g e (256 * x) (omega arith) in
-        P .before _ (omega (arith, earlier)) ∙ A .put g (omega arith) y e);
-    before = λ i h. P .before i (omega arith) ∙ A .before i h;
-    behind = λ i h.
-        let risen = targets-rise (oracle p) (256 * x) (256 * suc x) (omega arith) in
-        P .behind (8 * (m + 1) + i) (omega arith) ∙ A .behind i (omega (arith, risen));
-  })
-
-  pub all-end : {L′ : List ℕ} {x : State} → PuttingAll p m L L′ x → x ≡ m → ((c : Letter) → oracle p m c ≡ none)
-      → AllTargets (oracle p) m L L′
-  all-end {L′} {x} A e none-last = record { size = A .size; targets = λ i h. target i; before = A .before }
-    where
-      row : List State
-      row = targetsUpTo (oracle p) (256 * (m + 1))
-
-      target : (i : ℕ) → at L′ (8 * (m + 1) + i) ≡ at row i
-      target i = by-cases (decLt i (length row))
-          (λ l.
-          let T = target-of (oracle p) (256 * (m + 1)) i l in
-          let below : T .number / 256 ≢ m = λ q. never (none-last (T .number % 256)) (rw q at (T .leads)) in
-          let put = A .put (T .number) (omega (arith, T .below)) (T .to) (T .leads) in
-          (rw (T .place) at put) ∙ sym (rw (T .place) at (target-at (oracle p) (T .number) (T .leads) (256 * (m + 1)) (T .below))))
-          (λ l.
-          let risen = targets-rise (oracle p) (256 * x) (256 * (m + 1)) (omega arith) in
-          A .behind i (omega (arith, risen)) ∙ sym (List·getD-eq-default row 0 {n = i} (omega arith)))
-
-  -- ── As code asks ─────────────────────────────────────────────────────────
-
-  module _ (F : FirstForm p L m) {L′ : List ℕ} {x : State} (A : PuttingAll p m L L′ x) where
-    -- the first form stays
-    now-first : FirstForm p L′ m
-    now-first = first-stays F (A .size) (λ i h. A .before i (omega arith))
-
-    pub state-asked : {L₀ Z : List ℕ} → x < m → Z ≡ setsFrom (oracle p) m → WithStarts (oracle p) m L₀ L
-        → (FirstForm (wordIn L′ m) L′ m × (x < m)) × ((Z ≡ setsFrom (oracle (wordIn L′ m)) m) × WithStarts (oracle (wordIn L′ m)) m L′ L′)
-    state-asked h z S = rw (own-word now-first) (
-      (now-first, h),
-      (
-        z,
-        record {
-          size = refl;
-          starts = λ i k. A .before (4 * (m + 1) + i) (omega arith) ∙ S .starts i k;
-          before = λ i k. refl;
-          behind = λ i k. refl;
-        },
-      ),
-    )
-
-    pub state-put : {L″ : List ℕ} → WithTargets (oracle (wordIn L′ m)) m x L′ L″ → PuttingAll p m L L″ (x + 1)
-    state-put P = all-step A (rw (own-word now-first) at P)
+    pub targets-told : {L₂ : List ℕ} → WithTargets (oracle (wordIn L₁ m)) m x L₁ L₂ → WithState (oracle p) m x L L₂
+    targets-told T = with-state h S (rw (own-word started) at T)

@@ -1,11 +1,12 @@
-// The backward search over compact rows: a window is read from its end, and moved to behind the first letter that has no arrow. In a long
-// text the arrows of the first states are prepared in small arrays, as many as fit into two kilobytes. Serves the entries.
+// The backward search over compact rows: a window is read from its end, and moved to behind the first letter that has no arrow. In a text
+// that is long beside the word the arrows of the first states are prepared in small arrays, as many as fit into two kilobytes. Serves the
+// entries.
 ghost use mathlib.Core.Path.{_≡_};
-ghost use mathlib.Core.Logic.{_≢_};
-ghost use Prim.Native.Nat.{_+_, _-_, _<_, _≤_};
+ghost use Prim.Native.Nat.{ℕ, _+_, _-_, _<_, _≤_};
 ghost use lib.ListN.{length};
+ghost use Rattle.words.specs.Lists.{at};
 ghost use Rattle.prepared.specs.Prepared.{told};
-ghost use Rattle.prepared.specs.Filling.{Zeros};
+ghost use Rattle.prepared.specs.Filling.{Zeros, Copied};
 ghost use Rattle.backward.specs.Steps.{readDown, afterFind, steps};
 ghost use Rattle.finds.specs.Finds.{filled};
 ghost use Rattle.search.specs.Answers.{readingOf, tallyOf};
@@ -16,31 +17,18 @@ ghost use Rattle.compact_search.specs.FewStates.{FirstTargets, FewStates
 // How many entries all columns have together.
 pub const ENTRIES: usize = 1024;
 
-// From how many letters on a text repays preparing.
-pub const PREPARED_FROM: usize = 8192;
+// From how many letters of text for each letter of the word on preparing repays.
+pub const LETTERS_FOR_EACH: usize = 200;
 
 // What tells the arrow from x on c: its target, or the entry that tells none.
 fn entry_for(sets: &[u64], table: &[u16], m: usize, x: words::State, c: words::Letter) -> u16
     requires { ⌜ CompactFormed (now sets) (now table) m ⌝ }
-    ensures { λ r. ⌜ (told r ≡ readCompact m (now (sets .entry)) (now (table .entry)) (x .0) (c .0)) × (r ≢ 65535 → r ≤ m) ⌝ }
+    ensures { λ r. ⌜ told r ≡ readCompact m (now (sets .entry)) (now (table .entry)) (x .0) (c .0) ⌝ }
 {
     let words::Leads::To(y) = compact::lookup(sets, table, m, x, c) else {
         return prepared::NOTHING;
     };
     y.0
-}
-
-// The arrows of state 0 by letter.
-fn fill_first(sets: &[u64], table: &[u16], m: usize, first: &mut [u16])
-    requires { ⌜ CompactFormed (now sets) (now table) m × (length (now first) ≡ 256) ⌝ }
-    ensures { λ _. ⌜ FirstTargets (readCompact m (now (sets .entry)) (now (table .entry))) m (now (first .exit)) ⌝ }
-{
-    let mut i = 0;
-    while i < 256 {
-        let entry = entry_for(sets, table, m, words::State(0), words::Letter(i as u8));
-        first[i] = entry;
-        i += 1;
-    }
 }
 
 // A column: the arrows on c of the first states, as many as it is long.
@@ -104,7 +92,22 @@ fn lay_columns(
     rows
 }
 
-// Prepares the arrows of state 0, and the columns in arrays that are empty. The answer is for how many states, 0 where there is no room.
+// The arrows of state 0 by letter: the first entry of each letter's column.
+fn fill_first(column: &[u16], dense: &[u16], first: &mut [u16])
+    requires { ⌜ (length (now column) ≡ 256) × (length (now first) ≡ 256) ⌝ }
+    requires { ⌜ ((c : ℕ) → c < 256 → at (now column) c < length (now dense)) ⌝ }
+    ensures { λ _. ⌜ Copied (now (column .entry)) (now (dense .entry)) (now (first .exit)) 256 ⌝ }
+{
+    let mut c = 0;
+    while c < 256 {
+        let top = column[c] as usize;
+        first[c] = dense[top];
+        c += 1;
+    }
+}
+
+// Prepares the columns, in arrays that are empty, and the arrows of state 0. The answer is for how many states, 0 where there is no room:
+// then `first` is not filled.
 fn prepare(
     sets: &[u64],
     table: &[u16],
@@ -115,13 +118,16 @@ fn prepare(
 ) -> usize
     requires { ⌜ CompactFormed (now sets) (now table) m × (length (now first) ≡ 256) ⌝ }
     requires { ⌜ Zeros 256 (now column) × Untold 1024 (now dense) ⌝ }
-    ensures { λ r. ⌜ FirstTargets (readCompact m (now (sets .entry)) (now (table .entry))) m (now (first .exit))
-        × (0 < r → FewStates
-        (readCompact m (now (sets .entry)) (now (table .entry))) (now (column .exit)) (now (dense .exit)) r) ⌝ }
+    ensures { λ r. ⌜ (0 < r → FirstTargets (readCompact m (now (sets .entry)) (now (table .entry))) m (now (first .exit))
+        × FewStates (readCompact m (now (sets .entry)) (now (table .entry))) (now (column .exit)) (now (dense .exit)) r) ⌝ }
 {
-    fill_first(sets, table, m, first);
-    let rows = rows_for(sets, m);
-    lay_columns(sets, table, m, rows, column, dense)
+    let room = rows_for(sets, m);
+    let rows = lay_columns(sets, table, m, room, column, dense);
+    if rows == 0 {
+        return 0;
+    }
+    fill_first(column, dense, first);
+    rows
 }
 
 // Reads k letters from s on, from the last to the first and from a state, with the arrows of a word of m letters; the loop breaks with how
@@ -334,7 +340,7 @@ fn windows_prepared(
     }
 }
 
-// The same in a long text, once the arrows of the first states are prepared.
+// The same in a text that is long beside the word, once the arrows of the first states are prepared.
 fn scan_long(
     word: &[u8],
     step: usize,
@@ -387,7 +393,7 @@ pub fn scan(
         × (now (finds .exit) ≡ filled (steps (readCompact (length (now (word .entry))) (now (sets .entry)) (now (table .entry)))
         (now (word .entry)) (now (text .entry)) .starts) (now (finds .entry))) ⌝ }
 {
-    if PREPARED_FROM <= text.len() {
+    if word.len() <= text.len() / LETTERS_FOR_EACH {
         if 2 <= word.len() {
             return scan_long(word, step, sets, table, text, finds);
         }

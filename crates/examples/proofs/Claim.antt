@@ -52,6 +52,6 @@ unfolding from only first same stands occurrences longestWord longestText longes
     frontWithin twoAt arrowsAt ending asPlain endingEither verdictEither loadWithin saveIn
     shifted fed digits bitsOf check sealed
     filledTo dotFit allowed dataSize headerInside inHeader kindOf ridesAt rides salvageSays
-    is isNone walked empty has failsTo joined gives isRefused isRefusedAt loadInRooms leaves refusesIn refusesToSave shows isDoneWith isTallied
-    takenInTurn holds allHold word digit bytes table
+    is isNone walked empty has failsTo joined gives isRefused isRefusedAt loadInRooms leaves refusesIn refusesToSave shows isDoneWith
+    isTallied takenInTurn holds allHold word digit bytes table
 examples-hold = tt

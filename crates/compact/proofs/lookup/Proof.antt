@@ -4,7 +4,7 @@ use Prim.Native.Nat.{_<_}
 use native.Mathlib.Omega.{arith}
 use borrow.Author.Needs.{needs}
 use Rattle.words.specs.Answers.{arrowTo}
-use Rattle.compact.proofs.Looking.{look-far, look-spine, look-none, look-some}
+use Rattle.compact.proofs.Looking.{look-far, look-spine, look-none}
 use Rattle.compact.proofs.lookup.Statement.{statement}
 use Rattle.compact.proofs.lookup.Tie as tie
 
@@ -23,25 +23,17 @@ returns-2 c =
     let byte : at-start .args .c .0 < 256 = omega (arith, at-letter .struct-known2 .given) in
     sym (ap arrowTo (look-spine (at-start .pre) (at-start .args .x .0) (at-start .args .c .0) byte (at-if1 .if1 .left) (c .if2 .taken)))
 
-place-requires : tie.Need-place-requires
-place-requires c κs =
+target-of-requires : tie.Need-target-of-requires
+target-of-requires c κs =
     let at-has-arrow = c .before in
     let at-if1 = at-has-arrow .before .before .before in
-    let at-start = at-if1 .before .before .before .before .before in
-    (at-start .pre, at-if1 .if1 .left, sym (at-has-arrow .has-arrow .ensures) ∙ c .if3 .taken)
-
-returns-3 : tie.Need-returns-3
-returns-3 c =
-    let at-place = c .before in
-    let at-if3 = at-place .before in
-    let at-has-arrow = at-if3 .before in
-    let at-if1 = at-has-arrow .before .before .before in
     let at-letter = at-if1 .before in
-    let at-start = at-letter .before .before .before .before in
-    let byte : at-start .args .c .0 < 256 = omega (arith, at-letter .struct-known2 .given) in
-    let member = sym (at-has-arrow .has-arrow .ensures) ∙ at-if3 .if3 .taken in
-    sym (ap arrowTo (look-some (at-start .pre) (at-start .args .x .0) (at-start .args .c .0) byte (at-if1 .if1 .left) member
-    (at-place .place .ensures .1)))
+    let at-start = at-letter .before .before .before .before in (
+      at-start .pre,
+      at-if1 .if1 .left,
+      omega (arith, at-letter .struct-known2 .given),
+      sym (at-has-arrow .has-arrow .ensures) ∙ c .if3 .taken,
+    )
 
 returns-4 : tie.Need-returns-4
 returns-4 c =
@@ -60,7 +52,6 @@ lookup-spec = tie.close (tie.spec
     (λ c. search needs) (λ c. search needs) (λ c. search needs) (λ c. search needs) (λ c. search needs)
     returns-2
     (λ c κs. search needs)
-    place-requires
-    (λ c. search needs) (λ c. search needs) (λ c. search needs) (λ c. search needs) (λ c. search needs)
-    returns-3
+    target-of-requires
+    (λ c. sym (ap arrowTo (c .target-of .ensures)))
     returns-4)

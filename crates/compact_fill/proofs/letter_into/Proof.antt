@@ -1,7 +1,7 @@
 -- `compact_fill::letter_into` meets its contract: row 0 has the letter, which is a byte.
 use native.Mathlib.Omega.{arith}
 use borrow.Author.Needs.{needs}
-use Prim.Native.Nat.{pred, _-_}
+use Prim.Native.Nat.{pred}
 use Rattle.compact_fill.proofs.OutArrows.{letter-there}
 use Rattle.compact_fill.proofs.letter_into.Statement.{statement}
 use Rattle.compact_fill.proofs.letter_into.Tie as tie

@@ -1,5 +1,6 @@
 -- `compact_fill::put_state` meets its contract: before arrow j the first j have their targets in place, and the first form and the starts
 -- are as they were. The measure is how many arrows are left.
+use mathlib.Core.Path.{_∙_}
 use Prim.Native.Nat.{_-_, _≤_}
 use native.Mathlib.Omega.{arith}
 use borrow.Author.Needs.{needs}
@@ -27,7 +28,7 @@ arrow-target-requires c κs =
 
 place-for-requires : tie.Need-place-for-requires Inv-loop μ-loop
 place-for-requires c κs =
-    let at-arrow-target = c .before in
+    let at-arrow-target = c .before .before in
     let at-loop-test = at-arrow-target .before .before in
     let at-loop = at-loop-test .before in
     let at-arrow-count = at-loop .before in
@@ -39,11 +40,21 @@ place-for-requires c κs =
     let o = out-leads (at-start .pre .0 .0) x h (at-loop .loop .j)
     (omega (arith, at-loop-test .loop-test .taken, at-arrow-count .arrow-count .ensures)) in
     let there = target-told F h (at-loop .loop .j) (at-arrow-target .arrow-target .ensures) in
-    place-asked F h (rw there (o .leads)) (at-start .pre .1 .0) (starts-kept (at-start .pre .0 .0) x h (at-start .pre .1 .1) P)
+    place-asked F h (at-start .args .sets .now) (rw there (o .leads)) (at-start .pre .1 .0) (at-start .pre .1 .1)
+    (starts-kept (at-start .pre .0 .0) x h (at-start .pre .1 .2) P)
+
+put-requires : tie.Need-put-requires Inv-loop μ-loop
+put-requires c κs =
+    let at-loop = c .before .before .before .before .before .before in
+    let at-start = at-loop .before .before .before .before .before in
+    let F = at-start .pre .0 .0 in
+    (F .few, c .place-for .ensures .0, at-loop .loop .inv .1 .size ∙ F .size)
 
 loop-again : tie.Need-loop-again Inv-loop μ-loop
 loop-again c =
-    let at-arrow-target = c .before .before in
+    let at-put = c .before .before in
+    let at-place-for = at-put .before in
+    let at-arrow-target = at-place-for .before .before .before in
     let at-loop-test = at-arrow-target .before .before in
     let at-loop = at-loop-test .before in
     let at-arrow-count = at-loop .before in
@@ -53,9 +64,10 @@ loop-again c =
     let P = at-loop .loop .inv .1 in
     let F = first-kept (at-start .pre .0 .0) x h P in (
       omega (arith, at-loop-test .loop-test .taken),
-      putting-step (at-start .pre .0 .0) x h P (omega (arith, at-loop-test .loop-test .taken, at-arrow-count .arrow-count .ensures))
+      rw (at-put .put .ensures) (putting-step (at-start .pre .0 .0) x h P
+          (omega (arith, at-loop-test .loop-test .taken, at-arrow-count .arrow-count .ensures))
           (target-told F h (at-loop .loop .j) (at-arrow-target .arrow-target .ensures))
-          (place-told F h (at-arrow-target .arrow-target .result .0) (c .place-for .ensures .1)),
+          (place-told F h (at-arrow-target .arrow-target .result .0) (at-place-for .place-for .ensures .1))),
     )
 
 returns : tie.Need-returns Inv-loop μ-loop
@@ -74,8 +86,8 @@ put-state-spec = tie.close (tie.spec
     (λ c. let at-start = c .before .before .before .before in (omega arith, putting-start (at-start .pre .0 .0) _ (at-start .pre .0 .1)))
     arrow-target-requires
     place-for-requires
-    (λ c. search needs) (λ c. search needs) (λ c. search needs) (λ c. search needs) (λ c. search needs) (λ c. search needs)
-    (λ c. search needs)
+    put-requires
+    (λ c. search needs) (λ c. search needs)
     loop-again
     (λ c. c .before .loop .inv .1 .size)
     returns)

@@ -10,7 +10,7 @@ use Rattle.compact_search.proofs.fill_column.Statement.{statement}
 use Rattle.compact_search.proofs.fill_column.Tie as tie
 
 abbrev Inv-loop : tie.InvT-loop
-Inv-loop sets table m c column₀ rows x₀ column x = Telling (λ y. readCompact m sets table y (c .0)) m rows column x
+Inv-loop sets table m c column₀ rows x₀ column x = Telling (readCompact m sets table) (c .0) rows column x
 
 abbrev μ-loop : tie.MeasureT-loop
 μ-loop sets table m c column₀ rows x₀ column x = rows - x
@@ -25,7 +25,7 @@ loop-again : tie.Need-loop-again Inv-loop μ-loop
 loop-again c =
     let at-test = c .before in
     let at-loop = at-test .before in
-    telling-step (at-loop .loop .inv) (at-test .loop-test .taken) (c .entry-for .ensures)
+    telling-step (at-loop .loop .inv) (at-test .loop-test .taken) _ (c .entry-for .ensures)
 
 pub fill-column-spec : {M : Type 1} → statement M
 fill-column-spec = tie.close (tie.spec

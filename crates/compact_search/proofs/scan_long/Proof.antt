@@ -17,8 +17,8 @@ windows-prepared-requires c κs =
     let at-if1 = c .before .before .before .before in
     let at-prepare = at-if1 .before .before .before .before in
     let at-start = at-prepare .before .before .before .before .before .before .before .before .before in
-    let made = at-prepare .prepare .ensures in
-    (at-start .pre .0, (at-start .pre .1, made .0, made .1 (omega (arith, at-if1 .if1 .left))))
+    let made = at-prepare .prepare .ensures (omega (arith, at-if1 .if1 .left)) in
+    (at-start .pre .0, (at-start .pre .1, made .0, made .1))
 
 pub scan-long-spec : {M : Type 1} → statement M
 scan-long-spec = tie.close (tie.spec
