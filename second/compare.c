@@ -954,9 +954,9 @@ static void count_rows_text(const struct asked *a, uint64_t finds)
     size_t m = a->len[INPUT], n = a->len[TEXT];
     row_met[EMPTY_TEXT][1] += n == 0;
     row_met[SHORTER_TEXT][1] += n > 0 && n < m;
-    row_met[JUST_NOT_LONG][1] += n + 1 == LONG_FOR_ROWS;
-    row_met[JUST_LONG][1] += n == LONG_FOR_ROWS;
-    if (n < LONG_FOR_ROWS)
+    row_met[JUST_NOT_LONG][1] += n + 1 == long_for_rows(m);
+    row_met[JUST_LONG][1] += n == long_for_rows(m);
+    if (n < long_for_rows(m))
         return;
     for (size_t more = 0; more < 2; more++) {
         size_t entries = distinct_letters(a->input, m) + more, fit = PREPARED / entries;
@@ -4081,10 +4081,10 @@ static void rows_in_long_text(size_t m, size_t distinct, size_t n)
     run_search(COMPACT_SEARCH, word, m, m, long_text, n, below(2) ? n : below(20));
 }
 
-/* one fewer than a long text has, just so many, one more; or many more */
-static size_t near_long_for_rows(void)
+/* one letter fewer than a text has that is long for a word of m letters, just so many, one more; or many more */
+static size_t near_long_for_rows(size_t m)
 {
-    return LONG_FOR_ROWS + (below(4) ? below(3) - 1 : below(LONG_FOR_ROWS));
+    return long_for_rows(m) + (below(4) ? below(3) - 1 : below(8192));
 }
 
 /* words with as many states as fit where each has an entry for every letter of the word, or for one letter more, and with some fewer and
@@ -4094,8 +4094,8 @@ static void rows_that_fit(size_t distinct)
     for (size_t entries = distinct; entries <= distinct + 1; entries++)
         for (size_t states = PREPARED / entries - 2; states <= PREPARED / entries + 2; states++) {
             size_t m = states > distinct + 1 ? states - 1 : distinct;
-            rows_in_long_text(m, distinct, near_long_for_rows());
-            rows_in_long_text(m, distinct, LONG_FOR_ROWS + below(2));
+            rows_in_long_text(m, distinct, near_long_for_rows(m));
+            rows_in_long_text(m, distinct, long_for_rows(m) + below(2));
         }
 }
 
@@ -4108,10 +4108,10 @@ static void rows_in_long_texts(void)
         rows_that_fit(distinct[i]);
     for (size_t m = 1; m <= 48; m++)
         for (int turn = 0; turn < 12; turn++)
-            rows_in_long_text(m, 1 + below(turn % 2 ? m : shorter(m, 4)), near_long_for_rows());
+            rows_in_long_text(m, 1 + below(turn % 2 ? m : shorter(m, 4)), near_long_for_rows(m));
     for (size_t i = 0; i < 3 * sizeof longer / sizeof *longer; i++) {
         size_t m = longer[i / 3];
-        rows_in_long_text(m, 1 + below(i % 3 ? shorter(m, 256) : 4), near_long_for_rows());
+        rows_in_long_text(m, 1 + below(i % 3 ? shorter(m, 256) : 4), near_long_for_rows(m));
     }
     for (int turn = 0; turn < 12; turn++)
         rows_in_long_text(2 + below(60), 2, 65535 + below(3) + below(2) * below(200000));

@@ -441,7 +441,7 @@ enum { STRETCHED = 0x0C };
 static void stretch_text(struct asked *a, size_t m, uint8_t choice)
 {
     static uint8_t text[LONGEST_STRETCHED];
-    size_t own = a->len[TEXT], n = (makes_rows(a->entry) ? LONG_FOR_ROWS : long_from(m)) - 1 + (choice + 1u) % 256;
+    size_t own = a->len[TEXT], n = (makes_rows(a->entry) ? long_for_rows(m) : long_from(m)) - 1 + (choice + 1u) % 256;
     if (own == 0 || own >= n || n > LONGEST_STRETCHED)
         return;
     for (size_t i = 0; i < n; i++)

@@ -946,7 +946,7 @@ static uint64_t letters_read(const uint8_t *word, size_t m, const uint8_t *text,
 {
     uint64_t letters = 0;
     size_t s = 0, after_find = step_after_find(word, m), late = 0;
-    bool long_for_rows = rows != NULL && n >= LONG_FOR_ROWS, deep = false;
+    bool prepares = rows != NULL && n >= long_for_rows(m), deep = false;
     while (s + m <= n) {
         unsigned state = 0;
         size_t unread = m; /* the letter to read next stands at s + unread - 1 */
@@ -959,7 +959,7 @@ static uint64_t letters_read(const uint8_t *word, size_t m, const uint8_t *text,
             unread--;
         }
         letters -= SLIP == 383 && deep && m - unread < DEEP;
-        deep = long_for_rows && is_deep(m - unread, deep);
+        deep = prepares && is_deep(m - unread, deep);
         if (SLIP == 6 && unread > 0)
             letters--;
         letters -= SLIP == 148 && m > 32 && n >= long_from(m) && late >= 16 && unread > 1;
@@ -1860,7 +1860,7 @@ static uint64_t slip_letters(const uint8_t *word, size_t m, size_t n)
     size_t distinct = 0;
     for (size_t i = 0; i < m && SLIP == 384; i++)
         distinct += memchr(word, word[i], i) == NULL;
-    return n >= LONG_FOR_ROWS && distinct * (m + 1) > PREPARED && distinct * m <= PREPARED;
+    return n >= long_for_rows(m) && distinct * (m + 1) > PREPARED && distinct * m <= PREPARED;
 }
 
 uint32_t second_compact_search(const uint8_t *word, size_t word_len, const uint8_t *text, size_t text_len, uint64_t *sets, size_t sets_len,

@@ -34,10 +34,14 @@ static inline size_t long_from(size_t m)
     return m > 16 ? 512 * m : 8192;
 }
 
-/* From how many letters on a text is long for a search with compact rows, whatever the word; for how many entries the library then prepares
-   arrows, by states and by the letters that the word has; and from how many letters on the reading of a window is deep. Only cases,
-   counters and mistakes on purpose look at these. */
-enum { LONG_FOR_ROWS = 8192, PREPARED = 1024, DEEP = 32 };
+/* The same for a search with compact rows; for how many entries the library then prepares arrows, by states and by the letters that the
+   word has; and from how many letters on the reading of a window is deep. Only cases, counters and mistakes on purpose look at these. */
+static inline size_t long_for_rows(size_t m)
+{
+    return 200 * m;
+}
+
+enum { PREPARED = 1024, DEEP = 32 };
 
 /* Where a searcher has the word's letters, the longest border of each of the word's beginnings, how many letters the word has, how many
    of them are kept, and how many bytes were taken, low byte first. Kept is the longest beginning of the word, short of all of it, that

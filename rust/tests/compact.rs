@@ -1,5 +1,10 @@
 //! Compact rows and the search with them: all of both rooms held against the rule as docs/TABLE.md words it, which is run plainly here; every arrow against
 //! that of the first form, for every state and byte; finds and letters against those of the first search.
+mod chance;
+mod every;
+
+use chance::{random, random_bytes};
+use every::words_of;
 use marks::entries::{build, compact_build, compact_search, search, Tally};
 use marks::{compact_sets_room, compact_targets_room, table_room, Engine, Mark, Refusal, LONGEST_TEXT, LONGEST_WORD};
 use std::collections::BTreeMap;
@@ -132,22 +137,9 @@ fn searched_first(word: &[u8], text: &[u8]) -> (Vec<u32>, Tally) {
     (finds, tally)
 }
 
-/// Every word of so many letters over so many.
-fn words_of(length: usize, letters: usize) -> impl Iterator<Item = Vec<u8>> {
-    (0..letters.pow(length as u32))
-        .map(move |number| (0..length as u32).map(|i| b'a' + (number / letters.pow(i) % letters) as u8).collect())
-}
-
-fn random(seed: &mut u64) -> u64 {
-    *seed ^= *seed << 13;
-    *seed ^= *seed >> 7;
-    *seed ^= *seed << 17;
-    *seed
-}
-
 /// Letters that follow each other across the end of the first word of a set, and with all 256 of every word.
-fn random_bytes(seed: &mut u64, n: usize, letters: u64) -> Vec<u8> {
-    (0..n).map(|_| ((random(seed) >> 20) % letters) as u8).map(|letter| letter.wrapping_add(55)).collect()
+fn letters_across(seed: &mut u64, n: usize, letters: u64) -> Vec<u8> {
+    random_bytes(seed, n, letters).iter().map(|letter| letter.wrapping_add(55)).collect()
 }
 
 /// Words that have many arrows, few, or all at one state: of every letter, of one letter, of one that ends otherwise, and with periods.
@@ -194,10 +186,10 @@ fn longer_words_have_it_too() {
     let mut seed = 88172645463325252;
     for round in 0..400 {
         let (letters, m) = ([2, 4, 20, 256][round % 4], 1 + random(&mut seed) as usize % [20, 60, 300][round / 4 % 3]);
-        let word = random_bytes(&mut seed, m, letters);
+        let word = letters_across(&mut seed, m, letters);
         assert_eq!(built(&word), plain(&word), "{}", word.escape_ascii());
     }
-    let random_words = [2, 256].map(|letters| random_bytes(&mut seed, LONGEST_WORD, letters));
+    let random_words = [2, 256].map(|letters| letters_across(&mut seed, LONGEST_WORD, letters));
     for word in longest_words().iter().chain(&random_words) {
         assert_eq!(built(word), plain(word), "{} and more", word[..9].escape_ascii());
     }
@@ -224,10 +216,10 @@ fn every_arrow_is_that_of_the_first_form_for_every_state_and_byte() {
     }
     for round in 0..200 {
         let (letters, m) = ([2, 4, 20, 256][round % 4], 1 + random(&mut seed) as usize % [10, 70, 400][round / 4 % 3]);
-        both_forms_agree(&random_bytes(&mut seed, m, letters));
+        both_forms_agree(&letters_across(&mut seed, m, letters));
     }
     for letters in [2, 4, 20, 256] {
-        both_forms_agree(&random_bytes(&mut seed, LONGEST_WORD, letters));
+        both_forms_agree(&letters_across(&mut seed, LONGEST_WORD, letters));
     }
     for word in longest_words() {
         both_forms_agree(&word);
@@ -248,11 +240,11 @@ fn random_words_and_texts_as_the_first_search_has_them() {
     let mut seed = 362436069;
     for round in 0..400 {
         let letters = [2, 4, 20, 256][round % 4];
-        // the longer ones are those for which a search prepares itself
-        let text = random_bytes(&mut seed, [1_000, 8_191, 8_192, 30_000][round / 12 % 4], letters);
         let m = 1 + random(&mut seed) as usize % [10, 40, 300][round / 4 % 3];
+        // from 200 letters for each of the word's on, a search prepares itself
+        let text = letters_across(&mut seed, [1_000, 200 * m - 1, 200 * m, 30_000][round / 12 % 4].max(300 + m), letters);
         // one that stands there, its letters moved about, and another
-        let (stands, other) = (text[300..300 + m].to_vec(), random_bytes(&mut seed, m, letters));
+        let (stands, other) = (text[300..300 + m].to_vec(), letters_across(&mut seed, m, letters));
         for word in [stands.clone(), mirror(&stands), other] {
             assert_eq!(searched(&word, &text), searched_first(&word, &text), "{} letters of {letters} in {}", m, text.len());
         }
@@ -262,7 +254,7 @@ fn random_words_and_texts_as_the_first_search_has_them() {
 #[test]
 fn long_words_in_texts_that_are_made_of_them_as_the_first_search_has_them() {
     let mut seed = 123456789;
-    let random_words = [2, 4, 20, 256].map(|letters| random_bytes(&mut seed, LONGEST_WORD, letters));
+    let random_words = [2, 4, 20, 256].map(|letters| letters_across(&mut seed, LONGEST_WORD, letters));
     for word in longest_words().iter().chain(&random_words) {
         for m in [1, 2, 63, 64, 65, 1_000, LONGEST_WORD] {
             let word = &word[..m];
@@ -371,28 +363,11 @@ fn the_letters_pass_32_bits() {
 }
 
 #[test]
-fn a_mark_is_found_in_more_than_an_entry_takes() {
-    let word: Vec<u8> = (0..100u8).collect();
-    let mut text = vec![200u8; 2 * LONGEST_TEXT + 12_345];
-    let places =
-        [0, LONGEST_TEXT - 150, LONGEST_TEXT - 50, LONGEST_TEXT + 50, 2 * LONGEST_TEXT - 99, 2 * LONGEST_TEXT + 1, text.len() - 100];
-    for at in places {
-        text[at..at + 100].copy_from_slice(&word);
-    }
-    let mark = Mark::new(&word).unwrap().engine(Engine::Compact);
-    assert_eq!(mark.find_iter(&text).collect::<Vec<_>>(), places);
-    assert_eq!((mark.count(&text), mark.find(&text[1..])), (places.len() as u64, Some(places[1] - 1)));
-    assert!(mark.find_in(&text[..]).map(Result::unwrap).eq(places.map(|at| at as u64)));
-    let mut finds = mark.find_iter(&text);
-    assert_eq!((finds.tally().count, finds.engine(), finds.failures()), (7, Engine::Compact, 0));
-}
-
-#[test]
 fn a_mark_reads_the_letters_of_the_backward_search() {
     let mut seed = 736338717;
     for round in 0..80 {
         let letters = [2, 4, 20, 256][round % 4];
-        let text = random_bytes(&mut seed, 300_000, letters);
+        let text = letters_across(&mut seed, 300_000, letters);
         let m = 1 + random(&mut seed) as usize % [3, 30, 400, LONGEST_WORD][round / 4 % 4];
         let [backward, compact] = [Engine::Backward, Engine::Compact].map(|engine| {
             let mark = Mark::new(&text[5_000..5_000 + m]).unwrap().engine(engine);

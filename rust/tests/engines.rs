@@ -1,4 +1,9 @@
 //! The engines: they find the same, and how many letters each reads at most, counted and not timed, for words and texts that are chosen to be hostile.
+mod chance;
+mod every;
+
+use chance::{random, random_bytes};
+use every::words_of;
 use marks::entries::{self, Tally};
 use marks::{table_room, Engine, Mark, LONGEST_TEXT, LONGEST_WORD};
 
@@ -15,17 +20,6 @@ fn tried(m: usize) -> u64 {
 
 fn plain(word: &[u8], text: &[u8]) -> Vec<usize> {
     text.windows(word.len()).enumerate().filter(|(_, part)| *part == word).map(|(at, _)| at).collect()
-}
-
-fn random(seed: &mut u64) -> u64 {
-    *seed ^= *seed << 13;
-    *seed ^= *seed >> 7;
-    *seed ^= *seed << 17;
-    *seed
-}
-
-fn random_bytes(seed: &mut u64, n: usize, letters: u64) -> Vec<u8> {
-    (0..n).map(|_| ((random(seed) >> 20) % letters) as u8).collect()
 }
 
 fn mark(word: &[u8], engine: Engine) -> Mark {
@@ -47,11 +41,6 @@ fn all_find_the_same(word: &[u8], text: &[u8]) {
         assert_eq!(mark.count(text), expected.len() as u64, "{engine:?}, {} letters in {}", word.len(), text.len());
         assert_eq!(mark.find(text), expected.first().copied());
     }
-}
-
-/// Every word of so many letters over two.
-fn words_of(letters: usize) -> impl Iterator<Item = Vec<u8>> {
-    (0..1u32 << letters).map(move |bits| (0..letters).map(|i| b'a' + (bits >> i & 1) as u8).collect())
 }
 
 fn fibonacci(n: usize) -> Vec<u8> {
@@ -85,9 +74,9 @@ fn turbo(word: &[u8], text: &[u8]) -> Tally {
 
 #[test]
 fn every_word_in_every_short_text() {
-    for word in (1..=5).flat_map(words_of) {
+    for word in (1..=5).flat_map(|length| words_of(length, 2)) {
         let marks = ENGINES.map(|engine| mark(&word, engine));
-        for text in (0..=11).flat_map(words_of) {
+        for text in (0..=11).flat_map(|length| words_of(length, 2)) {
             let expected = plain(&word, &text);
             for mark in &marks {
                 assert_eq!(mark.find_iter(&text).collect::<Vec<_>>(), expected);

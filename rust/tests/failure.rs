@@ -1,5 +1,10 @@
 //! The failure oracle and the search with it, held against the rule as docs/RULES.md words it, which is run plainly here: every entry of the table, the finds,
 //! and both counts.
+mod chance;
+mod every;
+
+use chance::{random, random_bytes};
+use every::words_of;
 use marks::entries::{failure_build, failure_search, search, FailureTally};
 use marks::{failure_table_room, table_room, Engine, Mark, Refusal, Tally, LONGEST_TEXT, LONGEST_WORD};
 
@@ -133,21 +138,8 @@ fn searched(word: &[u8], text: &[u8]) -> (Vec<u32>, FailureTally) {
     (finds, tally)
 }
 
-/// Every word of so many letters over so many.
-fn words_of(length: usize, letters: usize) -> impl Iterator<Item = Vec<u8>> {
-    (0..letters.pow(length as u32))
-        .map(move |number| (0..length as u32).map(|i| b'a' + (number / letters.pow(i) % letters) as u8).collect())
-}
-
-fn random(seed: &mut u64) -> u64 {
-    *seed ^= *seed << 13;
-    *seed ^= *seed >> 7;
-    *seed ^= *seed << 17;
-    *seed
-}
-
-fn random_bytes(seed: &mut u64, n: usize, letters: u64) -> Vec<u8> {
-    (0..n).map(|_| b'a' + ((random(seed) >> 20) % letters) as u8).collect()
+fn letters_from_a(seed: &mut u64, n: usize, letters: u64) -> Vec<u8> {
+    random_bytes(seed, n, letters).iter().map(|letter| letter.wrapping_add(b'a')).collect()
 }
 
 /// Where each failure arrow leads from, and where to.
@@ -200,11 +192,11 @@ fn longer_words_have_it_too() {
     let mut seed = 88172645463325252;
     for round in 0..400 {
         let (letters, m) = ([2, 3, 4, 256][round % 4].min(250), 1 + random(&mut seed) as usize % [20, 60, 300][round / 4 % 3]);
-        let word = random_bytes(&mut seed, m, letters);
+        let word = letters_from_a(&mut seed, m, letters);
         assert_eq!(built(&word), Plain::of(&word).table(), "{}", word.escape_ascii());
     }
     for (m, letters) in [(LONGEST_WORD, 2), (LONGEST_WORD - 1, 250)] {
-        let word = random_bytes(&mut seed, m, letters);
+        let word = letters_from_a(&mut seed, m, letters);
         assert_eq!(built(&word), Plain::of(&word).table());
     }
     for period in [1, 2, 1_000] {
@@ -227,10 +219,10 @@ fn random_words_and_texts_by_the_steps_of_the_rule() {
     let mut seed = 362436069;
     for round in 0..300 {
         let letters = [2, 3, 4, 250][round % 4];
-        let text = random_bytes(&mut seed, 2_000, letters);
+        let text = letters_from_a(&mut seed, 2_000, letters);
         let m = 1 + random(&mut seed) as usize % [10, 40, 300][round / 4 % 3];
         // one that stands there, its letters moved about, and another
-        let (stands, other) = (text[700..700 + m].to_vec(), random_bytes(&mut seed, m, letters));
+        let (stands, other) = (text[700..700 + m].to_vec(), letters_from_a(&mut seed, m, letters));
         for word in [stands.clone(), mirror(&stands), other] {
             let (finds, tally) = searched(&word, &text);
             assert_eq!((finds, tally), searched_plainly(&word, &text));

@@ -1,15 +1,11 @@
 //! A mark against the plainest search there is: no find missed or doubled, however many there are and wherever the parts of a long text meet.
-use marks::{LoadError, Mark, Refusal, LEAST_SAVED, LONGEST_TEXT, LONGEST_WORD};
+mod chance;
+
+use chance::{random, random_bytes};
+use marks::{Engine, LoadError, Mark, Refusal, LEAST_SAVED, LONGEST_TEXT, LONGEST_WORD};
 
 fn plain(word: &[u8], text: &[u8]) -> Vec<usize> {
     text.windows(word.len()).enumerate().filter(|(_, part)| *part == word).map(|(at, _)| at).collect()
-}
-
-fn random(seed: &mut u64) -> u64 {
-    *seed ^= *seed << 13;
-    *seed ^= *seed >> 7;
-    *seed ^= *seed << 17;
-    *seed
 }
 
 #[test]
@@ -17,7 +13,8 @@ fn finds_are_those_of_the_plainest_search() {
     let mut seed = 88172645463325252;
     for round in 0..300 {
         let letters = [1, 2, 3, 256][round % 4];
-        let text: Vec<u8> = (0..random(&mut seed) % 30_000).map(|_| ((random(&mut seed) >> 20) % letters) as u8).collect();
+        let n = random(&mut seed) as usize % 30_000;
+        let text = random_bytes(&mut seed, n, letters);
         let m = 1 + random(&mut seed) as usize % [1, 3, 20, LONGEST_WORD][round / 4 % 4];
         let word: Vec<u8> = match text.len() > m {
             true => text[text.len() / 2..].iter().chain(&text).copied().take(m).collect(),
@@ -50,9 +47,12 @@ fn a_text_of_several_parts_loses_and_doubles_nothing_at_a_seam() {
     for at in places {
         text[at..at + 100].copy_from_slice(&word);
     }
-    let mark = Mark::new(&word).unwrap();
-    assert_eq!(mark.find_iter(&text).collect::<Vec<_>>(), places);
-    assert_eq!(mark.count(&text), places.len() as u64);
+    for engine in [Engine::Auto, Engine::Compact] {
+        let mark = Mark::new(&word).unwrap().engine(engine);
+        assert_eq!(mark.find_iter(&text).collect::<Vec<_>>(), places);
+        assert_eq!((mark.count(&text), mark.find(&text[1..])), (places.len() as u64, Some(places[1] - 1)));
+        assert!(mark.find_in(&text[..]).map(Result::unwrap).eq(places.map(|at| at as u64)));
+    }
     // a find across each place where two parts of a count meet
     let ones = Mark::new([200; 9]).unwrap();
     let runs: Vec<u8> = vec![200; LONGEST_TEXT + 5_000];
@@ -64,7 +64,7 @@ fn a_file_gives_the_mark_back() {
     let mut seed = 362436069;
     for m in [LEAST_SAVED, 3, 7, 64, 255, 256, LONGEST_WORD - 1, LONGEST_WORD] {
         for letters in [1u64, 2, 4, 256] {
-            let word: Vec<u8> = (0..m).map(|_| (random(&mut seed) >> 20).wrapping_rem(letters) as u8).collect();
+            let word = random_bytes(&mut seed, m, letters);
             let mark = Mark::new(&word).unwrap();
             for file in [mark.to_file().unwrap(), mark.to_checked_file().unwrap()] {
                 assert_eq!(Mark::from_file(&file).unwrap().word(), word);

@@ -1,20 +1,12 @@
 //! A stream against the search of whole texts: no find missed or doubled, however the text is cut, however many there are, and however long it is.
+mod chance;
+
+use chance::{random, random_bytes};
 use marks::{Mark, Refusal, Stream, LONGEST_STREAMED, LONGEST_TEXT};
 use std::{
     fmt::Debug,
     io::{self, Read, Write},
 };
-
-fn random(seed: &mut u64) -> u64 {
-    *seed ^= *seed << 13;
-    *seed ^= *seed >> 7;
-    *seed ^= *seed << 17;
-    *seed
-}
-
-fn random_bytes(seed: &mut u64, n: usize, letters: u64) -> Vec<u8> {
-    (0..n).map(|_| ((random(seed) >> 20) % letters) as u8).collect()
-}
 
 /// The finds in the whole text, by the other search.
 fn whole(word: &[u8], text: &[u8]) -> Vec<u64> {
