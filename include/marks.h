@@ -40,8 +40,8 @@
 /* The version of the library: as numbers, and as text. */
 #define MARKS_VERSION_MAJOR 0
 #define MARKS_VERSION_MINOR 6
-#define MARKS_VERSION_PATCH 0
-#define MARKS_VERSION "0.6.0"
+#define MARKS_VERSION_PATCH 1
+#define MARKS_VERSION "0.6.1"
 
 /* What an entry returns: a number, and when exactly it is given. m is the number of letters of the word, for a file the one that it declares. */
 /* begin refusals: as tools/refusals writes them */
