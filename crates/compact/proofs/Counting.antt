@@ -1,5 +1,5 @@
 -- COUNTING what passes a test: laws of `howMany`, and that the ones of a number's low bits are counted so. A masked count of ones is then
--- the number of members below the mask's end.
+-- the number of members below the mask's end. What one number or two alone pass is told without counting, and so is a single one.
 use mathlib.Core.Path.{_≡_, refl, sym, ap, ap₂, _∙_}
 use mathlib.Core.Logic.{_≢_, by-cases}
 use mathlib.Core.Bool.{Bool, true, false, cond, _||_}
