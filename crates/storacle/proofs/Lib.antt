@@ -1,0 +1,7 @@
+pub mod FirstLater
+pub mod Stitched
+pub mod Halting
+pub mod Suffixes
+pub mod OnlyWalk
+pub mod Count
+pub mod Theorems

@@ -1,0 +1,1 @@
+// Mathematics alone: the storacle by its rule, and what holds of it. No code.
