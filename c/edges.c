@@ -1,9 +1,9 @@
-/* What only a caller in C can hand over, a null pointer with length 0 for each buffer; turbo and the failure oracle at their edges; one
- * letter, which has no file; files of edition 2, whose check is cut, wrong or not their last bytes; rides that are whole, that are cut, and
- * whose headers are; compact rows at their edges, each room by itself; and the deepest calls there are, every entry on eight threads at
- * once. Each thread has a stack of 64 KiB, or the least that the system gives where that is more, above a page that nobody may touch. It is
- * painted before, and less than 64 KiB of it may be touched, by the calls and by what a thread needs of its own. Compact rows are for
- * little stack: each of their calls, alone on such a thread, may touch less than 16 KiB more than a thread without a call does. */
+/* What only a caller in C can hand over, a null pointer with length 0 for each buffer; turbo, the failure oracle and the storacle at their
+ * edges; one letter, which has no file; files of edition 2, whose check is cut, wrong or not their last bytes; rides that are whole, that
+ * are cut, and whose headers are; compact rows at their edges, each room by itself; and the deepest calls there are, every entry on eight
+ * threads at once. Each thread has a stack of 64 KiB, or the least that the system gives where that is more, above a page that nobody may
+ * touch. It is painted before, and less than 64 KiB of it may be touched, by the calls and by what a thread needs of its own. Compact rows
+ * are for little stack: each of their calls, alone on such a thread, may touch less than 16 KiB more than a thread without a call does. */
 #define _DEFAULT_SOURCE
 #include <inttypes.h>
 #include <pthread.h>
@@ -175,6 +175,94 @@ static void failure_edges(void)
     failure_in("ababdbaacbdaba", "abbbbbbbabdbaa", 2);
     failure_in("ababdbaacbdaba", "ababdbaacbdaba", 2);
     longest_failure();
+}
+
+/* how many entries of the tables were written, up to the last one that is not painted */
+static size_t written(void)
+{
+    size_t end = MARKS_MOST_FAILURE_TABLES;
+    while (end > 0 && all_tables[end - 1] == PAINT * 257)
+        end--;
+    return end;
+}
+
+/* a null pointer is handed over where nothing is lent of the tables */
+static void storacle_in(const char *what, const uint8_t *word, size_t m, size_t lent)
+{
+    told = nowhere;
+    memset(all_tables, PAINT, sizeof all_tables);
+    printf("storacle build, ");
+    print_number(what, marks_storacle_build(word, m, lent > 0 ? all_tables : NULL, lent, &told));
+    if (told != nowhere)
+        printf(", %" PRIu64 " letters", told);
+    printf("; written: %zu entries\n", written());
+}
+
+/* each refusal where the later ones would be given too; rooms that are just enough, and longer ones */
+static void storacle_refusals(void)
+{
+    const uint8_t *nine = (const uint8_t *)"abcacdace", *zeros = long_text;
+    const size_t longest = MARKS_LONGEST_STORACLE, most = MARKS_MOST_STORACLE_TABLES;
+    storacle_in("no word and no tables", NULL, 0, 0);
+    storacle_in("no word", NULL, 0, most);
+    storacle_in("too long a word, no tables", zeros, longest + 1, 0);
+    storacle_in("too long a word", zeros, longest + 1, MARKS_STORACLE_TABLES(longest + 1));
+    storacle_in("the longest word of the oracles", zeros, MARKS_LONGEST_WORD, MARKS_MOST_FAILURE_TABLES);
+    storacle_in("no tables", nine, 1, 0);
+    storacle_in("a table entry too few", nine, 1, 13);
+    storacle_in("room for the oracle", nine, 9, MARKS_TABLES(9));
+    storacle_in("room for the failure oracle", nine, 9, MARKS_FAILURE_TABLES(9));
+    storacle_in("the longest word, a table entry too few", zeros, longest, most - 1);
+    storacle_in("tables just enough", nine, 1, 14);
+    storacle_in("more tables than needed", nine, 1, 15);
+    storacle_in("the longest word, tables just enough", zeros, longest, most);
+    storacle_in("the longest word, more tables than needed", zeros, longest, MARKS_MOST_FAILURE_TABLES);
+}
+
+/* the arrows in the rows of the states of a storacle */
+static size_t storacle_count(size_t m)
+{
+    size_t arrows = 0, n = m + 1;
+    for (size_t i = 2 * n; i < (m + 3) * n; i++)
+        arrows += all_tables[i] != 0;
+    return arrows;
+}
+
+/* the arrows of a word by its storacle: from each state on each letter, by its column */
+static void storacle_arrows(const char *word)
+{
+    size_t m = strlen(word), n = m + 1;
+    printf("storacle of %s: %" PRIu32, word, marks_storacle_build((const uint8_t *)word, m, all_tables, MARKS_STORACLE_TABLES(m), &told));
+    printf(", %" PRIu64 " letters, %zu arrows", told, storacle_count(m));
+    for (size_t x = 0; x <= m; x++)
+        for (size_t i = 1; i <= m; i++)
+            if (all_tables[(2 + x) * n + i] != 0)
+                printf(", %zu-%c-%d", x, word[i - 1], all_tables[(2 + x) * n + i]);
+    printf("\n");
+}
+
+/* the longest word of different letters, and that of zeros and a one */
+static void longest_storacles(void)
+{
+    static uint8_t different[MARKS_LONGEST_STORACLE], one[MARKS_LONGEST_STORACLE];
+    const size_t m = MARKS_LONGEST_STORACLE;
+    one[m - 1] = 1;
+    for (size_t i = 0; i < m; i++)
+        different[i] = (uint8_t)(255 - i);
+    storacle_in("the longest word of different letters", different, m, MARKS_MOST_STORACLE_TABLES);
+    printf("arrows: %zu, the last from state 0 to %d\n", storacle_count(m), all_tables[2 * (m + 1) + m]);
+    storacle_in("the longest word of zeros and a one", one, m, MARKS_MOST_STORACLE_TABLES);
+    printf("arrows: %zu, the last from state 0 to %d\n", storacle_count(m), all_tables[2 * (m + 1) + m]);
+}
+
+static void storacle_edges(void)
+{
+    storacle_refusals();
+    storacle_arrows("a");
+    storacle_arrows("ba");
+    storacle_arrows("abcacdace");
+    storacle_arrows("abcdabcdbacbbdaddccaae");
+    longest_storacles();
 }
 
 /* refused before the rooms, so as well where there are none */
@@ -666,8 +754,8 @@ static void turbo_edges(void)
 }
 
 /* the longest word of a's and one b: its last letter climbs over every state, and does so too where the mirror is looked for, which stands in the text at a
- * place of the thread's own; the first letters of the mirror, as many as a stream's word can have, are looked for in two pieces, cut inside of the find. In the
- * longest text, zeros, a search prepares arrows on the stack, as many as it ever does */
+ * place of the thread's own; the first letters of the mirror, as many as a stream's word can have, are looked for in two pieces, cut inside of the find; of
+ * as many as can be a storacle is built. In the longest text, zeros, a search prepares arrows on the stack, as many as it ever does */
 struct work {
     uint8_t word[MARKS_LONGEST_WORD], mirror[MARKS_LONGEST_WORD], text[TEXT], room[MARKS_LONGEST_WORD];
     uint8_t file[MARKS_MOST_FILE], checked[MARKS_MOST_FILE];
@@ -675,7 +763,7 @@ struct work {
     uint8_t searcher[MARKS_SEARCHER], ride_kinds[2];
     uint32_t finds[2], turbo_finds[2], failure_finds[2], compact_finds[2], file_finds[2], checked_finds[2], stream_finds[2], rides[2], said;
     uint64_t m, length, checked_length, count, turbo_count, failure_count, compact_count, file_count, checked_count, before_cut, stream_count;
-    uint64_t letters, failures, offset, ride_count, in_zeros[7], sets[MARKS_MOST_COMPACT_SETS];
+    uint64_t letters, failures, offset, ride_count, storacle_m, in_zeros[7], sets[MARKS_MOST_COMPACT_SETS];
     size_t cut;
     uint8_t *stack;
 };
@@ -746,6 +834,7 @@ static void *deepest(void *mine)
                                     &w->letters, &w->failures);
     w->said += marks_compact_search(w->mirror, MARKS_LONGEST_WORD, w->text, TEXT / 4, w->sets, MARKS_MOST_COMPACT_SETS, w->targets,
                                     MARKS_MOST_COMPACT_TARGETS, w->compact_finds, 2, &w->compact_count, &w->letters);
+    w->said += marks_storacle_build(w->mirror, MARKS_LONGEST_STORACLE, w->tables, MARKS_MOST_STORACLE_TABLES, &w->storacle_m);
     search_alone(w);
     compact_build_alone(w);
     compact_search_alone(w);
@@ -785,6 +874,7 @@ static void print_work(int i, const struct work *w)
     printf(", by turbo %" PRIu64 " at %" PRIu32, w->turbo_count, w->turbo_finds[0]);
     printf(", by failures %" PRIu64 " at %" PRIu32, w->failure_count, w->failure_finds[0]);
     printf(", by compact rows %" PRIu64 " at %" PRIu32, w->compact_count, w->compact_finds[0]);
+    printf(", storacle of %" PRIu64 " letters", w->storacle_m);
     printf(", in pieces %" PRIu64 " and %" PRIu64 " at %" PRIu32, w->before_cut, w->stream_count, w->stream_finds[0]);
     printf(", %" PRIu64 " ride at %" PRIu32 " of kind %d", w->ride_count, w->rides[0], w->ride_kinds[0]);
     printf(", in zeros %" PRIu64 ", %" PRIu64 ", %" PRIu64 ", %" PRIu64, w->in_zeros[0], w->in_zeros[1], w->in_zeros[2], w->in_zeros[3]);
@@ -818,6 +908,7 @@ int main(void)
     null_buffers_of_streams();
     turbo_edges();
     failure_edges();
+    storacle_edges();
     one_letter();
     checked_edges();
     salvage_edges();

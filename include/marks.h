@@ -39,17 +39,17 @@
 
 /* The version of the library: as numbers, and as text. */
 #define MARKS_VERSION_MAJOR 0
-#define MARKS_VERSION_MINOR 6
-#define MARKS_VERSION_PATCH 1
-#define MARKS_VERSION "0.6.1"
+#define MARKS_VERSION_MINOR 7
+#define MARKS_VERSION_PATCH 0
+#define MARKS_VERSION "0.7.0"
 
 /* What an entry returns: a number, and when exactly it is given. m is the number of letters of the word, for a file the one that it declares. */
 /* begin refusals: as tools/refusals writes them */
 enum {
     MARKS_OK = 0,            /* done */
     MARKS_EMPTY_WORD = 1,    /* the word is empty */
-    MARKS_LONG_WORD = 2,     /* the word is longer than 4,096 bytes, or for a stream than 64 */
-    MARKS_SHORT_ROOM = 3,    /* too little room: 6(m+1) entries, failure oracle 10(m+1), compact rows that and 4(m+1) words, file m bytes, stream 134 */
+    MARKS_LONG_WORD = 2,     /* the word is longer than 4,096 bytes, for a storacle than 128, for a stream than 64 */
+    MARKS_SHORT_ROOM = 3,    /* too little room: 6(m+1) entries, storacle (m+1)(m+6), failure oracle 10(m+1), compact rows also 4(m+1) words, file m bytes, stream 134 */
     MARKS_LONG_TEXT = 4,     /* the text is longer than 16,777,216 bytes, or the stream would be with this piece */
     MARKS_CUT_FILE = 5,      /* the file ends before or inside a number, or before the last of its letters or of its check */
     MARKS_BAD_NUMBER = 6,    /* a number in the file is misspelled: the last of its several groups is zero, or its fifth byte is above 15 */
@@ -70,8 +70,8 @@ static inline const char *marks_meaning(uint32_t said)
     switch (said) {
     case MARKS_OK: return "done";
     case MARKS_EMPTY_WORD: return "the word is empty";
-    case MARKS_LONG_WORD: return "the word is longer than 4,096 bytes, or for a stream than 64";
-    case MARKS_SHORT_ROOM: return "too little room: 6(m+1) entries, failure oracle 10(m+1), compact rows that and 4(m+1) words, file m bytes, stream 134";
+    case MARKS_LONG_WORD: return "the word is longer than 4,096 bytes, for a storacle than 128, for a stream than 64";
+    case MARKS_SHORT_ROOM: return "too little room: 6(m+1) entries, storacle (m+1)(m+6), failure oracle 10(m+1), compact rows also 4(m+1) words, file m bytes, stream 134";
     case MARKS_LONG_TEXT: return "the text is longer than 16,777,216 bytes, or the stream would be with this piece";
     case MARKS_CUT_FILE: return "the file ends before or inside a number, or before the last of its letters or of its check";
     case MARKS_BAD_NUMBER: return "a number in the file is misspelled: the last of its several groups is zero, or its fifth byte is above 15";
@@ -97,6 +97,9 @@ static inline const char *marks_meaning(uint32_t said)
 #define MARKS_MOST_TABLES MARKS_TABLES(MARKS_LONGEST_WORD)                  /* table entries for every word */
 #define MARKS_FAILURE_TABLES(m) (10 * ((m) + 1))                            /* table entries for the failure oracle of a word of m letters */
 #define MARKS_MOST_FAILURE_TABLES MARKS_FAILURE_TABLES(MARKS_LONGEST_WORD)  /* and for that of every word */
+#define MARKS_LONGEST_STORACLE 128                                          /* bytes of a word that has a storacle here */
+#define MARKS_STORACLE_TABLES(m) (((m) + 1) * ((m) + 6))                    /* table entries for the storacle of a word of m letters, and for every such */
+#define MARKS_MOST_STORACLE_TABLES MARKS_STORACLE_TABLES(MARKS_LONGEST_STORACLE)
 #define MARKS_COMPACT_SETS(m) (4 * ((m) + 1))                               /* elements of sets for the compact rows of a word of m letters */
 #define MARKS_MOST_COMPACT_SETS MARKS_COMPACT_SETS(MARKS_LONGEST_WORD)      /* and for those of every word */
 #define MARKS_COMPACT_TARGETS(m) (10 * ((m) + 1))                           /* elements of targets for the same */
@@ -178,6 +181,12 @@ MARKS_CHECKED uint32_t marks_failure_build(const uint8_t *word, size_t word_len,
  * Refusals: 1, 2, 4, 3 (fewer than MARKS_FAILURE_TABLES(m) entries). They change nothing. */
 MARKS_CHECKED uint32_t marks_failure_search(const uint8_t *word, size_t word_len, const uint8_t *text, size_t text_len, uint16_t *tables, size_t tables_len,
                                             uint32_t *finds, size_t finds_len, uint64_t *count, uint64_t *letters, uint64_t *failures);
+
+/* The table of the word's storacle, in the first MARKS_STORACLE_TABLES(m) entries of tables; docs/TABLE.md has the use of each. The answer is m. Each arrow of
+ * this automaton leads to the first later state that has its letter; every factor of the word is walked in it, and no other word as long as the word. It has
+ * m to m(m+1)/2 arrows, seldom fewer than the oracle has: it is there for comparing, and for words of up to MARKS_LONGEST_STORACLE letters.
+ * Refusals: 1, 2 (more than MARKS_LONGEST_STORACLE bytes), 3 (fewer than MARKS_STORACLE_TABLES(m) entries). They change nothing. */
+MARKS_CHECKED uint32_t marks_storacle_build(const uint8_t *word, size_t word_len, uint16_t *tables, size_t tables_len, uint64_t *m);
 
 /* The word's index as compact rows, a second form of what marks_build makes, with the same arrows. The first MARKS_COMPACT_SETS(m) elements of sets have for
  * each state a set of 256 bits, the letters on which an arrow leaves it: bit d of sets[4x+k] is 1 exactly if one on the letter 64k+d leaves state x. The first

@@ -2,8 +2,8 @@
    offset, every byte of every lent buffer, and the guard zones before and behind each. The first difference is printed with its input and
    ends the run with status 1, and so does a refusal that an entry can give and that no case brought about, for files of each edition by
    itself, and so does a run where no failure oracle had a symbol arrow beside the spine, none two at one state, where every window that was
-   read whole was a find, or where a way in which a file of edition 2 can end was not met, something that .FIT in a text can be of, or
-   something that compact rows can show.
+   read whole was a find, no storacle had more than 3m arrows, or where a way in which a file of edition 2 can end was not met, something
+   that .FIT in a text can be of, or something that compact rows can show.
 
    compare [--seed N] [--seconds N] [--long]: the cases are the same for the same seed. --seconds goes on with mixed cases until so
    many seconds have passed; --long adds the costly ones.
@@ -63,7 +63,19 @@
      slip 391: past the worked examples, both sides change the word behind the sets of compact rows
      slip 392: past the worked examples, both sides build compact rows with too short sets
      slip 393: past the worked examples, both sides refuse a text that is too long with 3, where the rooms of compact rows are too short
-     slip 394: states with more than 64 arrows are none of the cases */
+     slip 394: states with more than 64 arrows are none of the cases
+     slip 423: past the worked examples, both sides leave a storacle's table with another letter
+     slip 424: past the worked examples, both sides leave a storacle's table with another column
+     slip 425: past the worked examples, both sides lose the last arrow of a storacle's spine
+     slip 426: past the worked examples, both sides lose a storacle's arrows beside the spine
+     slip 427: past the worked examples, both sides lead a storacle's arrows beside the spine one state too far
+     slip 428: past the worked examples, both sides add a storacle's arrows to the first later states that no suffix walks
+     slip 429: past the worked examples, both sides leave something at a state of a storacle that is no column
+     slip 430: past the worked examples, both sides leave something in the last row of a storacle's table
+     slip 431: past the worked examples, both sides change the entry behind a storacle's table
+     slip 432: past the worked examples, both sides build a storacle in a room of one entry too few
+     slip 433: past the worked examples, both sides refuse a word that is too long for a storacle with 3, where the room is too short
+     slip 434: storacles with more than 3m arrows are none of the cases */
 #define _DEFAULT_SOURCE
 #include "entries.h"
 
@@ -76,7 +88,7 @@
 #define SLIP 0
 #endif
 
-enum { GUARD = 256, NOISE = 1 << 16 };
+enum { GUARD = 256, NOISE = 1 << 16, PAST_16_BITS = 65536 };
 
 /* lengths of long words: around two powers of two, and up to the limit */
 #define LONG_EDGES 1023, 1024, 1025, 2047, 2048, 2049, MOST_LETTERS - 1, MOST_LETTERS
@@ -228,6 +240,7 @@ static struct zone zones[SLICES];
 static uint8_t noise[NOISE];
 static uint64_t seen[COLUMNS][NUMBERS];
 static uint64_t with_slots[ENTRIES], with_chains[ENTRIES]; /* failure oracles with a symbol arrow beside the spine, and with two at a state */
+static uint64_t storacles_past_3m;                         /* storacles with more than 3m arrows */
 static uint64_t cases;
 static bool past_examples;
 
@@ -670,6 +683,52 @@ static void slip_rows(const struct asked *a, struct outcome *m, struct outcome *
         say_both(3, 0, m, s);
 }
 
+/* an arrow of a storacle from a state on the letter of a column, on both sides in the place of what is there */
+static void lead_both(size_t m, size_t state, size_t column, size_t to)
+{
+    leave_both((2 + state) * (m + 1) + column, (uint16_t)to);
+}
+
+/* a storacle with arrows that it should not have, or without those that it should */
+static void slip_arrows(const uint8_t *word, size_t m)
+{
+    const uint16_t *columns = left_table() + m + 1;
+    if (SLIP == 425)
+        lead_both(m, m - 1, columns[m], 0);
+    for (size_t x = 0; x < m && SLIP >= 426 && SLIP <= 428; x++)
+        for (size_t i = 1; i <= m; i++) {
+            size_t to = in_row(left_table(), m, (int)(2 + x), i), first = later_in_word(word, m, x, word[i - 1]);
+            if (SLIP == 426 && to > x + 1)
+                lead_both(m, x, i, 0);
+            if (SLIP == 427 && to > x + 1 && to < m)
+                lead_both(m, x, i, to + 1);
+            if (SLIP == 428 && to == 0 && columns[i] == i)
+                lead_both(m, x, i, first);
+        }
+}
+
+static void slip_storacle(const struct asked *a, struct outcome *m, struct outcome *s)
+{
+    size_t letters = a->len[INPUT], n = letters + 1, need = entries_for(a->entry, letters);
+    if (SLIP == 432 && m->number == 3 && a->len[TABLES] + 1 == need)
+        say_both(0, letters, m, s);
+    if (SLIP == 433 && m->number == 2 && a->len[TABLES] < need)
+        say_both(3, 0, m, s);
+    if (m->number != 0 || SLIP == 432)
+        return;
+    slip_arrows(a->input, letters);
+    if (SLIP == 423)
+        leave_both(1, left_table()[1] ^ 1);
+    if (SLIP == 424)
+        leave_both(2 * n - 1, (uint16_t)(left_table()[2 * n - 1] == letters ? 1 : letters));
+    if (SLIP == 429 && left_table()[2 * n - 1] != letters)
+        lead_both(letters, letters - 1, letters, letters);
+    if (SLIP == 430)
+        leave_both(need - 1, 1);
+    if (SLIP == 431)
+        change_both(TABLES, need * sizeof(uint16_t));
+}
+
 /* the mistakes of this file that happen after the call */
 static void slip_after(enum entry entry, struct outcome *m, struct outcome *s)
 {
@@ -760,6 +819,16 @@ static void check_failure_table(const struct asked *a, const struct outcome *m)
         chains += in_row(table, letters, BEHIND_ROW, slot) != 0;
     with_slots[a->entry] += SLIP != 190 && in_row(table, letters, TARGET_ROW, 1) != 0;
     with_chains[a->entry] += chains > 0;
+}
+
+/* the table of a storacle, held against what it must be in itself */
+static void check_storacle(const struct asked *a, const struct outcome *m)
+{
+    size_t letters = a->len[INPUT], arrows;
+    const char *wrong = wrong_storacle_table(left_table(), a->input, letters, &arrows);
+    if (wrong != NULL)
+        fail(a, wrong, m, m);
+    storacles_past_3m += SLIP != 434 && arrows > 3 * letters;
 }
 
 /* What the library says to so many bytes of a file of edition 2 that say they are of edition 1, lent on the second side. */
@@ -1031,6 +1100,8 @@ static struct outcome compare(const struct asked *a)
         slip_salvage(a, &m, &s);
     if (past_examples && makes_rows(a->entry))
         slip_rows(a, &m, &s);
+    if (past_examples && a->entry == STORACLE_BUILD)
+        slip_storacle(a, &m, &s);
     if (!same_outcome(&m, &s))
         fail(a, "the number, the answers or the offset", &m, &s);
     for (int i = 0; i < SLICES; i++)
@@ -1047,6 +1118,8 @@ static struct outcome compare(const struct asked *a)
         check_turbo(a, &for_second, &m);
     if (makes_failure_oracle(a->entry) && m.number == 0)
         check_failure_table(a, &m);
+    if (a->entry == STORACLE_BUILD && m.number == 0)
+        check_storacle(a, &m);
     if (a->entry == FAILURE_SEARCH)
         check_failure_finds(a, &for_second, &m);
     if (of_edition_2)
@@ -1275,13 +1348,15 @@ static struct outcome run_salvage(const uint8_t *text, size_t n, size_t starts, 
     return compare(&a);
 }
 
-/* build both oracles, and compact rows, save in each edition, load back; the last two are refused where it is one letter */
+/* build both oracles, compact rows and a storacle, which has a limit of its own, save in each edition, load back; the last two are refused
+   where it is one letter */
 static void there_and_back(const uint8_t *word, size_t m)
 {
     static uint8_t file[MOST_FILE];
     run_plain(BUILD, word, m, m);
     run_plain(FAILURE_BUILD, word, m, m);
     run_plain(COMPACT_BUILD, word, m, m);
+    run_plain(STORACLE_BUILD, word, m, m);
     for (unsigned edition = 1; edition <= 2; edition++) {
         size_t size = file_in(edition, word, m, file);
         run_save(edition, word, m, size);
@@ -1959,6 +2034,68 @@ static void examples_of_failure(void)
     example_failure_rooms();
 }
 
+/* pairs: source and target of each arrow, where they are not NULL */
+static void example_storacle(const char *word, const uint16_t *pairs, size_t arrows)
+{
+    size_t m = strlen(word), n = m + 1, many = 0;
+    uint16_t right[16 * 16] = {0};
+    struct outcome o = run_plain(STORACLE_BUILD, (const uint8_t *)word, m, m);
+    for (size_t i = 2 * n; i < n * (m + 6); i++)
+        many += left_table()[i] != 0;
+    expect(o.number == 0 && o.answer[0] == m && many == arrows, word);
+    for (size_t i = 1; i <= m && pairs != NULL; i++) {
+        right[i] = (uint8_t)word[i - 1];
+        right[n + i] = (uint16_t)(strchr(word, word[i - 1]) - word + 1);
+    }
+    for (size_t i = 0; i < arrows && pairs != NULL; i++)
+        right[(2 + pairs[2 * i]) * n + right[n + pairs[2 * i + 1]]] = pairs[2 * i + 1];
+    expect(pairs == NULL || memcmp(left_table(), right, n * (m + 6) * sizeof *right) == 0, word);
+}
+
+static uint32_t said_of_storacle(const uint8_t *word, size_t m, size_t room)
+{
+    struct asked a = ask(STORACLE_BUILD, word, m, m);
+    a.len[TABLES] = room;
+    a.fill = (enum fill)below(FILLS);
+    a.nulls = below(2);
+    return compare(&a).number;
+}
+
+/* every room up to some more than is needed, and of some lengths past 16 bits; words of the most letters, of one fewer and of more */
+static void example_storacle_rooms(void)
+{
+    static const uint8_t word[PAST_16_BITS + 9] = "abcacdace";
+    static const size_t lengths[] = {127, 128, 129, 130, 255, 256, 257, 265, 384, 4096, 65535, 65536, 65545};
+    for (size_t m = 0; m <= 9; m++)
+        for (size_t room = 0, need = (m + 1) * (m + 6); room <= need + 9; room++) {
+            uint32_t right = m == 0 ? 1 : room < need ? 3 : 0;
+            expect(said_of_storacle(word, m, room) == right, "the room of a storacle");
+            expect(said_of_storacle(word, m, PAST_16_BITS + room) == (m == 0 ? 1 : 0), "the room of a storacle");
+        }
+    for (size_t l = 0; l < sizeof lengths / sizeof *lengths; l++) {
+        const size_t m = lengths[l], rooms[] = {0, 13, 10 * 129, 17023, 17024, 17285, 17286, 17287, 17549, 17550, 17551, 65536, 99999};
+        for (size_t r = 0; r < sizeof rooms / sizeof *rooms; r++) {
+            uint32_t right = m > 128 ? 2 : rooms[r] < (m == 127 ? 17024 : 17286) ? 3 : 0;
+            expect(said_of_storacle(word, m, rooms[r]) == right, "the room of a storacle of many letters");
+        }
+    }
+}
+
+/* more than 3m, which few words have */
+static const char many_arrows[] = "abcdaebcdacbadbddcaabbf";
+
+static void examples_of_storacles(void)
+{
+    static const uint16_t first[] = {0, 1, 1, 2, 0, 2};
+    static const uint16_t other[] = {0, 1, 1, 2, 2, 3, 3, 4, 4, 5, 5, 6, 6, 7, 7, 8, 8, 9, 0, 2, 0, 3, 1, 3, 3, 6, 0, 6, 3, 9, 0, 9};
+    example_storacle("a", first, 1);
+    example_storacle("aa", first, 2);
+    example_storacle("ab", first, 3);
+    example_storacle("abcacdace", other, 16);
+    example_storacle(many_arrows, NULL, 70);
+    example_storacle_rooms();
+}
+
 /* the compact rows of a word, built, and left by a search for its mirror */
 static void example_rows(const uint8_t *word, size_t m, const uint64_t *sets, const uint16_t *targets)
 {
@@ -2154,6 +2291,7 @@ static void examples(void)
     example_search("abc", "ab", 0, (const uint32_t[]){0}, 0);
     examples_of_turbo();
     examples_of_failure();
+    examples_of_storacles();
     examples_of_rows();
     examples_of_loading();
     examples_of_streams();
@@ -2293,6 +2431,65 @@ static void longer_texts_turbo(void)
 {
     every_case_of(TURBO, 2, 8, 14);
     every_case_of(TURBO, 3, 5, 9);
+}
+
+/* ---- storacles ---- */
+
+/* in a room that is exactly enough, or longer by little or by much */
+static void storacle_of_word(const uint8_t *word, size_t m)
+{
+    said_of_storacle(word, m, entries_for(STORACLE_BUILD, m) + (below(3) ? below(3) : below(400)));
+}
+
+/* every length up to some that are too many, over few letters and many, of each kind; also with one entry too few, and with far fewer */
+static void storacles_of_every_length(void)
+{
+    static const unsigned alphabets[] = {2, 3, 4, 20, 256};
+    uint8_t word[MOST_STORACLE + 12];
+    for (size_t m = 1; m <= sizeof word; m++)
+        for (int turn = 0; turn < 5 * KINDS; turn++) {
+            choose_wide_palette(alphabets[turn % 5]);
+            make_word(word, m, (enum kind)(turn / 5));
+            storacle_of_word(word, m);
+            size_t need = entries_for(STORACLE_BUILD, m);
+            said_of_storacle(word, m, below(4) ? need - 1 : below(need));
+        }
+}
+
+/* the word with many arrows, with every two of its letters changed in every way; then in front of, behind and between others */
+static void storacles_of_many_arrows(void)
+{
+    enum { OWN = sizeof many_arrows - 1 };
+    uint8_t word[MOST_STORACLE];
+    for (size_t i = 0; i < OWN; i++)
+        for (size_t k = 0; k < i; k++)
+            for (unsigned letters = 0; letters < 49; letters++) {
+                memcpy(word, many_arrows, OWN);
+                word[i] = (uint8_t)('a' + letters % 7);
+                word[k] = (uint8_t)('a' + letters / 7);
+                storacle_of_word(word, OWN);
+            }
+    for (int turn = 0; turn < 3000; turn++) {
+        size_t m = OWN + below(sizeof word - OWN + 1);
+        set_palette(2 + below(6), 'a', 1);
+        make_word(word, m, (enum kind)(turn % KINDS));
+        memcpy(word + below(m - OWN + 1), many_arrows, OWN);
+        storacle_of_word(word, m);
+    }
+}
+
+static void short_storacles(void)
+{
+    every_word_of(STORACLE_BUILD, 2, 15);
+    every_word_of(STORACLE_BUILD, 3, 10);
+    every_word_of(STORACLE_BUILD, 4, 8);
+    every_word_of(STORACLE_BUILD, 7, 5);
+}
+
+static void longer_storacles(void)
+{
+    storacles_of_every_length();
+    storacles_of_many_arrows();
 }
 
 /* ---- words in texts of the same period, where each find overlaps the one before by a border ---- */
@@ -2956,7 +3153,7 @@ static void lists(void)
 
 /* ---- rooms: one short, exact, one long, for every buffer; every refusal with what stands in them before ---- */
 
-enum { PAST_16_BITS = 65536, LONGEST_TRIED = PAST_16_BITS + MOST_LETTERS };
+enum { LONGEST_TRIED = PAST_16_BITS + MOST_LETTERS };
 
 /* the text has fewer than 300 bytes, or so many more than the word */
 static void rooms_for(enum entry entry, const uint8_t *input, size_t input_len, size_t m, size_t file_size, const uint8_t *sought)
@@ -3013,6 +3210,7 @@ static void rooms_of_word(const uint8_t *word, size_t m)
     rooms_for(FAILURE_BUILD, word, m, m, 0, NULL);
     rooms_for(COMPACT_SEARCH, word, m, m, 0, word);
     rooms_for(COMPACT_BUILD, word, m, m, 0, NULL);
+    rooms_for(STORACLE_BUILD, word, m, m, 0, NULL);
     if (good) {
         mirror(word, m, mirrored);
         rooms_for(LOAD, file, size, m, 0, NULL);
@@ -4747,7 +4945,7 @@ static void vast_slice(enum entry entry, int slice, size_t more, const uint8_t *
 
 /* Also files of edition 2 of which 0, 1 or 2 bytes would be left behind the arrows, where the check is wrong, or 0 behind the check, if
    they were counted in 32 bits; lists that would be too short for three rides, and other slices that would do; and rooms of compact rows
-   that would be too short. */
+   and of a storacle that would be too short. */
 static void vast_slices(void)
 {
     uint8_t file[MOST_FILE], checked[MOST_FILE];
@@ -4770,11 +4968,12 @@ static void vast_slices(void)
         for (int s = 0; s < SLICES; s++)
             if (lent_slices[SALVAGE] & 1u << s)
                 vast_slice(SALVAGE, s, more, word, m, RIDE_MARK_BYTES);
-    for (int i = 0; i < 4; i++) {
-        enum entry entry = i % 2 ? COMPACT_SEARCH : COMPACT_BUILD;
-        size_t need = i / 2 ? sets_for(m) : entries_for(entry, m), more[] = {0, 1, need - 1, need, need + 1};
+    for (int i = 0; i < 5; i++) {
+        enum entry entry = i == 4 ? STORACLE_BUILD : i % 2 ? COMPACT_SEARCH : COMPACT_BUILD;
+        int slice = i / 2 == 1 ? SETS : TABLES;
+        size_t need = slice == SETS ? sets_for(m) : entries_for(entry, m), more[] = {0, 1, need - 1, need, need + 1};
         for (size_t k = 0; k < sizeof more / sizeof *more; k++)
-            vast_slice(entry, i / 2 ? SETS : TABLES, more[k], word, m, m);
+            vast_slice(entry, slice, more[k], word, m, m);
     }
 }
 
@@ -5108,6 +5307,13 @@ static bool print_rare(void)
            with_chains[FAILURE_BUILD] == 0 || windows == 0;
 }
 
+/* how many storacles had more than 3m arrows; whether there was none */
+static bool print_storacles(void)
+{
+    printf("storacles with more than 3m arrows: %" PRIu64 "\n", storacles_past_3m);
+    return storacles_past_3m == 0;
+}
+
 /* how often compact rows showed what they can, and windows in long texts were read deep and short in turn; whether something was not met */
 static bool print_row_met(void)
 {
@@ -5131,6 +5337,8 @@ static void all_parts(bool costly)
     if (SLIP == 31)
         return;
     past_examples = true;
+    part("storacles: every word of 1 to 15 letters over 2, of 1 to 10 over 3, of 1 to 8 over 4, of 1 to 5 over 7", short_storacles);
+    part("storacles: words of 1 letter to 12 more than the most, over 2, 3, 4, 20 and 256 letters; with many arrows", longer_storacles);
     part("compact rows: every word of 1 to 11 letters over 2, of 1 to 6 over 4, of 1 to 4 over 7, of 1 to 4 at the borders of 64; every "
          "number of letters; every length; every word of 1 to 4 over 3 in every text of up to 6",
          short_rows);
@@ -5221,6 +5429,7 @@ int main(int argc, char **argv)
         noise[i] = (uint8_t)chance();
     all_parts(costly);
     bool missing = print_seen(), unmet = print_endings(), rare = print_rare(), other = print_met(), rows = print_row_met();
+    bool few_arrows = print_storacles();
     if (missing)
         printf("DIFFERENT: a refusal that can be given was never seen\n");
     else if (unmet)
@@ -5231,7 +5440,9 @@ int main(int argc, char **argv)
         printf("DIFFERENT: something that .FIT in a text can be of, or a list or text that salvage can be lent, was never met\n");
     else if (rows)
         printf("DIFFERENT: something that compact rows can show, or a room or text that they can be lent, was never met\n");
+    else if (few_arrows)
+        printf("DIFFERENT: no storacle had more than 3m arrows\n");
     else
         printf("second opinion: seed %" PRIu64 ", %" PRIu64 " cases, no difference, %.1f s\n", seed, cases, seconds() - begun);
-    return missing || unmet || rare || other || rows ? 1 : 0;
+    return missing || unmet || rare || other || rows || few_arrows ? 1 : 0;
 }

@@ -1,4 +1,4 @@
-/* The fourteen entries of both sides by number, so that the comparison and the attack can ask either side the same thing in one line.
+/* The fifteen entries of both sides by number, so that the comparison and the attack can ask either side the same thing in one line.
    This is all that the two share with each other; neither implementation sees it. */
 #ifndef ENTRIES_H
 #define ENTRIES_H
@@ -24,6 +24,7 @@ enum entry {
     COMPACT_SEARCH,
     FAILURE_BUILD,
     COMPACT_BUILD,
+    STORACLE_BUILD,
     OPEN,
     TAKE,
     SALVAGE,
@@ -32,7 +33,7 @@ enum entry {
 
 static const char *const entry_name[ENTRIES] = {"build",      "save",        "save_checked", "load",        "search",
                                                 "turbo",      "search_file", "fail_search",  "rows_search", "fail_build",
-                                                "rows_build", "open",        "take",         "salvage"};
+                                                "rows_build", "storacle",    "open",         "take",        "salvage"};
 
 /* the slices that an entry may be lent; input is the word, or the file of load and search_file; text is also the piece of take, tables are
    also the targets of compact rows, and finds are also the starts of salvage */
@@ -55,6 +56,7 @@ static const unsigned lent_slices[ENTRIES] = {
     1 << INPUT | 1 << TEXT | 1 << TABLES | 1 << FINDS | 1 << SETS,
     1 << INPUT | 1 << TABLES,
     1 << INPUT | 1 << TABLES | 1 << SETS,
+    1 << INPUT | 1 << TABLES,
     1 << INPUT | 1 << SEARCHER,
     1 << TEXT | 1 << FINDS | 1 << SEARCHER,
     1 << TEXT | 1 << TABLES | 1 << FINDS | 1 << RIDE_KINDS,
@@ -78,6 +80,7 @@ static const unsigned can_give[ENTRIES] = {
     1 << 0 | 1 << 1 | 1 << 2 | 1 << 3,
     1 << 0 | 1 << 1 | 1 << 2 | 1 << 3,
     1 << 0 | 1 << 1 | 1 << 2 | 1 << 3,
+    1 << 0 | 1 << 1 | 1 << 2 | 1 << 3,
     1 << 0 | 1 << 4 | 1 << 16,
     1 << 0 | 1 << 3 | 1 << 4,
 };
@@ -95,9 +98,12 @@ static bool makes_rows(enum entry entry)
     return entry == COMPACT_SEARCH || entry == COMPACT_BUILD;
 }
 
-/* how many table entries an entry needs for a word of m letters */
+/* How many table entries an entry needs for a word of m letters. A word that is too long for a storacle is lent as many as the shortest of
+   those would need. */
 static size_t entries_for(enum entry entry, size_t m)
 {
+    if (entry == STORACLE_BUILD)
+        return m <= MOST_STORACLE ? (m + 1) * (m + 6) : (MOST_STORACLE + 2) * (MOST_STORACLE + 7);
     return (makes_failure_oracle(entry) || makes_rows(entry) ? 10 : 6) * (m + 1);
 }
 
@@ -158,6 +164,8 @@ static size_t may_write(enum entry entry, int slice, const size_t *len, const st
         return salvage_may_write(slice, len, o->answer[0]);
     if (makes_rows(entry))
         return rows_may_write(entry, slice, len, o->answer[0]);
+    if (entry == STORACLE_BUILD)
+        return shorter(len[TABLES], entries_for(entry, len[INPUT]));
     return slice == SEARCHER ? shorter(len[SEARCHER], SEARCHER_BYTES) : len[slice];
 }
 
@@ -219,6 +227,14 @@ static bool failure_counts_can_be(uint64_t letters, uint64_t failures, size_t m,
     return letters <= places * m && failures <= letters * m;
 }
 
+/* what building a storacle says: the lengths alone decide it */
+static uint32_t storacle_number(const size_t *len)
+{
+    if (len[INPUT] == 0 || len[INPUT] > MOST_STORACLE)
+        return len[INPUT] == 0 ? 1 : 2;
+    return len[TABLES] < entries_for(STORACLE_BUILD, len[INPUT]) ? 3 : 0;
+}
+
 /* what an outcome cannot be, whatever the other side says; NULL where it can be. Slices of so many elements were lent. */
 static const char *wrong_in_itself(enum entry entry, const struct outcome *o, const size_t *len)
 {
@@ -242,6 +258,8 @@ static const char *wrong_in_itself(enum entry entry, const struct outcome *o, co
         return "both sides count letters that no search reads";
     if (entry == COMPACT_BUILD && o->number == 0 && o->answer[0] != len[INPUT])
         return "both sides build compact rows of other letters than there are";
+    if (entry == STORACLE_BUILD && (o->number != storacle_number(len) || (o->number == 0 && o->answer[0] != len[INPUT])))
+        return "both sides build a storacle where they must not, or do not where they must, or give another number";
     return NULL;
 }
 
@@ -408,6 +426,101 @@ static const char *wrong_failure_table(const uint16_t *table, const uint8_t *wor
     return NULL;
 }
 
+/* ---- the table of a storacle, read as it is laid out: m+6 rows of m+1 entries ---- */
+
+enum { COLUMN_ROW = 1, FIRST_ARROW_ROW = 2, LAST_ZERO_ROWS = 3, MOST_ARROWS_BUILT = MOST_STORACLE * (MOST_STORACLE + 1) / 2 };
+
+struct arrows {
+    uint8_t source[MOST_ARROWS_BUILT], target[MOST_ARROWS_BUILT];
+    size_t many;
+};
+
+/* the first state later than x that has a letter, found in the word; 0 for none */
+static size_t later_in_word(const uint8_t *word, size_t m, size_t x, uint8_t letter)
+{
+    const uint8_t *found = x < m ? memchr(word + x, letter, m - x) : NULL;
+    return found != NULL ? (size_t)(found - word) + 1 : 0;
+}
+
+/* Lists the arrows, and says what is wrong with them or with what stands beside them; NULL for nothing. */
+static const char *list_arrows(const uint16_t *table, const uint8_t *word, size_t m, struct arrows *a)
+{
+    a->many = 0;
+    for (size_t x = 0; x <= m + LAST_ZERO_ROWS; x++)
+        for (size_t i = 0; i <= m; i++) {
+            unsigned to = in_row(table, m, (int)(FIRST_ARROW_ROW + x), i);
+            if (to == 0)
+                continue;
+            if (x > m || i == 0 || in_row(table, m, COLUMN_ROW, i) != i)
+                return "both sides leave something in a storacle's table that is to be zero";
+            if (to != later_in_word(word, m, x, word[i - 1]))
+                return "both sides leave an arrow of a storacle that does not lead to the first later state with its letter";
+            if (a->many == m * (m + 1) / 2)
+                return "both sides leave more arrows than a storacle can have";
+            a->source[a->many] = (uint8_t)x;
+            a->target[a->many++] = (uint8_t)to;
+        }
+    return NULL;
+}
+
+/* whether every suffix is walked to its end, and each of so many arrows by one of them */
+static bool suffixes_walk_all(const uint16_t *table, size_t m, size_t arrows)
+{
+    static bool walked[MOST_STORACLE + 1][MOST_STORACLE + 1];
+    memset(walked, 0, (m + 1) * sizeof *walked);
+    for (size_t from = 1; from <= m; from++)
+        for (size_t i = from, x = 0; i <= m; i++) {
+            unsigned next = in_row(table, m, (int)(FIRST_ARROW_ROW + x), in_row(table, m, COLUMN_ROW, i));
+            if (next == 0)
+                return false;
+            arrows -= !walked[x][next];
+            walked[x][next] = true;
+            x = next;
+        }
+    return arrows == 0;
+}
+
+/* how many walks of m letters there are from state 0; 2 where there are more */
+static size_t walks_of_m(const struct arrows *a, size_t m)
+{
+    uint8_t ways[MOST_STORACLE + 1] = {1}, longer[MOST_STORACLE + 1];
+    size_t all = 0;
+    for (size_t letters = 0; letters < m; letters++) {
+        memset(longer, 0, sizeof longer);
+        for (size_t i = 0; i < a->many; i++)
+            longer[a->target[i]] = (uint8_t)shorter(longer[a->target[i]] + ways[a->source[i]], 2);
+        memcpy(ways, longer, sizeof ways);
+    }
+    for (size_t x = 0; x <= m; x++)
+        all += ways[x];
+    return shorter(all, 2);
+}
+
+/* What the table of a storacle cannot be, whatever the other side says; NULL where it can be: it has the letters and the columns; every
+   arrow leads to the first later state with its letter, those of the spine are there, and at most m(m+1)/2 in all; every suffix is walked,
+   and every arrow by one; only the word is walked with m letters; all else is zero. *arrows is how many there are. */
+static const char *wrong_storacle_table(const uint16_t *table, const uint8_t *word, size_t m, size_t *arrows)
+{
+    static struct arrows a;
+    if (table[0] != 0 || in_row(table, m, COLUMN_ROW, 0) != 0)
+        return "both sides leave something in a storacle's table that is to be zero";
+    for (size_t i = 1; i <= m; i++)
+        if (table[i] != word[i - 1] || in_row(table, m, COLUMN_ROW, i) != later_in_word(word, m, 0, word[i - 1]))
+            return "both sides leave a storacle's table with other letters or columns";
+    const char *wrong = list_arrows(table, word, m, &a);
+    if (wrong != NULL)
+        return wrong;
+    for (size_t x = 0; x < m; x++)
+        if (in_row(table, m, (int)(FIRST_ARROW_ROW + x), in_row(table, m, COLUMN_ROW, x + 1)) != x + 1)
+            return "both sides leave a storacle without an arrow of the spine";
+    if (!suffixes_walk_all(table, m, a.many))
+        return "both sides leave a storacle that does not walk every suffix, or has an arrow that none walks";
+    if (walks_of_m(&a, m) != 1)
+        return "both sides leave a storacle that walks another word as long as its own";
+    *arrows = a.many;
+    return NULL;
+}
+
 /* ---- compact rows, read as they are laid out, and the first form, read by the rule of docs/TABLE.md ---- */
 
 /* one more arrow of a state, which leads to another state, in the place of one on the same letter */
@@ -498,6 +611,7 @@ static const char *wrong_rows(const uint64_t *sets, const uint16_t *targets, con
         case COMPACT_BUILD:                                                                                                                \
             o.number = SIDE##_compact_build(input, input_len, l->at[SETS], l->len[SETS], tables, tables_len, a);                           \
             break;                                                                                                                         \
+        case STORACLE_BUILD: o.number = SIDE##_storacle_build(input, input_len, tables, tables_len, a); break;                             \
         case OPEN: o.number = SIDE##_open(input, input_len, l->at[SEARCHER], l->len[SEARCHER]); break;                                     \
         case TAKE: o.number = SIDE##_take(l->at[SEARCHER], l->len[SEARCHER], text, text_len, l->at[FINDS], l->len[FINDS], a); break;       \
         case SALVAGE:                                                                                                                      \

@@ -1,4 +1,4 @@
-/* A target for a coverage-guided fuzzer (libFuzzer): its bytes become one call of one of the fourteen entries, which the proved library and
+/* A target for a coverage-guided fuzzer (libFuzzer): its bytes become one call of one of the fifteen entries, which the proved library and
    the second implementation both answer; whole outcomes must agree.
 
    What sees a stray access: the second implementation and this file are compiled with AddressSanitizer and UndefinedBehaviorSanitizer,
@@ -224,6 +224,10 @@ static void call_both(const struct asked *a)
         stop(a, "both sides list other rides than those whose headers are in the text", -1, &m, &o);
     if (makes_failure_oracle(a->entry) && m.number == 0 && (wrong = wrong_with_failure(a, &second, &o)) != NULL)
         stop(a, wrong, -1, &m, &o);
+    size_t arrows;
+    bool storacle = a->entry == STORACLE_BUILD && m.number == 0;
+    if (storacle && (wrong = wrong_storacle_table(second.at[TABLES], second.at[INPUT], second.len[INPUT], &arrows)) != NULL)
+        stop(a, wrong, -1, &m, &o);
     if (makes_rows(a->entry) && m.number == 0 && (wrong = wrong_with_rows(a, &second, &o)) != NULL)
         stop(a, wrong, -1, &m, &o);
     for (int s = 0; s < SLICES; s++)
@@ -237,7 +241,7 @@ static void call_both(const struct asked *a)
    list; length of word, file or searcher, two bytes */
 enum { WHICH, FLAGS, TABLES_CHOICE, ROOM_CHOICE, OUT_CHOICE, LIST, INPUT_LOW, INPUT_HIGH, HEAD };
 
-/* the calls: fourteen entries on what is there; two on the file of a word in either edition, and one on the searcher of a word, changed at
+/* the calls: fifteen entries on what is there; two on the file of a word in either edition, and one on the searcher of a word, changed at
    a few places; two on a file that is there but for its check; one on a text that is made of rides and headers, as is said there */
 enum {
     LOAD_CHANGED = ENTRIES,
@@ -622,6 +626,7 @@ static void seed_word(const uint8_t *word, size_t m)
     seed(FAILURE_SEARCH, 0, word, m, text, n);
     seed(FAILURE_SEARCH, 0xF0, word, m, text, 0);
     seed(COMPACT_BUILD, 1, word, m, text, 0);
+    seed(STORACLE_BUILD, 0, word, m, text, 0);
     seed(COMPACT_SEARCH, 0, word, m, text, n);
     seed(COMPACT_SEARCH, 0xF0, word, m, text, 0);
     if (size > 0 && m <= MOST_STREAMED)
@@ -829,6 +834,27 @@ static void seed_letters(void)
             seed_rows(word, distinct[d]);
             seed_rows(word, 2 * distinct[d] + 40);
         }
+}
+
+/* Storacles in every choice of tables: of no letter and of few, one with more than 3m arrows; of the most letters, one fewer, and more. */
+static void seed_storacles(void)
+{
+    static const char *const words[] = {"", "a", "ab", "aab", "abcacdace", "abcdaebcdacbadbddcaabbf"};
+    static const size_t lengths[] = {MOST_STORACLE - 1, MOST_STORACLE, MOST_STORACLE + 1, 256, 257, 300};
+    uint8_t word[300];
+    uint32_t state = 5;
+    for (uint8_t c = 0; c < CHOICES; c++) {
+        for (size_t i = 0; i < sizeof words / sizeof *words; i++)
+            seed_in(c, EXACT, STORACLE_BUILD, 2 + c % 2, (const uint8_t *)words[i], strlen(words[i]), word, 0);
+        for (size_t l = 0; l < sizeof lengths / sizeof *lengths; l++)
+            for (unsigned letters = 2; letters <= 128; letters *= 4) {
+                for (size_t i = 0; i < lengths[l]; i++) {
+                    state = state * 1664525 + 1013904223;
+                    word[i] = (uint8_t)((state >> 24) % letters);
+                }
+                seed_in(c, EXACT, STORACLE_BUILD, 2 + c % 2, word, lengths[l], word, 0);
+            }
+    }
 }
 
 static void seed_hex(const char *hex)
@@ -1041,6 +1067,7 @@ static void write_seeds(void)
         seed_read_whole(read_whole[i][0], read_whole[i][1]);
     seed_spellings((const uint8_t *)"abbbaab", 7);
     seed_letters();
+    seed_storacles();
     seed_rides();
     for (size_t i = 0; i < sizeof periodic / sizeof *periodic; i++)
         seed_periodic(periodic[i][0], periodic[i][1]);

@@ -1,9 +1,9 @@
 /* The second implementation: what an oracle is by the suffix rule, a supply by 001's definition, an occurrence by comparing bytes at
    each place, a border by comparing the word's beginning with its end, the letters read by going through the published steps, what a
    stream, or a text read so far, ends with by comparing the word's beginnings, the longest first; a failure oracle is the list of the
-   arrows that its rule adds, in their order; compact rows are written letter by letter from the oracle's arrows, and searched with by
-   counting ones; a file's check goes through its bits; a ride is looked for at every place of the text. Nothing here is clever, so that it
-   can be held against the scope document and the requests line by line.
+   arrows that its rule adds, in their order, and so is a storacle; compact rows are written letter by letter from the oracle's arrows, and
+   searched with by counting ones; a file's check goes through its bits; a ride is looked for at every place of the text. Nothing here is
+   clever, so that it can be held against the scope document and the requests line by line.
 
    Compiled with -DSLIP=n it has one mistake on purpose, to show that the comparison finds it (tools/second-opinion --slips). The mistakes:
      slip 1: the letters of a file are asked for after the rooms (5 and 3 exchanged)
@@ -341,9 +341,36 @@
      slip 382: compact rows take the length of the targets in 16 bits
      slip 383: in a long text the search with compact rows does not count a letter of a short window behind a deep one
      slip 384: in a long text the search with compact rows reads a letter more for a word with one state too many for 1,024 entries
+     slip 396: an arrow of a storacle leads to the last later state with its letter
+     slip 397: a storacle gets one arrow for each suffix, and the suffix is not walked again
+     slip 398: an arrow of a storacle leads to k+1, as the oracle's does
+     slip 399: an arrow of a storacle leads to the first state with its letter from j on, where j counts
+     slip 400: an arrow of a storacle leads to the first state with its letter from 0 on
+     slip 401: of a storacle the longest suffix is not walked
+     slip 402: of a storacle the shortest suffix is not walked
+     slip 403: a storacle has at most 3m arrows
+     slip 404: a storacle's table leaves out the spine
+     slip 405: in a storacle's table the column of a letter is the last state that has it
+     slip 406: in a storacle's table an arrow stands at every state with its letter
+     slip 407: in a storacle's table the last row keeps what stood there
+     slip 408: in a storacle's table the row of the last state keeps what stood there
+     slip 409: in a storacle's table the first entry of each row keeps what stood there
+     slip 410: a storacle of 129 letters is built
+     slip 411: a storacle of 128 letters is refused with 2
+     slip 412: building a storacle judges 3 before 2
+     slip 413: building a storacle takes a room of one entry too few
+     slip 414: building a storacle refuses a room that is just enough
+     slip 415: building a storacle judges 3 at 10(m+1)
+     slip 416: building a storacle takes the length of the tables in 16 bits
+     slip 417: building a storacle takes the length of the tables in 32 bits
+     slip 418: building a storacle takes the length of the word in 8 bits
+     slip 419: building a storacle answers beside 2
+     slip 420: building a storacle answers beside 3
+     slip 421: building a storacle clears the tables where it refuses with 3
+     slip 422: building a storacle clears an entry behind its table
    slip 31, slip 32, slip 67, slip 68, slip 69, slip 84, slip 85, slip 116 to slip 120, slip 140 to slip 144, slip 182 to slip 190,
-   slip 231 to slip 239, slip 348 to slip 357 and slip 385 to slip 394 stand in compare.c, slip 33, slip 34, slip 70, slip 358 and slip 395
-   in fuzz.c. */
+   slip 231 to slip 239, slip 348 to slip 357, slip 385 to slip 394 and slip 423 to slip 434 stand in compare.c, slip 33, slip 34, slip 70,
+   slip 358 and slip 395 in fuzz.c. */
 #include "second.h"
 
 #include <stdbool.h>
@@ -702,6 +729,110 @@ static void write_failure_table(size_t m, uint16_t *table)
         }
         behind[slot] = (uint16_t)older;
         first[added[a].source] = slot;
+    }
+}
+
+/* ---- the storacle at hand: one at a time, besides the other oracles ---- */
+
+enum { STORACLE_STATES = MOST_STORACLE + 1 + (SLIP == 410) };
+
+/* its arrows in the order in which the rule adds them, those of the spine first; each carries the letter of its target */
+static struct {
+    uint16_t source, target;
+} built[STORACLE_STATES * STORACLE_STATES];
+static size_t builds;
+
+static void build_arrow(size_t source, size_t target)
+{
+    built[builds].source = (uint16_t)source;
+    built[builds].target = (uint16_t)target;
+    builds++;
+}
+
+/* walks the letters p[from] .. p[m-1] from state 0 as far as arrows go; says where it ends, *k is the place of the first one not spelled */
+static size_t walk_storacle(const uint8_t *p, size_t from, size_t m, size_t *k)
+{
+    size_t state = 0;
+    for (*k = from; *k < m; ++*k) {
+        size_t a = 0;
+        while (a < builds && (built[a].source != state || p[built[a].target - 1] != p[*k]))
+            a++;
+        if (a == builds)
+            break;
+        state = built[a].target;
+    }
+    return state;
+}
+
+/* the first state later than j whose incoming letter is that one; 0 for none, which only mistakes on purpose meet */
+static size_t first_later(const uint8_t *p, size_t m, size_t j, uint8_t letter)
+{
+    for (size_t l = j + 1; l <= m; l++)
+        if (p[l - 1] == letter)
+            return l;
+    return 0;
+}
+
+static size_t last_later(const uint8_t *p, size_t m, size_t j, uint8_t letter)
+{
+    for (size_t l = m; l > j; l--)
+        if (p[l - 1] == letter)
+            return l;
+    return 0;
+}
+
+/* where the arrow leads that is added from j on p[k] */
+static size_t target_from(const uint8_t *p, size_t m, size_t j, size_t k)
+{
+    switch (SLIP) {
+    case 396: return last_later(p, m, j, p[k]);
+    case 398: return k + 1;
+    case 399: return first_later(p, m, j > 0 ? j - 1 : 0, p[k]);
+    case 400: return first_later(p, m, 0, p[k]);
+    case 403: return builds < 3 * m ? first_later(p, m, j, p[k]) : 0;
+    default: return first_later(p, m, j, p[k]);
+    }
+}
+
+/* the spine, then every suffix from the second letter's to the last's: while it is not walked to its end, an arrow, and the walk again */
+static void make_storacle(const uint8_t *p, size_t m)
+{
+    builds = 0;
+    for (size_t i = 0; i < m; i++)
+        build_arrow(i, i + 1);
+    for (size_t i = 1 + (SLIP == 401); i < m - (SLIP == 402); i++) {
+        size_t k, j = walk_storacle(p, i, m, &k), target;
+        while (k < m && (target = target_from(p, m, j, k)) != 0) {
+            build_arrow(j, target);
+            j = walk_storacle(p, i, m, &k);
+            if (SLIP == 397)
+                break;
+        }
+    }
+}
+
+static size_t storacle_entries(size_t m)
+{
+    return (m + 1) * (m + 6);
+}
+
+/* m+6 rows of m+1 entries: the letters, the columns, a row for each state, and three more */
+static void write_storacle_table(const uint8_t *p, size_t m, uint16_t *table)
+{
+    size_t n = m + 1;
+    for (size_t i = 0; i < storacle_entries(m); i++)
+        if (!(SLIP == 407 && i / n == m + 5) && !(SLIP == 408 && i / n == 2 + m) && !(SLIP == 409 && i % n == 0))
+            table[i] = 0;
+    for (size_t i = 1; i <= m; i++) {
+        table[i] = p[i - 1];
+        table[n + i] = (uint16_t)(SLIP == 405 ? last_later(p, m, 0, p[i - 1]) : first_later(p, m, 0, p[i - 1]));
+    }
+    for (size_t a = SLIP == 404 ? m : 0; a < builds; a++) {
+        uint16_t *row = table + (2 + built[a].source) * n, target = built[a].target;
+        row[table[n + target]] = target;
+        for (size_t i = 1; i <= m && SLIP == 406; i++)
+            if (p[i - 1] == p[target - 1])
+                row[i] = target;
     }
 }
 
@@ -1515,7 +1646,7 @@ static uint64_t take_piece(uint8_t *searcher, const uint8_t *piece, size_t piece
     return SLIP == 60 && count > finds_len ? finds_len : count;
 }
 
-/* ---- the fourteen entries ---- */
+/* ---- the fifteen entries ---- */
 
 uint32_t second_build(const uint8_t *word, size_t word_len, uint16_t *tables, size_t tables_len, uint64_t *m)
 {
@@ -1751,6 +1882,39 @@ uint32_t second_failure_build(const uint8_t *word, size_t word_len, uint16_t *ta
     if (SLIP == 164 && tables_len > failure_entries(word_len))
         tables[failure_entries(word_len)] = 0;
     *m = word_len;
+    return 0;
+}
+
+/* the refusals of building a storacle, in their order */
+static uint32_t refuse_storacle(size_t word_len, size_t tables_len)
+{
+    size_t need = SLIP == 415 ? 10 * (word_len + 1) : storacle_entries(word_len) - (SLIP == 413) + (SLIP == 414);
+    bool too_small = (SLIP == 416 ? (uint16_t)tables_len : SLIP == 417 ? (uint32_t)tables_len : tables_len) < need;
+    if (word_len == 0)
+        return 1;
+    if (SLIP == 412 && too_small)
+        return 3;
+    if ((SLIP == 418 ? (uint8_t)word_len : word_len) > MOST_STORACLE + (SLIP == 410) - (SLIP == 411))
+        return 2;
+    return too_small ? 3 : 0;
+}
+
+uint32_t second_storacle_build(const uint8_t *word, size_t word_len, uint16_t *tables, size_t tables_len, uint64_t *m)
+{
+    uint32_t no = refuse_storacle(word_len, tables_len);
+    if ((SLIP == 419 && no == 2) || (SLIP == 420 && no == 3))
+        *m = word_len;
+    if (SLIP == 421 && no == 3)
+        clear(tables, tables_len * sizeof *tables);
+    if (no != 0)
+        return no;
+    *m = word_len;
+    if (tables_len < storacle_entries(word_len)) /* only mistakes on purpose come here */
+        return 0;
+    make_storacle(word, word_len);
+    write_storacle_table(word, word_len, tables);
+    if (SLIP == 422 && tables_len > storacle_entries(word_len))
+        tables[storacle_entries(word_len)] = 0;
     return 0;
 }
 

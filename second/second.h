@@ -1,4 +1,4 @@
-/* A second opinion on the library: the same fourteen entries, written once more from the scope document and the requests, and from
+/* A second opinion on the library: the same fifteen entries, written once more from the scope document and the requests, and from
    docs/TABLE.md and docs/FILE.md where those leave the layout of the tables and of a searcher open, as plainly as can be.
    It shares no code and no definition with the proved library, is quadratic where that is simpler, and keeps its oracles in static
    memory (one caller at a time). Each answers the refusal's number, 0 for success; what is answered beside it goes through the last
@@ -15,6 +15,7 @@ enum {
     MOST_LETTERS = 4096,          /* of a word */
     LEAST_SAVED = 2,              /* letters of a word that has a file */
     MOST_STREAMED = 64,           /* letters of a word that a stream is opened for */
+    MOST_STORACLE = 128,          /* letters of a word that a storacle is built of */
     MOST_TEXT = 16777216,         /* bytes of a text, and of a stream */
     SEARCHER_BYTES = 134,         /* of a searcher; more may be lent */
     LEAST_FILE = LEAST_SAVED + 3, /* bytes of a file of edition 1: the edition, the length, the letters and a count of no arrows */
@@ -83,6 +84,8 @@ uint32_t second_failure_build(const uint8_t *word, size_t word_len, uint16_t *ta
 uint32_t second_failure_search(const uint8_t *word, size_t word_len, const uint8_t *text, size_t text_len, uint16_t *tables,
                                size_t tables_len, uint32_t *finds, size_t finds_len, uint64_t *count, uint64_t *letters,
                                uint64_t *failures);
+
+uint32_t second_storacle_build(const uint8_t *word, size_t word_len, uint16_t *tables, size_t tables_len, uint64_t *m);
 
 /* how many windows the search with a failure oracle has read to their first letter so far, in all calls, without a find there */
 uint64_t second_read_without_find(void);

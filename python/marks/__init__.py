@@ -18,7 +18,7 @@ from ._refused import (BadCheck, BadCount, BadLength, BadNumber, CutFile, EmptyW
 from ._salvage import Ride, salvage
 from ._stream import LONGEST_STREAMED, Stream
 
-__version__ = "0.6.1"
+__version__ = "0.7.0"
 
 __all__ = ["LONGEST_STREAMED", "LONGEST_WORD", "Mark", "Ride", "Stream", "check", "count", "find", "load", "salvage", "save", "Refused",
            "BadCheck", "BadCount", "BadLength", "BadNumber", "CutFile", "EmptyWord", "Leftovers", "LongText", "LongWord", "OtherEdition",

@@ -1,4 +1,4 @@
-"""The shared library: where it is, and what its fourteen entries take."""
+"""The shared library: where it is, and what its fifteen entries take."""
 import ctypes
 import os
 from ctypes import POINTER, c_size_t, c_uint32, c_uint64, c_void_p
@@ -6,7 +6,7 @@ from pathlib import Path
 from typing import List
 
 # With other numbers in its name a library may have other entries.
-NAME = "libmarks.so.0.6"
+NAME = "libmarks.so.0.7"
 
 _LENT = (c_void_p, c_size_t)  # an address, and how many elements of the buffer stand there
 _ANSWER = (POINTER(c_uint64),)
@@ -20,6 +20,7 @@ _ENTRIES = {
     "marks_search_file": 5 * _LENT + 3 * _ANSWER,
     "marks_failure_build": 2 * _LENT + _ANSWER,
     "marks_failure_search": 4 * _LENT + 3 * _ANSWER,
+    "marks_storacle_build": 2 * _LENT + _ANSWER,
     "marks_compact_build": 3 * _LENT + _ANSWER,
     "marks_compact_search": 5 * _LENT + 2 * _ANSWER,
     "marks_salvage": 4 * _LENT + _ANSWER,

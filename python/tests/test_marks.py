@@ -594,6 +594,9 @@ class Refusals(unittest.TestCase):
         for engine, entries in ("backward", 17), ("turbo", 17), ("failure", 29):
             self.refuses(3, None, _entries.search, engine, word, _lent.Lent(b"ab", "text"), (_entries.room("H", entries),), finds)
         self.refuses(3, None, lambda: _entries._asked(LIBRARY.marks_failure_build, word, _entries.room("H", 29), answers=1))
+        for given, entries, number in (b"", 0, 1), (bytes(129), 0, 2), (bytes(129), 17550, 2), (bytes(128), 17285, 3), (b"ab", 23, 3):
+            self.refuses(number, None,
+                         lambda: _entries._asked(LIBRARY.marks_storacle_build, given, _entries.room("H", entries), answers=1))
         for words, entries in (11, 30), (12, 29), (0, 30), (12, 0):
             lent = _entries.room("Q", words), _entries.room("H", entries)
             self.refuses(3, None, lambda: _entries._asked(LIBRARY.marks_compact_build, word, *lent, answers=1))
@@ -619,6 +622,16 @@ class Refusals(unittest.TestCase):
             self.assertEqual(_entries._asked(LIBRARY.marks_failure_search, word, text, table, finds, answers=3), told)
             self.assertEqual(_entries.search("failure", word, _lent.Lent(text, "text"), (table,), finds), tuple(told[:2]))
         self.assertEqual(finds.tolist(), [0, 2])
+
+    def test_what_the_entry_of_the_storacle_tells(self):
+        table = _entries.room("H", 10 * 15)
+        self.assertEqual(_entries._asked(LIBRARY.marks_storacle_build, b"abcacdace", table, answers=1), [9])
+        rows = [table[at:at + 10].tolist() for at in range(0, 150, 10)]
+        # the columns of the letters, and the arrows of states 0 and 3
+        self.assertEqual((rows[1], rows[2], rows[2 + 3]),
+                         ([0, 1, 2, 3, 1, 3, 6, 1, 3, 9], [0, 1, 2, 3, 0, 0, 6, 0, 0, 9], [0, 4, 0, 0, 0, 0, 6, 0, 0, 9]))
+        self.assertEqual(sum(target > 0 for row in rows[2:12] for target in row), 16)
+        self.assertEqual(_entries._asked(LIBRARY.marks_storacle_build, bytes(128), _entries.room("H", 129 * 134), answers=1), [128])
 
     def test_what_the_entries_of_compact_rows_tell(self):
         sets, targets = rows = _entries.compact_rows(9)

@@ -89,6 +89,7 @@ extern "C" {
         letters: *mut u64,
         failures: *mut u64,
     ) -> u32;
+    fn marks_storacle_build(word: *const u8, word_len: usize, tables: *mut u16, tables_len: usize, m: *mut u64) -> u32;
     fn marks_compact_build(
         word: *const u8,
         word_len: usize,
@@ -364,6 +365,36 @@ pub fn failure_search(word: &[u8], text: &[u8], tables: &mut [u16], finds: &mut 
         )
     };
     told(said, tally)
+}
+
+/// The table of the storacle of a word of up to [`LONGEST_STORACLE`](crate::LONGEST_STORACLE) letters, in the first (m+1)(m+6) entries of `tables`; the answer
+/// is m. Each arrow of this automaton leads to the first later state that has its letter. It has m to m(m+1)/2 arrows, seldom fewer than the oracle has: it is
+/// there for comparing.
+///
+/// ```
+/// use marks::{entries, storacle_table_room};
+///
+/// let mut tables = [0; storacle_table_room(9)];
+/// assert_eq!(entries::storacle_build(b"abcacdace", &mut tables), Ok(9));
+///
+/// // row 1 has the column of each state's letter, the first state that has it; rows 2 to 11 have where the arrows of states 0 to 9 lead, 0 for none
+/// let row = |number: usize| &tables[10 * number..10 * (number + 1)];
+/// assert_eq!(row(1), [0, 1, 2, 3, 1, 3, 6, 1, 3, 9]);
+/// // from state 0 on `a`, `b`, `c`, `d` and `e`; from state 3 on `a`, `d` and `e`
+/// assert_eq!(row(2), [0, 1, 2, 3, 0, 0, 6, 0, 0, 9]);
+/// assert_eq!(row(2 + 3), [0, 4, 0, 0, 0, 0, 6, 0, 0, 9]);
+/// assert_eq!((2..=11).flat_map(row).filter(|target| **target != 0).count(), 16);
+/// ```
+///
+/// # Errors
+///
+/// The refusals 1, 2 and 3: 2 where there are more than [`LONGEST_STORACLE`](crate::LONGEST_STORACLE) letters, 3 where there are fewer entries. They change
+/// nothing.
+pub fn storacle_build(word: &[u8], tables: &mut [u16]) -> Result<usize, Refusal> {
+    let mut m = 0;
+    // SAFETY: `word` and `tables` are slices, handed over with their lengths, and `m` is a local: what is written is borrowed here alone.
+    let said = unsafe { marks_storacle_build(word.as_ptr(), word.len(), tables.as_mut_ptr(), tables.len(), &raw mut m) };
+    told(said, m).map(size)
 }
 
 /// The oracle of a word as compact rows, a second form of what [`build`] makes, with the same arrows. The first 4(m+1) words of `sets` have for each state a

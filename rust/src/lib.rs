@@ -48,7 +48,7 @@
 //! ```
 //!
 //! What is refused is refused with a number of one table, [`Refusal`]; nothing panics, and no declared number is acted on before it is
-//! checked. A refused file comes with the offset at which it is broken, in a [`LoadError`]. [`entries`] has the fourteen entries themselves,
+//! checked. A refused file comes with the offset at which it is broken, in a [`LoadError`]. [`entries`] has the fifteen entries themselves,
 //! over slices that the caller lends.
 
 #![deny(unsafe_code)]
@@ -87,6 +87,9 @@ pub use taken::Taken;
 /// The longest word, in bytes.
 pub const LONGEST_WORD: usize = 4_096;
 
+/// The longest word that [`entries::storacle_build`] takes, in bytes.
+pub const LONGEST_STORACLE: usize = 128;
+
 /// The shortest word that is saved, in bytes. A shorter one can be looked for all the same.
 pub const LEAST_SAVED: usize = 2;
 
@@ -115,6 +118,12 @@ pub const fn table_room(m: usize) -> usize {
 #[must_use]
 pub const fn failure_table_room(m: usize) -> usize {
     10 * (m + 1)
+}
+
+/// How many entries the table of the storacle of a word of m letters takes.
+#[must_use]
+pub const fn storacle_table_room(m: usize) -> usize {
+    (m + 1) * (m + 6)
 }
 
 /// How many words of 64 bits the sets take in the compact rows of a word of m letters.

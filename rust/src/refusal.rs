@@ -41,8 +41,8 @@ macro_rules! refusals {
 // begin refusals: as tools/refusals writes them
 refusals! {
     EmptyWord = 1, "the word is empty";
-    LongWord = 2, "the word is longer than 4,096 bytes, or for a stream than 64";
-    ShortRoom = 3, "too little room: 6(m+1) entries, failure oracle 10(m+1), compact rows that and 4(m+1) words, file m bytes, stream 134";
+    LongWord = 2, "the word is longer than 4,096 bytes, for a storacle than 128, for a stream than 64";
+    ShortRoom = 3, "too little room: 6(m+1) entries, storacle (m+1)(m+6), failure oracle 10(m+1), compact rows also 4(m+1) words, file m bytes, stream 134";
     LongText = 4, "the text is longer than 16,777,216 bytes, or the stream would be with this piece";
     CutFile = 5, "the file ends before or inside a number, or before the last of its letters or of its check";
     BadNumber = 6, "a number in the file is misspelled: the last of its several groups is zero, or its fifth byte is above 15";

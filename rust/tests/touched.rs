@@ -1,10 +1,10 @@
 //! A header that declares four billion letters costs six bytes: the file goes on in memory that cannot be read, and the rooms cannot be touched at all. So with
-//! a searcher that is refused: the piece and the list cannot be touched, and no byte behind it can. So with a search that is refused. An offset is written only
-//! by the refusals that have one. Rides are listed without a look behind the text, whatever their headers declare. And a thread of 64 KiB has stack enough for
-//! a search.
+//! a searcher that is refused: the piece and the list cannot be touched, and no byte behind it can. So with a search that is refused, and with a table that is.
+//! An offset is written only by the refusals that have one. Rides are listed without a look behind the text, whatever their headers declare. And a thread of
+//! 64 KiB has stack enough for a search.
 use marks::{
-    compact_sets_room, compact_targets_room, entries, failure_table_room, table_room, Refusal, LONGEST_TEXT, LONGEST_WORD, RIDE_TABLES,
-    SEARCHER,
+    compact_sets_room, compact_targets_room, entries, failure_table_room, storacle_table_room, table_room, Refusal, LONGEST_STORACLE,
+    LONGEST_TEXT, LONGEST_WORD, RIDE_TABLES, SEARCHER,
 };
 use std::{ffi::c_void, ptr};
 
@@ -76,6 +76,7 @@ extern "C" {
         letters: *mut u64,
         failures: *mut u64,
     ) -> u32;
+    fn marks_storacle_build(word: *const u8, word_len: usize, tables: *mut u16, tables_len: usize, m: *mut u64) -> u32;
     fn marks_compact_build(
         word: *const u8,
         word_len: usize,
@@ -133,6 +134,16 @@ fn forbidden_behind_a_page(pages: usize) -> *mut u8 {
         assert_ne!(start as isize, -1);
         assert_eq!(mprotect(start, PAGE, READ_WRITE), 0);
         start.cast::<u8>().add(PAGE)
+    }
+}
+
+/// These bytes, behind which nothing can be touched.
+fn lent(bytes: &[u8]) -> *mut u8 {
+    let end = forbidden_behind_a_page(1);
+    // SAFETY: the last bytes of a page that may be written.
+    unsafe {
+        ptr::copy_nonoverlapping(bytes.as_ptr(), end.sub(bytes.len()), bytes.len());
+        end.sub(bytes.len())
     }
 }
 
@@ -305,6 +316,42 @@ fn a_refused_failure_oracle_touches_nothing() {
     assert_eq!(failure_with_all_forbidden(LONGEST_WORD, LONGEST_TEXT, room - 1), 3);
 }
 
+/// The same of building a storacle.
+fn storacle_with_all_forbidden(word_len: usize, tables_len: usize) -> u32 {
+    let ([word, tables], mut m) = ([(); 2].map(|()| forbidden_behind_a_page(1)), 99);
+    // SAFETY: as above.
+    let refused = unsafe { marks_storacle_build(word, word_len, tables.cast(), tables_len, &mut m) };
+    assert_eq!(m, 99);
+    refused
+}
+
+#[test]
+fn a_refused_storacle_touches_nothing() {
+    let room = storacle_table_room(LONGEST_STORACLE);
+    assert_eq!(storacle_with_all_forbidden(0, 0), 1);
+    assert_eq!(storacle_with_all_forbidden(0, room), 1);
+    assert_eq!(storacle_with_all_forbidden(LONGEST_STORACLE + 1, 0), 2);
+    assert_eq!(storacle_with_all_forbidden(usize::MAX >> 1, usize::MAX >> 2), 2);
+    assert_eq!(storacle_with_all_forbidden(LONGEST_STORACLE, room - 1), 3);
+    assert_eq!(storacle_with_all_forbidden(1, 13), 3);
+}
+
+#[test]
+fn nothing_is_touched_behind_what_a_storacle_is_lent() {
+    let distinct: Vec<u8> = (0..=255).take(LONGEST_STORACLE).collect();
+    for word in [&b"a"[..], b"ab", b"abcacdace", &[0; LONGEST_STORACLE], &distinct] {
+        let (m, room) = (word.len(), storacle_table_room(word.len()));
+        let (tables, mut built, mut expected) = (lent(&vec![7; 2 * room]).cast::<u16>(), 99, vec![0; room]);
+        // SAFETY: the entry is lent the last bytes of pages, which may be read and written, and is not to touch those behind them.
+        let table = unsafe {
+            assert_eq!((marks_storacle_build(lent(word), m, tables, room, &mut built), built), (0, m as u64));
+            std::slice::from_raw_parts(tables, room)
+        };
+        assert_eq!(entries::storacle_build(word, &mut expected), Ok(m));
+        assert_eq!(table, expected);
+    }
+}
+
 /// The same of compact rows: what their search says, and their building too where the text is not what is refused.
 fn compact_with_all_forbidden(word_len: usize, text_len: usize, sets_len: usize, targets_len: usize) -> u32 {
     let [word, text, sets, targets, finds] = [(); 5].map(|()| forbidden_behind_a_page(1));
@@ -348,14 +395,6 @@ fn refused_compact_rows_touch_nothing() {
 /// Builds compact rows and searches with them where nothing can be touched behind the word, the text, rooms of just the length that is needed, and a list for
 /// one find. The count and that find.
 fn compact_with_forbidden_rest(word: &[u8], text: &[u8]) -> (u64, u32) {
-    let lent = |bytes: &[u8]| {
-        let end = forbidden_behind_a_page(1);
-        // SAFETY: the last bytes of a page that may be written.
-        unsafe {
-            ptr::copy_nonoverlapping(bytes.as_ptr(), end.sub(bytes.len()), bytes.len());
-            end.sub(bytes.len())
-        }
-    };
     let (m, word, text_len, text) = (word.len(), lent(word), text.len(), lent(text));
     let (sets_len, targets_len) = (compact_sets_room(m), compact_targets_room(m));
     let [sets, targets, finds] = [8 * sets_len, 2 * targets_len, 4].map(|bytes| lent(&vec![7; bytes]));
@@ -480,6 +519,16 @@ fn a_thread_of_64_kib_has_stack_enough() {
             assert!(count.is_ok_and(|count| count >= 2));
         }
     }
+}
+
+/// The same of building a storacle, of the longest word that has one.
+#[test]
+fn a_thread_of_64_kib_has_stack_enough_for_a_storacle() {
+    let word: Vec<u8> = b"abcdabcdbacbbdaddccaae".iter().copied().cycle().take(LONGEST_STORACLE).collect();
+    let mut tables = vec![0; storacle_table_room(LONGEST_STORACLE)];
+    let build = move || entries::storacle_build(&word, &mut tables);
+    let built = std::thread::Builder::new().stack_size(1 << 16).spawn(build).unwrap().join().unwrap();
+    assert_eq!(built, Ok(LONGEST_STORACLE));
 }
 
 /// The same of listing rides, in a long text that is full of headers.

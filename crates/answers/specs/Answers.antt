@@ -65,8 +65,10 @@ line n s = record { number = n; given-when = s }
 unfoldable pub refusals : List Line
 refusals =
     line emptyWord "the word is empty"
-    ∷ line longWord "the word is longer than 4,096 bytes, or for a stream than 64"
-    ∷ line shortRoom "too little room: 6(m+1) entries, failure oracle 10(m+1), compact rows that and 4(m+1) words, file m bytes, stream 134"
+    ∷ line longWord "the word is longer than 4,096 bytes, for a storacle than 128, for a stream than 64"
+    ∷ line
+    shortRoom
+    "too little room: 6(m+1) entries, storacle (m+1)(m+6), failure oracle 10(m+1), compact rows also 4(m+1) words, file m bytes, stream 134"
     ∷ line longText "the text is longer than 16,777,216 bytes, or the stream would be with this piece"
     ∷ line 5 "the file ends before or inside a number, or before the last of its letters or of its check"
     ∷ line 6 "a number in the file is misspelled: the last of its several groups is zero, or its fifth byte is above 15"

@@ -12,3 +12,4 @@ pub mod FailureOracle
 pub mod EditionTwo
 pub mod SalvageLister
 pub mod CompactRows
+pub mod Storacle

@@ -3,7 +3,7 @@
 use lib.Dec.{T}
 use Rattle.words.specs.Lists.{from, only, first}
 use Rattle.words.specs.Words.{same, stands, occurrences}
-use Rattle.words.specs.Limits.{longestWord, longestText, longestStreamed, leastSaved, greatestFile}
+use Rattle.words.specs.Limits.{longestWord, longestText, longestStreamed, longestStoracle, leastSaved, greatestFile}
 use Rattle.oracle.specs.Arrows.{target, walk, spine}
 use Rattle.oracle.specs.SuffixRule.{far, mend, missing, extrasAfter, extraArrows, suffixRule}
 use Rattle.oracle.specs.LetterRule.{climb, addLetter, builtUpTo, letterRule}
@@ -16,6 +16,9 @@ use Rattle.table.specs.Table.{tableFrom, tableOf}
 use Rattle.failure.specs.FailureRule.{failureOf, ask, pathEnd, askIn, repair, afterSuffix, failureRule, failureWalk}
 use Rattle.failure.specs.FailureSteps.{readBoth, failureWindows, failureStepsWith, failureSteps}
 use Rattle.failure_table.specs.FailureTable.{wordAlone, slotted, layFailures, layArrows, failureTableFrom, failureTable}
+use Rattle.storacle.specs.StoracleRule.{firstIn, untilWalked, storacleAfter, storacleRule}
+use Rattle.storacle_table.specs.StoracleTable.{cellOf, blank, storacleTableFrom, storacleTable}
+use Rattle.storacle_entries.specs.StoracleBuild.{storacleBuildSays}
 use Rattle.compact.specs.Compact.{isArrow, asList, fromBits, setWord, targetsUpTo, setsFrom, compactFrom, compactSets, compactTable}
 use Rattle.compact_entries.specs.CompactBuild.{compactBuildSays}
 use Rattle.compact_entries.specs.CompactSearch.{compactSearchSays}
@@ -40,13 +43,14 @@ use Rattle.examples.specs.Examples.{loadInRooms, leaves, refusesIn, refu
 use Rattle.examples.specs.Examples.{shows, isDoneWith, isTallied, takenInTurn, holds, allHold, word, digit, bytes, table}
 
 pub examples-hold : T (allHold table)
-unfolding from only first same stands occurrences longestWord longestText longestStreamed leastSaved greatestFile
+unfolding from only first same stands occurrences longestWord longestText longestStreamed longestStoracle leastSaved greatestFile
     target walk spine far mend missing extrasAfter extraArrows suffixRule climb addLetter builtUpTo letterRule
     ends twice repeated supply leadsTo extraTargets extrasBefore fileArrows targetsBefore tableFrom tableOf
     longest closes longestBorder borders filled kept searcherOf after finds makeable openSays takeSays
     readDown afterFind windows steps backward forward turboWindows turboSteps turbo
     failureOf ask pathEnd askIn repair afterSuffix failureRule failureWalk readBoth failureWindows failureStepsWith failureSteps
     wordAlone slotted layFailures layArrows failureTableFrom failureTable
+    firstIn untilWalked storacleAfter storacleRule cellOf blank storacleTableFrom storacleTable storacleBuildSays
     isArrow asList fromBits setWord targetsUpTo setsFrom compactFrom compactSets compactTable compactBuildSays compactSearchSays
     groups spellNumber refuses see seeNumber numberAt edition stepsFrom spellSteps ownSteps body spell
     frontWithin twoAt arrowsAt ending asPlain endingEither verdictEither loadWithin saveIn

@@ -30,6 +30,9 @@ use Rattle.table.specs.Table.{room, tableOf}
 use Rattle.failure.specs.FailureRule.{Fails, failureOf, symbols, askIn, failureRule, failureWalk}
 use Rattle.failure.specs.FailureSteps.{failureSteps}
 use Rattle.failure_table.specs.FailureTable.{failureRoom, failureTable}
+use Rattle.storacle.specs.StoracleRule.{storacleRule, storacle}
+use Rattle.storacle_table.specs.StoracleTable.{storacleRoom, storacleTable}
+use Rattle.storacle_entries.specs.StoracleBuild.{storacleBuildSays}
 use Rattle.compact.specs.Compact.{setsRoom, compactRoom, compactSets, compactTable}
 use Rattle.compact_entries.specs.CompactBuild.{compactBuildSays}
 use Rattle.compact_entries.specs.CompactSearch.{compactSearchSays}
@@ -74,6 +77,16 @@ pub data Example : Type 0 where
   failureRows : (word : Word) (rows : List (List ℕ)) → Example
   -- a word and a text, the starts of the occurrences, the letters read and the failure arrows taken
   failureSearch : (word text : Word) (starts : List Place) (letters failures : ℕ) → Example
+  -- a word's storacle: its arrows beside the spine, and how many it has in all
+  storacleOf : (word : Word) (extra : List Extra) (inAll : ℕ) → Example
+  -- a word whose storacle walks another that does not stand in it
+  storacleNoFactor : (word walked : Word) → Example
+  -- how many arrows it has in all
+  storacleCounts : (word : Word) (inAll : ℕ) → Example
+  -- the first rows of its table, those behind them being zero
+  storacleRows : (word : Word) (rows : List (List ℕ)) → Example
+  -- a word, so many entries lent, and the number with which its storacle is refused
+  storacleRefused : (word : Word) (entries number : ℕ) → Example
   -- a word's compact rows: its words, and its entries row by row
   compactRowsOf : (word : Word) (words : List ℕ) (rows : List (List ℕ)) → Example
   -- a word and a text, searched with compact rows in rooms for just these: the starts of the occurrences, the letters read
@@ -224,6 +237,15 @@ holds (failureRows p rows) =
 holds (failureSearch w t starts n f) =
     let r = failureSteps w t in
     same (r .starts) starts && (eqb (r .letters) n && (eqb (r .failures) f && same (occurrences w t) starts))
+holds (storacleOf p l n) = eqb (length (storacleRule p)) n && (eqb (length p + length l) n && has (storacle p) p l)
+holds (storacleNoFactor p v) = walked (walk (storacle p) 0 v) && empty (occurrences v p)
+holds (storacleCounts p n) = eqb (length (storacleRule p)) n
+holds (storacleRows p rows) =
+    let front = joined rows in
+    same (storacleTable p) (front ++ replicate (storacleRoom (length p) - length front) 0)
+holds (storacleRefused p e n) =
+    let o = storacleBuildSays p (replicate e 9) in
+    isRefused (o .answer) n && same (o .tables) (replicate e 9)
 holds (compactRowsOf p words rows) = same (compactSets p) words && same (compactTable p) (joined rows)
 holds (compactSearch w t starts n) =
     let m = length w in
@@ -333,6 +355,24 @@ table =
     ∷ failureSearch (word "ab") (word "abxa") (0 ∷ []) 4 1
     ∷ failureSearch (word "abc") (word "xxxxxx") [] 2 4
     ∷ failureSearch (word "abc") (word "ab") [] 0 0
+    ∷ storacleOf (word "a") [] 1
+    ∷ storacleOf (word "abcacdace") (0 to 2 ∷ 0 to 3 ∷ 0 to 6 ∷ 0 to 9 ∷ 1 to 3 ∷ 3 to 6 ∷ 3 to 9 ∷ []) 16
+    ∷ storacleNoFactor (word "abcacdace") (word "abce")
+    ∷ storacleOf (word "abaa") (0 to 2 ∷ 1 to 3 ∷ []) 6
+    ∷ storacleRows (word "abaa") (
+    (0 ∷ word "abaa")
+    ∷ (0 ∷ 1 ∷ 2 ∷ 1 ∷ 1 ∷ [])
+    ∷ (0 ∷ 1 ∷ 2 ∷ 0 ∷ 0 ∷ [])
+    ∷ (0 ∷ 3 ∷ 2 ∷ 0 ∷ 0 ∷ [])
+    ∷ (0 ∷ 3 ∷ 0 ∷ 0 ∷ 0 ∷ [])
+    ∷ (0 ∷ 4 ∷ 0 ∷ 0 ∷ 0 ∷ [])
+    ∷ [])
+    ∷ storacleCounts (word "abcdabcdbacbbdaddccaae") 67
+    ∷ storacleCounts (word "abcdeabcdacbdccaddbbaaf") 70
+    ∷ storacleRefused (word "") 0 1
+    ∷ storacleRefused (replicate 129 97) 17286 2
+    ∷ storacleRefused (replicate 128 97) 17285 3
+    ∷ storacleRefused (word "abaa") 49 3
     ∷ saveRefused (word "") 1
     ∷ saveRefused (word "a") 17
     ∷ saveRefused (replicate 4097 97) 2

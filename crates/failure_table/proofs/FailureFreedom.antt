@@ -2,15 +2,13 @@
 -- cannot know the arrows from the word. The table is the one that `failureTableFrom` lays out. That its entries are small goes by what is
 -- written: letters, targets and slots.
 use mathlib.Core.Path.{refl}
-use mathlib.Core.Logic.{by-cases}
 use mathlib.Core.List.{List, [], _∷_, List·Memᴰ, List·Memᴰ·head, List·Memᴰ·tail}
 use Prim.Native.Nat.{ℕ, zero, suc, _+_, _*_, _<_}
-use native.Mathlib.Decide.{ℕ-discrete, decLt}
 use native.Mathlib.Omega.{arith}
 use lib.ListN.{length, set}
-use lib.Seq.{getD-set-same, getD-set-other, set-out}
 use Rattle.words.specs.Lists.{at}
 use Rattle.words.specs.Words.{Word, letter}
+use Rattle.words.proofs.Lists.{Small, set-small}
 use Rattle.oracle.specs.Arrows.{Arrow}
 use Rattle.failure.specs.FailureRule.{Failure, FailureArrows}
 use Rattle.failure_table.specs.FailureTable.{wordAlone, slotted, layFailures, layArrows, failureTableFrom}
@@ -18,19 +16,7 @@ use Rattle.failure_table.specs.FailureFreedom.{FailureSet, ReadAsFailure
 use Rattle.failure_table.proofs.LaidOut.{laid-word, alone-at}
 use Rattle.failure_table.proofs.ReadBack.{laid, symbols-read, failures-read}
 
--- every entry is below b
-abbrev Small : ℕ → List ℕ → Type 0
-Small b L = (i : ℕ) → at L i < b
-
 module _ (b : ℕ) where
-  -- a small number written into small entries
-  set-small : (L : List ℕ) (i v : ℕ) → Small b L → v < b → Small b (set L i v)
-  set-small L i v S h j = by-cases (decLt i (length L))
-      (λ l. by-cases (ℕ-discrete j i)
-      (λ e. rw (e, getD-set-same L i v 0 l) h)
-      (λ e. rw (getD-set-other L i j v 0 e) (S j)))
-      (λ l. rw (set-out L i v (omega arith)) (S j))
-
   alone-small : (p : Word) → ((i : ℕ) → letter p i < b) → 0 < b → Small b (wordAlone p)
   alone-small p letters h zero = rw (alone-at p 0) h
   alone-small p letters h (suc i) = rw (alone-at p (suc i)) (letters i)
@@ -41,7 +27,7 @@ module _ (b : ℕ) where
   failures-small n [] L to S = S
   failures-small n (f ∷ F) L to S =
       let before = failures-small n F L (λ g i. to g (List·Memᴰ·tail i)) S in
-      set-small (layFailures n F L) (n + f .source) (f .to) before (to f (List·Memᴰ·head refl))
+      set-small b (layFailures n F L) (n + f .source) (f .to) before (to f (List·Memᴰ·head refl))
 
   arrows-small : (n : ℕ) (E : List Arrow) (L : List ℕ) → ((a : Arrow) → List·Memᴰ a E → a .to < b) → length E < b → Small b L
       → Small b (layArrows n E L)
@@ -54,9 +40,9 @@ module _ (b : ℕ) where
       let with-target = set K (4 * n + slot) (a .to) in
       let with-next = set with-target (3 * n + slot) first in
       let before = arrows-small n E L (λ c i. to c (List·Memᴰ·tail i)) (omega arith) S in
-      let target-small = set-small K (4 * n + slot) (a .to) before (to a (List·Memᴰ·head refl)) in
-      let next-small = set-small with-target (3 * n + slot) first target-small (before (2 * n + a .source)) in
-      set-small with-next (2 * n + a .source) slot next-small (omega arith)
+      let target-small = set-small b K (4 * n + slot) (a .to) before (to a (List·Memᴰ·head refl)) in
+      let next-small = set-small b with-target (3 * n + slot) first target-small (before (2 * n + a .source)) in
+      set-small b with-next (2 * n + a .source) slot next-small (omega arith)
 
 -- for every word and every such set there is a table that is read as the set
 pub failure-freedom : (p : Word) (A : FailureArrows) → FailureSet p A → (L : List ℕ) × ReadAsFailure p A L

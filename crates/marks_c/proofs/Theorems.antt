@@ -18,6 +18,8 @@ use Rattle.failure_entries.specs.FailureBuild.{failureBuildSays}
 use Rattle.failure_entries.specs.FailureSearch.{failureSearchSays}
 use Rattle.failure_entries.proofs.BuildSays.{failure-build-numbers}
 use Rattle.failure_entries.proofs.SearchSays.{failure-search-numbers}
+use Rattle.storacle_entries.specs.StoracleBuild.{storacleBuildSays}
+use Rattle.storacle_entries.proofs.BuildSays.{storacle-build-numbers}
 use Rattle.compact_entries.specs.CompactBuild.{compactBuildSays}
 use Rattle.compact_entries.specs.CompactSearch.{compactSearchSays}
 use Rattle.compact_entries.proofs.BuildSays.{compact-build-numbers}
@@ -37,6 +39,7 @@ use Rattle.searcher_bytes.proofs.OpenBytesSays.{open-numbers}
 use Rattle.searcher_bytes.proofs.TakeBytesSays.{take-numbers}
 use Rattle.marks_c.specs.Streams.{openCallSays, takeCallSays}
 use Rattle.marks_c.specs.FailureCalls.{failureBuildCallSays, failureSearchCallSays}
+use Rattle.marks_c.specs.StoracleCalls.{storacleBuildCallSays}
 use Rattle.marks_c.specs.CompactCalls.{compactBuildCallSays, compactSearchCallSays}
 use Rattle.marks_c.specs.SalvageCalls.{salvageCallSays}
 use Rattle.marks_c.specs.Calls.{resultOf, offsetGiven, saveCheckedCallSays}
@@ -96,6 +99,11 @@ pub failure-search-done : (word text : Word) (T : List ℕ) (F : List Place) (c 
     → (failureSearchCallSays word text T F c l f .result ≡ 0) ↔ Succeeds (failureSearchSays word text T F .answer)
 unfolding oneOf
 failure-search-done word text T F c l f = done-exactly (1 ∷ 2 ∷ 4 ∷ 3 ∷ []) [] refl refl _ (failure-search-numbers word text T F)
+
+pub storacle-build-done : (word : Word) (T : List ℕ) (m : ℕ)
+    → (storacleBuildCallSays word T m .result ≡ 0) ↔ Succeeds (storacleBuildSays word T .answer)
+unfolding oneOf
+storacle-build-done word T m = done-exactly (1 ∷ 2 ∷ 3 ∷ []) [] refl refl _ (storacle-build-numbers word T)
 
 pub compact-build-done : (word : Word) (Z T : List ℕ) (m : ℕ)
     → (compactBuildCallSays word Z T m .result ≡ 0) ↔ Succeeds (compactBuildSays word Z T .answer)

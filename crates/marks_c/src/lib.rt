@@ -10,6 +10,7 @@ ghost use Rattle.marks_c.specs.Calls.{searchFileCall, searchFileCallSays
 ghost use Rattle.failure_entries.specs.FailureSearch.{failureAnswer};
 ghost use Rattle.marks_c.specs.FailureCalls.{failureBuildCallSays, failureCountGiven, failureLettersGiven, failuresGiven};
 ghost use Rattle.marks_c.specs.FailureCalls.{failureSearchCall, failureSearchCallSays};
+ghost use Rattle.marks_c.specs.StoracleCalls.{storacleBuildCallSays};
 ghost use Rattle.marks_c.specs.CompactCalls.{compactBuildCall, compactBuildCallSays, compactSearchCall, compactSearchCallSays};
 ghost use Rattle.marks_c.specs.SalvageCalls.{salvageCall, salvageCallSays};
 ghost use Rattle.marks_c.specs.Streams.{openCall, openCallSays, takeCall, takeCallSays};
@@ -235,6 +236,15 @@ pub extern "C" fn marks_failure_search(
 {
     let searched = failure_entries::failure_search(word, text, tables, finds);
     tell_failures(searched, count, letters, failures)
+}
+
+#[no_mangle]
+pub extern "C" fn marks_storacle_build(word: &[u8], tables: &mut [u16], m: &mut u64) -> u32
+    ensures { λ r. ⌜ buildCall r (now (tables .exit)) (now (m .exit))
+        ≡ storacleBuildCallSays (now (word .entry)) (now (tables .entry)) (now (m .entry)) ⌝ }
+{
+    let built = storacle_entries::storacle_build(word, tables);
+    tell_size(built, m)
 }
 
 #[no_mangle]

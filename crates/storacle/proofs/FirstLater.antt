@@ -1,12 +1,12 @@
 -- THE FIRST LATER STATE, as a number and as what holds of it. The number is looked for letter by letter: here, or beyond. So it is what
 -- `FirstLater` says, by induction on how far off the state is; and there is one wherever the letter stands behind the first x.
 use mathlib.Core.Path.{_≡_, refl, _∙_}
-use mathlib.Core.Logic.{_≢_, by-cases}
+use mathlib.Core.Logic.{_≢_, _⊎_, inl, inr, ⊎-elim, by-cases}
 use Prim.Native.Nat.{ℕ, zero, suc, pred, _+_, _-_, _≤_, _<_}
 use native.Mathlib.Decide.{decLe, ℕ-discrete}
 use native.Mathlib.Omega.{arith}
-use lib.ListN.{length, drop}
-use lib.Seq.{drop-cons}
+use lib.ListN.{length}
+use lib.Seq.{drop-cons, drop-length}
 use borrow.Author.Tests.{eq-eqb, ne-eqb}
 use Rattle.words.specs.Words.{Letter, Word, letter}
 use Rattle.oracle.specs.Arrows.{State}
@@ -47,19 +47,29 @@ module _ (p : Word) (c : Letter) where
     first = λ z u v. absurd (omega arith);
   })
 
-  -- or it is looked for beyond, no further than to where the letter stands
+  -- or one that is first beyond
+  beyond : {x y : State} → letter p x ≢ c → FirstLater p (suc x) c y → FirstLater p x c y
+  beyond {x} f F = record {
+    later = omega (arith, F .later);
+    state = F .state;
+    incoming = F .incoming;
+    first = λ z u v. by-cases (ℕ-discrete z (suc x)) (λ g. rw g f) (λ g. F .first z (omega arith) v);
+  }
+
+  -- it is looked for no further than to where the letter stands
   found-by : (d : ℕ) (x k : State) → k ≡ x + d → k < length p → letter p k ≡ c → FirstLater p x c (firstLater p x c)
   found-by zero x k e h q = let own : k ≡ x = omega arith in found-here x (omega arith) (rw own at q)
   found-by (suc d) x k e h q = by-cases (ℕ-discrete (letter p x) c)
       (λ f. found-here x (omega arith) f)
-      (λ f.
-      let F = found-by d (suc x) k (omega arith) h q in
-      rw (first-beyond x (omega arith) f) (record {
-        later = omega (arith, F .later);
-        state = F .state;
-        incoming = F .incoming;
-        first = λ z u v. by-cases (ℕ-discrete z (suc x)) (λ g. rw g f) (λ g. F .first z (omega arith) v);
-      }))
+      (λ f. rw (first-beyond x (omega arith) f) (beyond f (found-by d (suc x) k (omega arith) h q)))
+
+  -- there is one, or the number is 0
+  found-or-not : (n : ℕ) (x : State) → x + n ≡ length p → (firstLater p x c ≡ 0) ⊎ FirstLater p x c (firstLater p x c)
+  unfolding firstIn
+  found-or-not zero x e = let end : x ≡ length p = omega arith in rw end (rw (drop-length p, firstIn) (inl refl))
+  found-or-not (suc n) x e = by-cases (ℕ-discrete (letter p x) c)
+      (λ f. inr (found-here x (omega arith) f))
+      (λ f. rw (first-beyond x (omega arith) f) (⊎-elim inl (λ F. inr (beyond f F)) (found-or-not n (suc x) (omega arith))))
 
 module _ {p : Word} {x : State} {c : Letter} where
   -- the first later state is the one that is looked for
@@ -73,3 +83,7 @@ module _ {p : Word} {x : State} {c : Letter} where
   -- and it is no later than where the letter stands
   pub first-later-least : {y : State} → FirstLater p x c y → (k : ℕ) → x ≤ k → letter p k ≡ c → y ≤ suc k
   first-later-least {y} F k u q = by-cases (decLe y (suc k)) (λ l. l) (λ l. absurd (F .first (suc k) (omega arith) (omega arith) q))
+
+  -- where there is none, the number is 0
+  pub first-later-or-none : x ≤ length p → (firstLater p x c ≡ 0) ⊎ FirstLater p x c (firstLater p x c)
+  first-later-or-none h = found-or-not p c (length p - x) x (omega arith)

@@ -3,7 +3,6 @@
 -- the next letter stands behind state x, and a first later state that has it is found.
 use mathlib.Core.Path.{_≡_, refl, _∙_}
 use mathlib.Core.Option.{none, some}
-use mathlib.Core.List.{[], _∷_}
 use Prim.Native.Nat.{ℕ, zero, suc, _+_, _-_, _≤_, _<_}
 use native.Mathlib.Nat.{le-refl}
 use native.Mathlib.Omega.{arith}
@@ -29,9 +28,9 @@ LeadsFirst p δ = (x : State) (c : Letter) (y : State) → δ x c ≡ some y →
 -- ── One letter ─────────────────────────────────────────────────────────────
 
 module _ (p : Word) (δ : Delta) (x : State) where
-  pub far-ends : farOf p δ x (length p) ≡ record { state = x; upTo = length p }
+  pub far-ends : (k : ℕ) → k ≡ length p → farOf p δ x k ≡ record { state = x; upTo = length p }
   unfolding far
-  far-ends = rw (drop-length p, far)
+  far-ends k e = rw (e, drop-length p, far)
 
   module _ (k : ℕ) (inside : k < length p) where
     pub far-goes : (y : State) → δ x (letter p k) ≡ some y → farOf p δ x k ≡ farOf p δ y (suc k)
@@ -56,12 +55,12 @@ module _ (p : Word) (δ : Delta) (L : LeadsFirst p δ) where
   halts : (n : ℕ) (x : State) (k : ℕ) → k + n ≡ length p → x ≤ k → HaltsAt p δ x k (farOf p δ x k)
   halts zero x k e l =
       let q : k ≡ length p = omega arith in
-      rw (q, far-ends p δ x) (record {
+      rw (far-ends p δ x k q) (record {
         low = omega arith;
-        onward = le-refl _;
+        onward = omega arith;
         inside = le-refl _;
         lacks = λ b. absurd (omega arith);
-        resumes = λ K. refl;
+        resumes = λ K. rw q;
       })
   halts (suc n) x k e l =
       let inside : k < length p = omega arith in
@@ -91,11 +90,12 @@ module _ (p : Word) (δ : Delta) (L : LeadsFirst p δ) where
 pub halted-walk : (p : Word) (δ : Delta) (n : ℕ) (x : State) (k : ℕ) → k + n ≡ length p → farOf p δ x k .upTo ≡ length p
     → walk δ x (drop k p) ≡ some (farOf p δ x k .state)
 unfolding walk
-halted-walk p δ zero x k e q = let f : k ≡ length p = omega arith in rw (f, far-ends p δ x, drop-length p, walk)
+halted-walk p δ zero x k e q = let f : k ≡ length p = omega arith in rw (far-ends p δ x k f, f, drop-length p, walk)
 halted-walk p δ (suc n) x k e q =
     let inside : k < length p = omega arith in
     option-cases (δ x (letter p k))
     (λ d. let stop : k ≡ length p = rw (far-stops p δ x k inside d) at q in absurd (omega arith))
     (λ y d.
     let on = far-goes p δ x k inside y d in
-    rw (on, drop-cons p k 0 inside) (walk-step δ (letter p k) (drop (suc k) p) x y d ∙ halted-walk p δ n y (suc k) (omega arith) (rw on at q)))
+    let rest = halted-walk p δ n y (suc k) (omega arith) (rw on at q) in
+    rw (on, drop-cons p k 0 inside) (walk-step δ (letter p k) (drop (suc k) p) x y d ∙ rest))

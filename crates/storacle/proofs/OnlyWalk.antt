@@ -1,16 +1,15 @@
 -- THE ONLY WALK OF FULL LENGTH. Arrows climb to states, so each letter of a walk climbs by 1 at least, and a walk of m letters climbs by
 -- just 1 each time: it is the spine's.
-use mathlib.Core.Path.{_≡_, ap}
+use mathlib.Core.Path.{_≡_}
 use mathlib.Core.Option.{some}
 use mathlib.Core.List.{[], _∷_}
-use Prim.Native.Nat.{ℕ, suc, pred, _+_, _≤_}
+use Prim.Native.Nat.{suc, pred, _+_, _≤_}
 use native.Mathlib.Omega.{arith}
 use lib.ListN.{length, drop}
 use lib.Seq.{drop-cons, drop-length}
 use Rattle.words.specs.Words.{Word, letter}
 use Rattle.oracle.specs.Arrows.{State, Delta, walk}
 use Rattle.oracle.proofs.Walks.{walk-first}
-use Rattle.storacle.specs.StoracleRule.{FirstLater}
 use Rattle.storacle.proofs.Halting.{LeadsFirst}
 
 module _ (p : Word) (δ : Delta) (L : LeadsFirst p δ) where

@@ -14,9 +14,9 @@ use native.Mathlib.Decide.{ℕ-discrete}
 use native.Mathlib.Omega.{arith}
 use lib.ListN.{length, drop}
 use borrow.Author.Tests.{eq-eqb, ne-eqb}
-use Rattle.words.specs.Words.{Letter, Word, letter}
-use Rattle.oracle.specs.Arrows.{State, Arrow, arrow, target, walk, spine}
-use Rattle.oracle.specs.SuffixRule.{Halt, far}
+use Rattle.words.specs.Words.{Word, letter}
+use Rattle.oracle.specs.Arrows.{State, Arrow, target, walk, spine}
+use Rattle.oracle.specs.SuffixRule.{Halt}
 use Rattle.oracle.proofs.Targets.{target-hit}
 use Rattle.failure.proofs.Halts.{Keeps, walk-kept}
 use Rattle.storacle.specs.StoracleRule.{FirstLater, firstLater, stitch, untilWalked, storacleAfter}
@@ -85,6 +85,12 @@ module _ (p : Word) where
   unfolding untilWalked
   until-more g A i e = rw (untilWalked, ne-eqb (haltOf A i .upTo) (length p) e)
 
+  -- whatever the bound, if it allows one arrow
+  pub until-next : (g : ℕ) (A : List Arrow) (i : ℕ) → haltOf A i .upTo ≢ length p → 0 < g
+      → untilWalked g p i A ≡ untilWalked (g - 1) p i (stitch p (haltOf A i) ∷ A)
+  until-next zero A i e h = absurd (omega arith)
+  until-next (suc g) A i e h = let one : suc g - 1 ≡ g = omega arith in rw one (until-more g A i e)
+
   -- arrows are only added
   pub until-keeps-all : (g i : ℕ) (A : List Arrow) → length A ≤ length (untilWalked g p i A)
   unfolding untilWalked
@@ -137,7 +143,7 @@ module _ (p : Word) where
 
   -- the word runs on the spine
   spine-run : {A : List Arrow} → Stitched p A → (n k : ℕ) → k + n ≡ length p → farOf p (target A) k k .upTo ≡ length p
-  spine-run {A} S zero k e = let q : k ≡ length p = omega arith in rw (q, far-ends p (target A) (length p))
+  spine-run {A} S zero k e = let q : k ≡ length p = omega arith in rw (far-ends p (target A) k k q)
   spine-run {A} S (suc n) k e =
       let inside : k < length p = omega arith in
       rw (far-goes p (target A) k k inside (suc k) (stitched-spine S k inside)) (spine-run S n (suc k) (omega arith))

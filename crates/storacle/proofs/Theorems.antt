@@ -9,7 +9,7 @@ use native.Mathlib.Omega.{arith}
 use lib.ListN.{length, drop, take-append-drop}
 use Rattle.words.specs.Words.{Word, letter, part, Factor}
 use Rattle.words.proofs.Occurrences.{stands-part, stands-inside}
-use Rattle.oracle.specs.Arrows.{State, Arrow, target, walk, OneEach}
+use Rattle.oracle.specs.Arrows.{State, Arrow, walk, OneEach}
 use Rattle.oracle.proofs.Walks.{walk-append}
 use Rattle.storacle.specs.StoracleRule.{FirstLater, untilWalked, storacleAfter, storacleRule, storacle, mostArrows}
 use Rattle.storacle.proofs.Stitched.{Stitched, stitched-first, stitched-to, stitched-spine, stitched-one-each}

@@ -6,7 +6,7 @@ use Prim.Native.Nat.{ℕ, _+_, _*_, _≤_, _<_}
 use native.Mathlib.Omega.{arith}
 use lib.Dec.{leb, ltb}
 use borrow.Author.Tests.{le-leb, lt-leb, lt-ltb, le-ltb}
-use Rattle.words.specs.Limits.{longestWord, longestText, longestStreamed, leastSaved, greatestFile}
+use Rattle.words.specs.Limits.{longestWord, longestText, longestStreamed, longestStoracle, leastSaved, greatestFile}
 
 -- ── The code's constants ───────────────────────────────────────────────────
 
@@ -24,6 +24,11 @@ text-limit = refl
 pub streamed-limit : longestStreamed ≡ 64
 unfolding longestStreamed
 streamed-limit = refl
+
+-- STORACLE_LIMIT
+pub storacle-limit : longestStoracle ≡ 128
+unfolding longestStoracle
+storacle-limit = refl
 
 -- LEAST_SAVED
 pub least-saved : leastSaved ≡ 2

@@ -7,10 +7,10 @@ use mathlib.Core.Option.{Option, none, some}
 use mathlib.Core.List.{List, [], _∷_, _++_, map, List·Memᴰ, List·Memᴰ·head, List·Memᴰ·tail, List·Memᴰ·cases-cons}
 use Prim.Native.Nat.{ℕ, zero, suc, _+_, _-_, _≤_, _<_}
 use native.Mathlib.Nat.{le-refl, zero-add, add-zero, add-suc, suc-add, sub-zero, zero-sub, suc-sub-suc}
-use native.Mathlib.Decide.{ℕ-discrete}
+use native.Mathlib.Decide.{ℕ-discrete, decLt}
 use native.Mathlib.Omega.{arith}
-use lib.ListN.{length, getD, take, drop, replicate, List·getD-map}
-use lib.Seq.{getD-append-add, drop-append-seam, take-at}
+use lib.ListN.{length, getD, take, drop, set, replicate, List·getD-map}
+use lib.Seq.{getD-append-add, getD-set-same, getD-set-other, set-out, drop-append-seam, take-at}
 use Rattle.words.specs.Lists.{at, from, only, first, Rising, end, up}
 
 -- ── Tests and options ──────────────────────────────────────────────────────
@@ -258,3 +258,17 @@ only-shift P d a (suc k) =
 -- an entry behind n others
 pub at-behind : (a b : List ℕ) (n i : ℕ) → length a ≡ n → at (a ++ b) (n + i) ≡ at b i
 at-behind a b n i e = rw (← e) (getD-append-add a b i 0)
+
+-- ── Small entries ──────────────────────────────────────────────────────────
+
+-- every entry is below b
+abbrev pub Small : ℕ → List ℕ → Type 0
+Small b L = (i : ℕ) → at L i < b
+
+-- a small number written into small entries
+pub set-small : (b : ℕ) (L : List ℕ) (i v : ℕ) → Small b L → v < b → Small b (set L i v)
+set-small b L i v S h j = by-cases (decLt i (length L))
+    (λ l. by-cases (ℕ-discrete j i)
+    (λ e. rw (e, getD-set-same L i v 0 l) h)
+    (λ e. rw (getD-set-other L i j v 0 e) (S j)))
+    (λ l. rw (set-out L i v (omega arith)) (S j))

@@ -102,7 +102,8 @@ pub fn random_words(m: usize, letters: u64) -> Vec<Vec<u8>> {
     (0..WORDS).map(|i| Random(88172645463325252 + i).bytes(m, letters)).collect()
 }
 
-type Build = fn(&[u8], &mut [u16]) -> Result<usize, Refusal>;
+/// An entry that makes a table.
+pub type Build = fn(&[u8], &mut [u16]) -> Result<usize, Refusal>;
 
 /// Microseconds of `failure_build` and of `build` for one of the words, by turns. Short words are built more often in a run.
 fn builds(words: &[Vec<u8>]) -> [f64; 2] {
@@ -123,7 +124,7 @@ pub fn us(took: f64) -> String {
 }
 
 /// What words are called, and those of m letters.
-type Kind = (&'static str, fn(usize) -> Vec<Vec<u8>>);
+pub type Kind = (&'static str, fn(usize) -> Vec<Vec<u8>>);
 
 const RANDOM: [Kind; 3] = [
     ("random, 2 letters", |m| random_words(m, 2)),

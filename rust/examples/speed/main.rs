@@ -19,6 +19,7 @@ mod plain_rides;
 mod plain_stream;
 mod rivals;
 mod salvage;
+mod storacle;
 
 use clock::{best, ms};
 use marks::entries::{build, load, save, search, Tally};
@@ -254,8 +255,12 @@ const TABLES: &[(&str, fn())] = &[
     ("compact_short", compact::short_times),
     ("compact_hostile", compact::hostile_times),
     ("compact_build", compact::build_times),
+    ("storacle_build", storacle::build_times),
     ("arrows", arrows::of_random_words),
     ("arrows_all", arrows::of_all_words),
+    ("storacle_arrows", arrows::storacles_of_random_words),
+    ("storacle_all", arrows::storacles_of_all_words),
+    ("storacle_papers", arrows::storacles_of_papers),
 ];
 
 fn main() -> Result<(), String> {

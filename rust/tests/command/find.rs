@@ -57,7 +57,7 @@ fn words_are_bytes_of_any_kind() {
 fn a_word_has_1_byte_to_the_most() {
     let (most, more) = ("a".repeat(LONGEST_WORD), "a".repeat(LONGEST_WORD + 1));
     let here = Folder::new("lengths").with("long", &more);
-    let long = format!("the word is longer than {} bytes, or for a stream than 64 (2)", told(LONGEST_WORD));
+    let long = format!("the word is longer than {} bytes, for a storacle than 128, for a stream than 64 (2)", told(LONGEST_WORD));
     let (empty, advice) = ("the word is empty (1)", format!("give 1 to {} bytes", told(LONGEST_WORD)));
     here.marks(&["find", &most, "long"]).is(0, "0\n1\n");
     for (word, said) in [("", empty), (&more, &long)] {

@@ -4,7 +4,7 @@ use crate::{told, Folder, Said};
 use marks::{LONGEST_FILE, LONGEST_WORD};
 
 const COMMANDS: [&str; 6] = ["find", "salvage", "save", "check", "show", "help"];
-const OPTIONS: [&str; 26] = [
+const OPTIONS: [&str; 27] = [
     "hex",
     "mark",
     "hex-offsets",
@@ -27,6 +27,7 @@ const OPTIONS: [&str; 26] = [
     "edition",
     "dot",
     "failure",
+    "storacle",
     "compact",
     "help",
     "version",
@@ -153,6 +154,7 @@ fn bash_completes_the_line() {
     assert_eq!(offered(&["marks", "salvage", "--extract", "=", "oth"]), ["other"]);
     assert_eq!(offered(&["marks", "find", "--st"]), ["--stats"]);
     assert_eq!(offered(&["marks", "show", "--f"]), ["--failure"]);
+    assert_eq!(offered(&["marks", "show", "--s"]), ["--storacle"]);
     assert_eq!(offered(&["marks", "show", "--c"]), ["--compact"]);
     assert_eq!(offered(&["marks", "find", "--engine", "c"]), ["compact"]);
     assert_eq!(offered(&["marks", "-c", "find", "--engine", "=", "turbo", "--max"]), ["--max-count"]);

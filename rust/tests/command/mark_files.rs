@@ -1,7 +1,7 @@
 //! `marks check` and `marks show`: mark files good and bad.
 
 use crate::{Folder, CHECKED, GOOD};
-use marks::{Mark, Refusal};
+use marks::{Mark, Refusal, LONGEST_STORACLE};
 use std::fs;
 
 #[test]
@@ -30,9 +30,9 @@ fn is_told(folder: &str, bytes: &[u8], refusal: Refusal, offset: usize, advice: 
     let good = "good: good, finds \"baabbba\" (edition 1, 7 letters; it holds the mirror, \"abbbaab\")";
     assert_eq!(unindented, [&format!("bad: refused: {told}"), good]);
     assert_eq!((said.err.as_str(), said.status), ("", Some(1)));
-    let show: [&[&str]; 4] = [&["show", "bad"], &["show", "--dot", "bad"], &["show", "--failure", "bad"], &["show", "--compact", "bad"]];
-    for words in [&[&["find", "-m", "bad", "ride"][..]], &show[..]].concat() {
-        here.marks(words).is_with(2, "", &format!("marks: bad: {told}\n"));
+    let show = ["--", "--dot", "--failure", "--storacle", "--compact"].map(|form| vec!["show", form, "bad"]);
+    for words in [&[vec!["find", "-m", "bad", "ride"]], &show[..]].concat() {
+        here.marks(&words).is_with(2, "", &format!("marks: bad: {told}\n"));
     }
 }
 
@@ -174,6 +174,62 @@ state  letter  failure  arrows out: letter>state, the spine's first
 }
 
 #[test]
+fn show_prints_the_storacle_as_a_table() {
+    let here = Folder::new("show-storacle").with("nine", holding("abcacdace")).with("more", holding("abcdabcdbacbbdaddccaae"));
+    here.marks(&["show", "--storacle", "nine"]).is(
+        0,
+        "\
+finds  \"ecadcacba\"
+holds  \"abcacdace\", its mirror, because the search reads backward
+size   9 letters, 16 arrows
+
+state  letter  arrows out: letter>state, the spine's first
+    0          a>1  b>2  c>3  d>6  e>9
+    1  a       b>2  c>3
+    2  b       c>3
+    3  c       a>4  d>6  e>9
+    4  a       c>5
+    5  c       d>6
+    6  d       a>7
+    7  a       c>8
+    8  c       e>9
+    9  e
+",
+    );
+    let said = here.marks(&["show", "more", "--storacle"]);
+    assert!(said.out.contains("size   22 letters, 67 arrows\n"), "{}", said.out);
+    assert!(said.out.contains("\n    6  b       c>7  d>8  b>9  a>10\n"), "{}", said.out);
+    here.marks_reading(&["show", "--storacle", "-"], b"\x02\x02aa\0\0\x36").is(
+        0,
+        "\
+finds  \"aa\"
+holds  \"aa\", its mirror, because the search reads backward
+size   2 letters, 2 arrows
+
+state  letter  arrows out: letter>state, the spine's first
+    0          a>1
+    1  a       a>2
+    2  a
+",
+    );
+}
+
+#[test]
+fn a_word_that_is_too_long_for_a_storacle_is_refused() {
+    let [most, longer] = [LONGEST_STORACLE, LONGEST_STORACLE + 1].map(|letters| holding(&"a".repeat(letters)));
+    let here = Folder::new("long-storacle").with("most", most).with("longer", longer);
+    let said = here.marks(&["show", "--storacle", "most"]);
+    assert!(said.out.contains("\nsize   128 letters, 128 arrows\n"), "{}", said.out);
+    let told = format!("{}; leave --storacle out, which is for marks of 2 to {LONGEST_STORACLE} bytes", Refusal::LongWord);
+    for words in [&["show", "--storacle", "longer"][..], &["show", "--storacle", "--dot", "longer"]] {
+        here.marks(words).is_with(2, "", &format!("marks: longer: {told}\n"));
+    }
+    for form in ["--", "--failure", "--compact"] {
+        assert_eq!(here.marks(&["show", form, "longer"]).status, Some(0));
+    }
+}
+
+#[test]
 fn show_prints_compact_rows_with_their_memory() {
     let here = Folder::new("show-compact").with("file", GOOD).with("checked", CHECKED);
     let said = here.marks(&["show", "--compact", "file"]);
@@ -219,6 +275,12 @@ fn a_table_fits_the_screen_however_many_arrows_there_are() {
     assert!(rows.iter().all(|row| row.len() <= 80), "{}", said.out);
     assert_eq!(rows.iter().skip(1).flat_map(|row| row[28.min(row.len())..].split_whitespace()).count(), 256 + 255);
     assert!(rows[1].starts_with("    0                      0  \\x00>256  \\x01>255"), "{}", rows[1]);
+    here.marks(&["save", "-x", &every[..2 * LONGEST_STORACLE], "half"]).is(0, "");
+    let said = here.marks(&["show", "--storacle", "half"]);
+    let rows: Vec<&str> = said.out.lines().skip(4).collect();
+    assert!(rows.iter().all(|row| row.len() <= 80), "{}", said.out);
+    assert_eq!(rows.iter().skip(1).flat_map(|row| row[13.min(row.len())..].split_whitespace()).count(), 128 + 127);
+    assert!(rows[1].starts_with("    0          \\x7f>1  ~>2"), "{}", rows[1]);
 }
 
 #[test]
@@ -254,4 +316,17 @@ fn show_prints_graphviz_text() {
         // a title, 256 arrows of the spine, 255 extra ones
         _ => said.is(0, "512\n"),
     }
+}
+
+#[test]
+fn the_arrows_of_a_storacle_beside_the_spine_are_dashed() {
+    let here = Folder::new("dot-storacle").with("file", holding("abadbcaabdbaba"));
+    let said = here.marks(&["show", "--storacle", "--dot", "file"]);
+    let title = r#"  label="finds \"ababdbaacbdaba\": the storacle of its mirror, \"abadbcaabdbaba\"";"#;
+    let lines: Vec<&str> = said.out.lines().collect();
+    assert_eq!((lines.len(), lines[1], said.status), (4 + 14 + 12 + 1, title, Some(0)));
+    for line in [r#"  5 -> 6 [label="c"];"#, r#"  5 -> 10 [label="d", style=dashed, constraint=false];"#] {
+        assert_eq!(lines.iter().filter(|other| **other == line).count(), 1, "{line}: {}", said.out);
+    }
+    assert_eq!(lines.iter().filter(|line| line.contains("dashed")).count(), 12);
 }

@@ -22,7 +22,7 @@ fn what_cannot_be_done_is_said_with_what_to_do() {
     let save = "it takes a WORD and the file to write; as in marks save -x 2e464954 fit.mark";
     let show = "it takes one MARKFILE; name one that marks save wrote, or - for standard input";
     let engines = "it is auto, backward, turbo, failure or compact";
-    let cases: [(&[&str], &str); 38] = [
+    let cases: [(&[&str], &str); 42] = [
         (&["-c"], &format!("command: none is given; {commands}")),
         (&["fnid", "a", "ride"], &format!("fnid: there is no such command; {commands}")),
         (&["find"], "find: no WORD is given; give the word to find, or a mark file with -m"),
@@ -49,6 +49,10 @@ fn what_cannot_be_done_is_said_with_what_to_do() {
         (&["find", "--dot", "a", "ride"], "find: --dot is for show; leave it out"),
         (&["find", "--failure", "a", "ride"], "find: --failure is for show; leave it out"),
         (&["show", "--failure=yes", "ride"], "--failure: it takes no value; leave = and what follows out"),
+        (&["find", "--storacle", "a", "ride"], "find: --storacle is for show; leave it out"),
+        (&["show", "--storacle=yes", "ride"], "--storacle: it takes no value; leave = and what follows out"),
+        (&["show", "--storacle", "--failure", "ride"], "show: both --failure and --storacle are given; choose one"),
+        (&["show", "ride", "--compact", "--storacle"], "show: both --storacle and --compact are given; choose one"),
         (&["find", "--compact", "a", "ride"], "find: --compact is for show; leave it out"),
         (&["show", "--compact=yes", "ride"], "--compact: it takes no value; leave = and what follows out"),
         (&["show", "--compact", "--failure", "ride"], "show: both --failure and --compact are given; choose one"),

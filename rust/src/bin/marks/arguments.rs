@@ -111,11 +111,13 @@ fn check(words: Words) -> Result<Command, Trouble> {
 }
 
 fn show(words: Words) -> Result<Command, Trouble> {
-    words.one_of("show", &["failure", "compact"], "choose one")?;
+    let others = ["failure", "storacle", "compact"];
+    words.one_of("show", &others, "choose one")?;
     let dot = words.has("dot");
-    let kind = match ["failure", "compact"].map(|long| words.has(long)) {
-        [true, _] => Kind::Failure,
-        [_, true] => Kind::Compact,
+    let kind = match others.map(|long| words.has(long)) {
+        [true, ..] => Kind::Failure,
+        [_, true, _] => Kind::Storacle,
+        [.., true] => Kind::Compact,
         _ => Kind::Factor,
     };
     let Ok([file]) = <[OsString; 1]>::try_from(words.rest) else {

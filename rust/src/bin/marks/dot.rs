@@ -11,6 +11,7 @@ pub fn lines(oracle: &Oracle) -> Vec<String> {
     let (name, extra) = match oracle.kind {
         Kind::Factor | Kind::Compact => ("oracle", "style=dashed, constraint=false"),
         Kind::Failure => ("failure oracle", "constraint=false"),
+        Kind::Storacle => ("storacle", "style=dashed, constraint=false"),
     };
     let title = format!("finds {}: the {name} of its mirror, {}", quoted(&mirror(&held)), quoted(&held));
     let mut lines = vec![

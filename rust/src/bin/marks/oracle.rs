@@ -1,19 +1,23 @@
 //! An oracle, read from its table by the rule of docs/TABLE.md: entries are looked up, and nothing is worked out.
 
-use marks::{compact_sets_room, compact_targets_room, entries, failure_table_room, table_room, LoadError, LONGEST_WORD};
+use marks::{
+    compact_sets_room, compact_targets_room, entries, failure_table_room, storacle_table_room, table_room, LoadError, LONGEST_STORACLE,
+    LONGEST_WORD,
+};
 use std::iter;
 
-/// Which oracle of a word, and in which form.
+/// Which automaton of a word, and in which form.
 #[derive(Clone, Copy, PartialEq)]
 pub enum Kind {
     Factor,
     Failure,
+    Storacle,
     /// The same oracle as the first, as compact rows.
     Compact,
 }
 
 pub struct Oracle {
-    /// Rows of m+1 entries: six, or ten of a failure oracle or of compact rows. The first has the letters in each.
+    /// Rows of m+1 entries: six, or ten of a failure oracle or of compact rows, or m+6 of a storacle. The first has the letters in each.
     table: Vec<u16>,
     /// The sets of compact rows, four words for each state.
     sets: Vec<u64>,
@@ -22,7 +26,8 @@ pub struct Oracle {
 }
 
 impl Oracle {
-    /// The oracle in a mark file, or the failure oracle or the compact rows of the same word.
+    /// The oracle in a mark file, or the failure oracle, the storacle or the compact rows of the same word. The word may be too long
+    /// for a storacle.
     pub fn of_file(file: &[u8], kind: Kind) -> Result<Oracle, LoadError> {
         let (mut word, mut table, mut sets) = (vec![0; LONGEST_WORD], vec![0; table_room(LONGEST_WORD)], Vec::new());
         let m = entries::load(file, &mut word, &mut table)?;
@@ -32,12 +37,16 @@ impl Oracle {
                 table = vec![0; failure_table_room(m)];
                 entries::failure_build(&word[..m], &mut table)
             }
+            Kind::Storacle => {
+                table = vec![0; storacle_table_room(m.min(LONGEST_STORACLE))];
+                entries::storacle_build(&word[..m], &mut table)
+            }
             Kind::Compact => {
                 (sets, table) = (vec![0; compact_sets_room(m)], vec![0; compact_targets_room(m)]);
                 entries::compact_build(&word[..m], &mut sets, &mut table)
             }
         };
-        made.expect("a file's word is within the limits");
+        made.map_err(|refusal| LoadError { refusal, offset: None })?;
         Ok(Oracle { table, sets, m, kind })
     }
 
@@ -59,9 +68,9 @@ impl Oracle {
         (state > 0).then(|| self.entry(0, state) as u8)
     }
 
-    /// State 0 has none, and no state of a failure oracle.
+    /// State 0 has none, and no state of a failure oracle or of a storacle.
     pub fn supply(&self, state: usize) -> Option<usize> {
-        (self.kind != Kind::Failure && state > 0).then(|| self.entry(1, state))
+        (matches!(self.kind, Kind::Factor | Kind::Compact) && state > 0).then(|| self.entry(1, state))
     }
 
     /// Where the failure arrow leads, which only states of a failure oracle have. None leads to state 0.
@@ -102,6 +111,7 @@ impl Oracle {
             (Kind::Factor, Some(next)) => (self.entry(2, state)..self.entry(2, next)).map(|slot| self.entry(3, slot)).collect(),
             (Kind::Factor, None) => Vec::new(),
             (Kind::Failure, _) => self.chain(state),
+            (Kind::Storacle, spine) => self.row(state).into_iter().filter(|to| spine != Some(*to)).collect(),
             (Kind::Compact, spine) => self.arrows(state).into_iter().map(|(_, to)| to).filter(|to| spine != Some(*to)).collect(),
         }
     }
@@ -112,6 +122,13 @@ impl Oracle {
         let slots = iter::successors(slot(self.entry(2, state)), |newer| slot(self.entry(3, *newer)));
         let mut targets: Vec<usize> = slots.map(|number| self.entry(4, number)).collect();
         targets.reverse();
+        targets
+    }
+
+    /// The targets in the row of a state of a storacle, which are by column, sorted.
+    fn row(&self, state: usize) -> Vec<usize> {
+        let mut targets: Vec<usize> = self.states().map(|column| self.entry(2 + state, column)).filter(|to| *to > 0).collect();
+        targets.sort_unstable();
         targets
     }
 }
@@ -135,22 +152,32 @@ mod tests {
         );
     }
 
-    /// The failure oracle of a word.
-    fn failure_oracle(word: &[u8]) -> Oracle {
+    fn made_of(word: &[u8], kind: Kind) -> Oracle {
         let finds: Vec<u8> = word.iter().rev().copied().collect();
-        Oracle::of_file(&Mark::new(finds).unwrap().to_file().unwrap(), Kind::Failure).unwrap()
+        Oracle::of_file(&Mark::new(finds).unwrap().to_file().unwrap(), kind).unwrap()
     }
 
     #[test]
     fn so_are_those_of_the_failure_oracle() {
-        let oracle = failure_oracle(b"abcacdace");
+        let oracle = made_of(b"abcacdace", Kind::Failure);
         assert_eq!(oracle.word(), b"abcacdace");
         assert!(oracle.states().all(|x| oracle.extra(x).is_empty() && oracle.supply(x).is_none()));
         let failures = oracle.states().filter_map(|x| oracle.failure(x).map(|to| (x, to)));
         assert_eq!(failures.collect::<Vec<_>>(), [(0, 1), (1, 2), (2, 5), (3, 5), (5, 8)]);
-        let with_a_circle = failure_oracle(b"abadbcaabdbaba");
+        let with_a_circle = made_of(b"abadbcaabdbaba", Kind::Failure);
         let extra = with_a_circle.states().flat_map(|x| with_a_circle.extra(x).into_iter().map(move |to| (x, to)));
         assert_eq!(extra.collect::<Vec<_>>(), [(13, 13)]);
+    }
+
+    #[test]
+    fn so_are_those_of_the_storacle() {
+        let oracle = made_of(b"abcacdace", Kind::Storacle);
+        assert_eq!(oracle.word(), b"abcacdace");
+        assert!(oracle.states().all(|x| oracle.supply(x).is_none() && oracle.failure(x).is_none() && oracle.start(x).is_none()));
+        let extra = oracle.states().flat_map(|x| oracle.extra(x).into_iter().map(move |to| (x, to)));
+        assert_eq!(extra.collect::<Vec<_>>(), [(0, 2), (0, 3), (0, 6), (0, 9), (1, 3), (3, 6), (3, 9)]);
+        // the column of c comes before that of a
+        assert_eq!(made_of(b"cbbabc", Kind::Storacle).extra(2), [4, 6]);
     }
 
     #[test]

@@ -58,7 +58,7 @@ pub static COMMANDS: [Command; 6] = [
         name: "show",
         forms: &[("MARKFILE", "its oracle as a table: states, supplies, arrows")],
         more: &["The oracle is the automaton that the search walks; find --engine failure walks the one that --failure shows, and find \
-             --engine compact the form that --compact shows. The file - is standard input."],
+             --engine compact the form that --compact shows. No search walks what --storacle shows. The file - is standard input."],
         of_commands: false,
     },
     Command {

@@ -1,7 +1,7 @@
 //! What there is to know beside commands and options.
 
 /// When what the man page says was last changed.
-pub const DATE: &str = "2026-11-17";
+pub const DATE: &str = "2026-11-18";
 
 pub const ONE_LINE: &str = "finds byte marks in files of any size, with a proved library";
 

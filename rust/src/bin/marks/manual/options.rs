@@ -12,7 +12,7 @@ const ALL: &[&str] = &["find", "salvage", "save", "check", "show", "help"];
 /// What an option has where nothing is said of it.
 const PLAIN: Known = Known { short: None, long: "", value: None, commands: &[], line: "", more: "" };
 
-pub static OPTIONS: [Known; 26] = [
+pub static OPTIONS: [Known; 27] = [
     Known {
         short: Some(b'x'),
         long: "hex",
@@ -170,6 +170,14 @@ pub static OPTIONS: [Known; 26] = [
         line: "the failure oracle of the same word",
         more: "It is the automaton that find --engine failure walks. A state may have one failure arrow, taken only where no arrow on the \
                letter leaves the state, and reading none. --dot draws these arrows dashed. It is not in the file: it is made of the word.",
+        ..PLAIN
+    },
+    Known {
+        long: "storacle",
+        commands: &["show"],
+        line: "the storacle of the same word, of up to 128 bytes",
+        more: "It is an automaton for comparing, which no search walks. Each arrow leads to the first later state that has its letter; there \
+               are seldom fewer than in the oracle. It is not in the file: it is made of the word.",
         ..PLAIN
     },
     Known {

@@ -1,0 +1,2 @@
+pub mod StoracleBuild
+pub mod Cases

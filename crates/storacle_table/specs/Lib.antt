@@ -1,0 +1,3 @@
+pub mod StoracleTable
+pub mod StoracleFreedom
+pub mod Building
