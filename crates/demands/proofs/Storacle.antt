@@ -11,9 +11,10 @@ use Rattle.words.specs.Lists.{from}
 use Rattle.words.specs.Words.{Letter, Word, letter, Factor}
 use Rattle.words.specs.Limits.{longestStoracle}
 use Rattle.words.proofs.Limits.{storacle-limit}
-use Rattle.oracle.specs.Arrows.{State, Arrow, arrow, target, walk, spine, OneEach}
+use Rattle.oracle.specs.Arrows.{State, Arrow, arrow, Delta, target, walk, spine, OneEach}
 use Rattle.oracle.specs.SuffixRule.{Halt, far}
-use Rattle.storacle.specs.StoracleRule.{FirstLater, firstIn, firstLater, untilWalked, storacleAfter, storacleRule, storacle, mostArrows}
+use Rattle.storacle.specs.StoracleRule.{FirstLater, firstIn, firstLater, untilWalked, storacleAfter, storacleRule, storacle}
+use Rattle.storacle.specs.StoracleRule.{IsStoracle, mostArrows}
 use Rattle.storacle.proofs.Suffixes as Suffixes
 use Rattle.storacle.proofs.Theorems as Theorems
 use Rattle.table.specs.Table.{readWord}
@@ -86,6 +87,14 @@ module _ (p : Word) where
   -- one at most leaves a state on a letter
   pub one-arrow-each : OneEach (storacleRule p)
   one-arrow-each = Theorems.one-each p
+
+  -- what they are without the rule: x has one on c exactly if a factor that is walked to x goes on with c, to the first later state
+  pub a-storacle : IsStoracle p (storacle p)
+  a-storacle = Theorems.rule-makes-it p
+
+  -- and nothing else is so; the order in which the rule takes the suffixes does not matter
+  pub no-other : (δ : Delta) → IsStoracle p δ → (x : State) (c : Letter) → δ x c ≡ storacle p x c
+  no-other = Theorems.no-other p
 
   -- ── 'every factor walked,' ───────────────────────────────────────────────
 

@@ -77,8 +77,8 @@ pub data Example : Type 0 where
   failureRows : (word : Word) (rows : List (List ℕ)) → Example
   -- a word and a text, the starts of the occurrences, the letters read and the failure arrows taken
   failureSearch : (word text : Word) (starts : List Place) (letters failures : ℕ) → Example
-  -- a word's storacle: its arrows beside the spine, and how many it has in all
-  storacleOf : (word : Word) (extra : List Extra) (inAll : ℕ) → Example
+  -- a word's storacle: all its arrows, those of the spine too
+  storacleOf : (word : Word) (arrows : List Extra) → Example
   -- a word whose storacle walks another that does not stand in it
   storacleNoFactor : (word walked : Word) → Example
   -- how many arrows it has in all
@@ -237,7 +237,7 @@ holds (failureRows p rows) =
 holds (failureSearch w t starts n f) =
     let r = failureSteps w t in
     same (r .starts) starts && (eqb (r .letters) n && (eqb (r .failures) f && same (occurrences w t) starts))
-holds (storacleOf p l n) = eqb (length (storacleRule p)) n && (eqb (length p + length l) n && has (storacle p) p l)
+holds (storacleOf p l) = eqb (length (storacleRule p)) (length l) && has (storacle p) p l
 holds (storacleNoFactor p v) = walked (walk (storacle p) 0 v) && empty (occurrences v p)
 holds (storacleCounts p n) = eqb (length (storacleRule p)) n
 holds (storacleRows p rows) =
@@ -355,10 +355,13 @@ table =
     ∷ failureSearch (word "ab") (word "abxa") (0 ∷ []) 4 1
     ∷ failureSearch (word "abc") (word "xxxxxx") [] 2 4
     ∷ failureSearch (word "abc") (word "ab") [] 0 0
-    ∷ storacleOf (word "a") [] 1
-    ∷ storacleOf (word "abcacdace") (0 to 2 ∷ 0 to 3 ∷ 0 to 6 ∷ 0 to 9 ∷ 1 to 3 ∷ 3 to 6 ∷ 3 to 9 ∷ []) 16
+    ∷ storacleOf (word "a") (0 to 1 ∷ [])
+    ∷ storacleOf (word "abcacdace") (
+    0 to 1 ∷ 0 to 2 ∷ 0 to 3 ∷ 0 to 6 ∷ 0 to 9 ∷ 1 to 2 ∷ 1 to 3 ∷ 2 to 3
+    ∷ 3 to 4 ∷ 3 to 6 ∷ 3 to 9 ∷ 4 to 5 ∷ 5 to 6 ∷ 6 to 7 ∷ 7 to 8 ∷ 8 to 9 ∷ [])
+    ∷ storacleCounts (word "abcacdace") 16
     ∷ storacleNoFactor (word "abcacdace") (word "abce")
-    ∷ storacleOf (word "abaa") (0 to 2 ∷ 1 to 3 ∷ []) 6
+    ∷ storacleOf (word "abaa") (0 to 1 ∷ 0 to 2 ∷ 1 to 2 ∷ 1 to 3 ∷ 2 to 3 ∷ 3 to 4 ∷ [])
     ∷ storacleRows (word "abaa") (
     (0 ∷ word "abaa")
     ∷ (0 ∷ 1 ∷ 2 ∷ 1 ∷ 1 ∷ [])

@@ -4,4 +4,6 @@ pub mod Halting
 pub mod Suffixes
 pub mod OnlyWalk
 pub mod Count
+pub mod Taken
+pub mod OneStoracle
 pub mod Theorems

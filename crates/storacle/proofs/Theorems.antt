@@ -1,19 +1,25 @@
 -- THE THEOREMS on the storacle, for every word, each a sentence about the definitions alone. The proofs are in the other files: arrows are
--- added one by one, each to the first later state (`Stitched`), by them all suffixes are walked (`Suffixes`), a walk as long as the word is
--- the word's (`OnlyWalk`), and they are counted by suffix (`Count`).
-use mathlib.Core.Path.{_≡_, refl}
+-- added one by one, each to the first later state (`Stitched`), by them all suffixes are walked (`Suffixes`), each is taken by a factor
+-- (`Taken`), and so they are those of the only storacle (`OneStoracle`); a walk as long as the word is the word's (`OnlyWalk`), and they
+-- are counted by suffix (`Count`).
+use mathlib.Core.Path.{_≡_, refl, sym, _∙_}
 use mathlib.Core.Option.{some}
 use mathlib.Core.List.{List, [], _∷_, List·Memᴰ}
 use Prim.Native.Nat.{ℕ, suc, _+_, _-_, _≤_, _<_}
 use native.Mathlib.Omega.{arith}
 use lib.ListN.{length, drop, take-append-drop}
-use Rattle.words.specs.Words.{Word, letter, part, Factor}
+use Rattle.words.specs.Words.{Letter, Word, letter, part, Factor}
+use Rattle.words.proofs.Words.{part-snoc}
 use Rattle.words.proofs.Occurrences.{stands-part, stands-inside}
-use Rattle.oracle.specs.Arrows.{State, Arrow, walk, OneEach}
-use Rattle.oracle.proofs.Walks.{walk-append}
-use Rattle.storacle.specs.StoracleRule.{FirstLater, untilWalked, storacleAfter, storacleRule, storacle, mostArrows}
+use Rattle.oracle.specs.Arrows.{State, Arrow, Delta, walk, OneEach}
+use Rattle.oracle.proofs.Targets.{target-member}
+use Rattle.oracle.proofs.Walks.{walk-append, walk-snoc}
+use Rattle.storacle.specs.StoracleRule.{FirstLater, untilWalked, storacleAfter, storacleRule, storacle}
+use Rattle.storacle.specs.StoracleRule.{GoesOn, IsStoracle, mostArrows}
 use Rattle.storacle.proofs.Stitched.{Stitched, stitched-first, stitched-to, stitched-spine, stitched-one-each}
 use Rattle.storacle.proofs.Suffixes.{haltOf, AllWalked, all-walked, rule-walks, until-enough}
+use Rattle.storacle.proofs.Taken.{after-taken}
+use Rattle.storacle.proofs.OneStoracle.{one-storacle}
 use Rattle.storacle.proofs.OnlyWalk as OnlyWalk
 use Rattle.storacle.proofs.Count as Count
 
@@ -54,6 +60,11 @@ module _ (p : Word) where
   pub spine-kept : (x : State) → x < m → storacle p x (letter p x) ≡ some (suc x)
   spine-kept = stitched-spine rule-stitched
 
+  -- none that no factor takes
+  pub arrow-taken : (x y : State) (c : Letter) → storacle p x c ≡ some y → GoesOn p (storacle p) x c
+  unfolding storacleRule
+  arrow-taken x y c e = after-taken p (m - 1) (omega arith) _ (target-member (storacleRule p) x c y e)
+
   -- m to m(m+1)/2 of them
   pub arrows-least : m ≤ length (storacleRule p)
   unfolding storacleRule
@@ -77,6 +88,27 @@ module _ (p : Word) where
       let s = f .0 in
       let inside = stands-inside (c ∷ v) p s (omega arith) (f .1) in
       rw (stands-part (c ∷ v) p s (f .1)) at (part-walked s (length (c ∷ v)) (omega arith))
+
+  -- so where a factor that is walked to x goes on with c, x has an arrow on c
+  pub arrow-there : (x : State) (c : Letter) → GoesOn p (storacle p) x c → (y : State) × (storacle p x c ≡ some y)
+  arrow-there x c G =
+      let s = G .start in
+      let n = G .count in
+      let inside = G .inside in
+      let r = part-walked s (suc n) (omega arith) in
+      let longer : walk (storacle p) 0 (part p s (suc n)) ≡ storacle p x (letter p (s + n)) =
+      rw (part-snoc p s n inside) (walk-snoc (storacle p) (part p s n) (letter p (s + n)) 0 x (G .walked)) in
+      (r .0, rw (G .next) at (sym longer ∙ r .1))
+
+  -- so the rule makes a storacle, and a word has no other
+  pub rule-makes-it : IsStoracle p (storacle p)
+  rule-makes-it = record {
+    leads-first = stitched-to rule-stitched;
+    exactly = λ x c. (λ r. arrow-taken x (r .0) c (r .1), arrow-there x c);
+  }
+
+  pub no-other : (δ : Delta) → IsStoracle p δ → (x : State) (c : Letter) → δ x c ≡ storacle p x c
+  no-other δ S = one-storacle p δ (storacle p) S rule-makes-it
 
   -- walks climb, to no state above m
   climbs : (v : Word) (y : State) → walk (storacle p) 0 v ≡ some y → (length v + 0 ≤ y) × (y ≤ m)

@@ -9,6 +9,9 @@
 --   storacleAfter p i    the arrows with which the suffixes 1 to i are walked, the last one first
 --   storacleRule p       those of all suffixes
 --   storacle p           where they lead
+--   GoesOn p δ x c       a factor of p is walked to x, and goes on with c in p
+--   IsStoracle p δ       what a storacle is without the rule: arrows lead to the first later state that has their letter, and x has one
+--                        on c exactly if a factor that is walked to x goes on with c
 --   mostArrows m         as many as the suffixes of m letters have letters
 --
 -- Every arrow that is added lets the suffix be walked a letter further at least (a theorem), so m of them are enough for each suffix.
@@ -16,13 +19,14 @@
 -- 02, 'Storacle'.
 use mathlib.Core.Path.{_≡_}
 use mathlib.Core.Bool.{cond}
-use mathlib.Core.Logic.{_≢_}
+use mathlib.Core.Logic.{_↔_, _≢_}
+use mathlib.Core.Option.{some}
 use mathlib.Core.List.{List, [], _∷_}
 use Prim.Native.Nat.{ℕ, zero, suc, pred, _+_, _-_, _*_, _/_, _≤_, _<_}
 use lib.ListN.{length, drop}
 use lib.Dec.{eqb}
-use Rattle.words.specs.Words.{Letter, Word, letter}
-use Rattle.oracle.specs.Arrows.{State, Arrow, arrow, Delta, target, spine}
+use Rattle.words.specs.Words.{Letter, Word, Place, letter, part}
+use Rattle.oracle.specs.Arrows.{State, Arrow, arrow, Delta, target, walk, spine}
 use Rattle.oracle.specs.SuffixRule.{Halt, far}
 
 -- ── The first later state ──────────────────────────────────────────────────
@@ -64,6 +68,21 @@ storacleRule p = storacleAfter p (length p - 1)
 
 abbrev pub storacle : Word → Delta
 storacle p = target (storacleRule p)
+
+-- ── Without the rule ───────────────────────────────────────────────────────
+
+pub record GoesOn (p : Word) (δ : Delta) (x : State) (c : Letter) : Type 0 where
+  pub start : Place
+  pub count : ℕ
+  pub inside : start + count < length p
+  pub walked : walk δ 0 (part p start count) ≡ some x
+  pub next : letter p (start + count) ≡ c
+
+pub record IsStoracle (p : Word) (δ : Delta) : Type 0 where
+  pub leads-first : (x : State) (c : Letter) (y : State) → δ x c ≡ some y → FirstLater p x c y
+  pub exactly : (x : State) (c : Letter) → ((y : State) × (δ x c ≡ some y)) ↔ GoesOn p δ x c
+
+-- ── How many ───────────────────────────────────────────────────────────────
 
 unfoldable pub mostArrows : ℕ → ℕ
 mostArrows m = (m * (m + 1)) / 2
