@@ -105,12 +105,12 @@ pub fn random_words(m: usize, letters: u64) -> Vec<Vec<u8>> {
 /// An entry that makes a table.
 pub type Build = fn(&[u8], &mut [u16]) -> Result<usize, Refusal>;
 
-/// Microseconds of `failure_build` and of `build` for one of the words, by turns. Short words are built more often in a run.
-fn builds(words: &[Vec<u8>]) -> [f64; 2] {
+/// Microseconds of an entry, which takes so much room, and of `build` for one of the words, by turns. Short words are built more often in a run.
+pub fn builds(entry: Build, room: usize, words: &[Vec<u8>]) -> [f64; 2] {
     let m = words[0].len();
-    let (mut tables, mut base_tables, built) = (vec![0; failure_table_room(m)], vec![0; table_room(m)], words.len() * LONGEST_WORD / m);
+    let (mut tables, mut base_tables, built) = (vec![0; room], vec![0; table_room(m)], words.len() * LONGEST_WORD / m);
     let run = |entry: Build, tables: &mut [u16]| words.iter().cycle().take(built).for_each(|word| assert_eq!(entry(word, tables), Ok(m)));
-    let times = by_turns(0.5, [&mut || run(failure_build, &mut tables), &mut || run(build, &mut base_tables)]);
+    let times = by_turns(0.5, [&mut || run(entry, &mut tables), &mut || run(build, &mut base_tables)]);
     times.map(|seconds| seconds * 1e6 / built as f64)
 }
 
@@ -146,7 +146,7 @@ const REPEATING: [Kind; 7] = [
 fn build_lines(kinds: &[Kind]) -> [Vec<f64>; 2] {
     let mut growths = [Vec::new(), Vec::new()];
     for (name, words_of) in kinds {
-        let times = BUILT.map(|m| builds(&words_of(m)));
+        let times = BUILT.map(|m| builds(failure_build, failure_table_room(m), &words_of(m)));
         let [ours, base] = [0, 1].map(|i| times[3][i] / times[2][i]);
         let cells = times.map(|[ours, base]| format!("{} ({:.1})", us(ours), ours / base)).join(" | ");
         println!("| {name} | failure_build | {cells} | {ours:.1} |");

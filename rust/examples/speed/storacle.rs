@@ -1,9 +1,8 @@
 //! The making of a storacle's table beside that of the oracle's.
 
-use crate::clock::by_turns;
-use crate::failure::{random_words, us, Build, Kind};
-use marks::entries::{build, storacle_build};
-use marks::{storacle_table_room, table_room, LONGEST_STORACLE, LONGEST_WORD};
+use crate::failure::{builds, random_words, us, Kind};
+use marks::entries::storacle_build;
+use marks::{storacle_table_room, LONGEST_STORACLE};
 
 /// The lengths of the words.
 const LENGTHS: [usize; 4] = [4, 16, 64, LONGEST_STORACLE];
@@ -22,19 +21,10 @@ const KINDS: [Kind; 7] = [
     ("many arrows", |m| vec![MANY_ARROWS[..m].to_vec()]),
 ];
 
-/// Microseconds of `storacle_build` and of `build` for one of the words, by turns. Short words are built more often in a run.
-fn builds(words: &[Vec<u8>]) -> [f64; 2] {
-    let m = words[0].len();
-    let (mut tables, mut base_tables, built) = (vec![0; storacle_table_room(m)], vec![0; table_room(m)], words.len() * LONGEST_WORD / m);
-    let run = |entry: Build, tables: &mut [u16]| words.iter().cycle().take(built).for_each(|word| assert_eq!(entry(word, tables), Ok(m)));
-    let times = by_turns(0.5, [&mut || run(storacle_build, &mut tables), &mut || run(build, &mut base_tables)]);
-    times.map(|seconds| seconds * 1e6 / built as f64)
-}
-
 pub fn build_times() {
     println!("| Word | m = {} |\n|{}", LENGTHS.map(|m| m.to_string()).join(" | "), "---|".repeat(1 + LENGTHS.len()));
     for (name, words_of) in KINDS {
-        let times = LENGTHS.map(|m| builds(&words_of(m)));
+        let times = LENGTHS.map(|m| builds(storacle_build, storacle_table_room(m), &words_of(m)));
         println!("| {name} | {} |", times.map(|[ours, base]| format!("{} ({:.1})", us(ours), ours / base)).join(" | "));
     }
     println!("\nMicroseconds of storacle_build, and in brackets how many times those of build.");
