@@ -1,5 +1,7 @@
 // What an entry answers: done with a value, or refused with a number of the table in docs/PROMISES.md. One way for all entries; serves them
 // and whoever calls them.
+#![tactic(auto)]
+
 ghost use Rattle.std.specs.Prelude.{◌≡◌};
 ghost use Rattle.answers.specs.Answers.{number_of};
 

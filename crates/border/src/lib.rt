@@ -1,4 +1,6 @@
 // Borders of words: the longest borders of all beginnings of a word, in time linear in its length. Serves the searches.
+#![tactic(auto)]
+
 ghost use Rattle.std.specs.Prelude.{◌≡◌, [], ◌∷◌, ◌++◌, ◌<◌, ◌≤◌, length};
 ghost use Rattle.words.specs.Words.{part};
 ghost use Rattle.border.specs.Borders.{borders, longest_end, Known};

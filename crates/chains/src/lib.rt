@@ -1,6 +1,8 @@
 // The table of an oracle while letters are added: six rows of n entries, of which this room fills four. Row 0 holds the letters from the
 // start, row 1 gets the supplies, and each state's extra arrows are a chain of slots, newest first: row 2 has a state's first slot, row 4
 // the next slot, row 5 the target. Serves the table's room, which lays the chains out.
+#![tactic(auto)]
+
 ghost use Rattle.std.specs.Prelude.{◌≡◌, ◌+◌, ◌*◌, ◌<◌, ◌≤◌, length};
 ghost use Rattle.words.specs.Lists.{at};
 ghost use Rattle.words.specs.Answers.{supply_of};

@@ -1,5 +1,7 @@
 // The entry that saves with a check: any word and any room may be handed to it. It answers, or refuses with a number of the table in
 // docs/PROMISES.md, and its one promise fixes the answer and every entry of every lent buffer, for refusals too.
+#![tactic(auto)]
+
 ghost use Rattle.std.specs.Prelude.{◌≡◌, ◌-◌};
 ghost use Rattle.mark_files.specs.Save.{saved_as, save_checked_says};
 

@@ -1,5 +1,7 @@
 // Compact rows, the second form of an oracle's table: how an arrow is found there. A letter without one is told by one bit; where there is
 // one, the ones below it are counted. Serves the filling, the search and the entries.
+#![tactic(auto)]
+
 ghost use Rattle.std.specs.Prelude.{◌≡◌, true, ◌+◌, ◌-◌, ◌*◌, ◌/◌, ◌%◌, ◌<◌, ◌≤◌, length};
 ghost use Rattle.std.proofs.Math.Option.{some};
 ghost use Rattle.std.specs.Int.Count.{ones};

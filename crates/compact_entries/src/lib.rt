@@ -1,5 +1,7 @@
 // The entries of compact rows: any word, any text and any rooms may be handed to them. Each answers, or refuses with a number of the table
 // in docs/PROMISES.md, and its one promise fixes the answer and every entry of every lent buffer, for refusals too.
+#![tactic(auto)]
+
 ghost use Rattle.std.specs.Prelude.{◌≡◌};
 ghost use Rattle.compact_entries.specs.CompactBuild.{compact_built, compact_build_says};
 ghost use Rattle.compact_entries.specs.CompactSearch.{compact_searched, compact_search_says};

@@ -1,6 +1,8 @@
 // How compact rows are filled, in time linear in m: the first form of the same word is made in the entries; state by state its arrows are
 // marked in the words, where each word's targets start is told, and the targets are put in their places; then what was the first form's
 // alone is cleared. Serves the entries.
+#![tactic(auto)]
+
 ghost use Rattle.std.specs.Prelude.{◌≡◌, cond, ℕ, suc, ◌+◌, ◌*◌, ◌<◌, ◌≤◌, length, set, replicate, ltb};
 ghost use Rattle.std.proofs.Math.Option.{some};
 ghost use Rattle.words.specs.Lists.{at};

@@ -1,6 +1,8 @@
 // The backward search over compact rows: a window is read from its end, and moved to behind the first letter that has no arrow. In a text
 // that is long beside the word the arrows of the first states are prepared in small arrays, as many as fit into two kilobytes. Serves the
 // entries.
+#![tactic(auto)]
+
 ghost use Rattle.std.specs.Prelude.{◌≡◌, ℕ, ◌+◌, ◌-◌, ◌<◌, ◌≤◌, length};
 ghost use Rattle.words.specs.Lists.{at};
 ghost use Rattle.prepared.specs.Prepared.{told};

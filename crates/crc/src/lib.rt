@@ -1,4 +1,6 @@
 // The check of a string of bytes, CRC-16/ARC, half a byte at a time. Serves the wider function over it.
+#![tactic(auto)]
+
 ghost use Rattle.std.specs.Prelude.{◌≡◌};
 ghost use Rattle.crc.specs.Check.{shifts, check};
 

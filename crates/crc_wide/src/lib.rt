@@ -1,4 +1,6 @@
 // The check of a string of bytes, six bytes at a time in a register of 64 bits. Serves the files.
+#![tactic(auto)]
+
 ghost use Rattle.std.specs.Prelude.{◌≡◌, ◌+◌, ◌*◌, ◌%◌, ◌^◌, ◌≤◌, ◌<◌, length};
 ghost use Rattle.crc.specs.Check.{shifts, fed, bits_of, check};
 ghost use Rattle.crc_wide.specs.Wide.{six_at, taken_six, taken_byte, sixteen_past};

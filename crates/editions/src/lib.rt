@@ -1,4 +1,6 @@
 // The two editions of a saved file: how a file of either begins and ends, and the check that is written and judged. Serves the entries.
+#![tactic(auto)]
+
 ghost use Rattle.std.specs.Prelude.{◌≡◌, ◌++◌, ◌+◌, ◌≤◌, ◌<◌, length, take, drop, set};
 ghost use Rattle.words.specs.Limits.{longest_word};
 ghost use Rattle.saved.specs.Stepping.{Tabled};

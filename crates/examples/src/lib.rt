@@ -1,1 +1,2 @@
 // The worked examples of 01 that are marked P, as one table over the definitions. No code.
+#![tactic(auto)]

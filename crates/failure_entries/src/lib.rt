@@ -1,5 +1,7 @@
 // The entries of the failure oracle: any word, any text and any room may be handed to them. Each answers, or refuses with a number of the
 // table in docs/PROMISES.md, and its one promise fixes the answer and every entry of every lent buffer, for refusals too.
+#![tactic(auto)]
+
 ghost use Rattle.std.specs.Prelude.{◌≡◌};
 ghost use Rattle.marks.specs.Build.{built};
 ghost use Rattle.failure_entries.specs.FailureBuild.{failure_build_says};

@@ -1,5 +1,7 @@
 // The backward search over the table of a failure oracle: a window's letters are read by both kinds of arrow, and reading all of them is no
 // find by itself, so the word is compared. Serves the entries.
+#![tactic(auto)]
+
 ghost use Rattle.std.specs.Prelude.{◌≡◌, ◌+◌, ◌-◌, ◌<◌, ◌≤◌, length};
 ghost use Rattle.words.specs.Lists.{at};
 ghost use Rattle.words.specs.Words.{letter};

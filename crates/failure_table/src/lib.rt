@@ -1,5 +1,7 @@
 // The table of a word's failure oracle, 10(m+1) entries of 16 bits in rows: how it is filled, and what becomes of a letter by it. Serves
 // the search and the entries.
+#![tactic(auto)]
+
 ghost use Rattle.std.specs.Prelude.{◌≡◌, ◌+◌, ◌*◌, ◌<◌, ◌≤◌, length};
 ghost use Rattle.words.specs.Words.{mirror, same};
 ghost use Rattle.words.specs.Answers.{arrow_to};

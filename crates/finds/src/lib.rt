@@ -1,5 +1,7 @@
 // The caller's list of finds: the first of them, as many as fit, and their exact number. This room alone writes finds; every search above
 // it does so here.
+#![tactic(auto)]
+
 ghost use Rattle.std.specs.Prelude.{◌≡◌, List, [], ◌∷◌, ◌++◌, ℕ, ◌+◌, ◌<◌, length};
 ghost use Rattle.finds.specs.Finds.{filled};
 

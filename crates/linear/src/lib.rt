@@ -1,5 +1,7 @@
 // The entry of the Turbo search: as the search over words, but at most two letters are read for each letter of the text. Any word, text and
 // room may be handed to it, and its one promise fixes the answer and every entry of every lent buffer, for refusals too.
+#![tactic(auto)]
+
 ghost use Rattle.std.specs.Prelude.{◌≡◌};
 ghost use Rattle.marks.specs.Search.{searched};
 ghost use Rattle.linear.specs.Turbo.{turbo_says};

@@ -1,5 +1,7 @@
 // Loading a saved file: reading it field by field and comparing its arrows with the word's own. Nothing is written here. Serves the
 // entries.
+#![tactic(auto)]
+
 ghost use Rattle.std.specs.Prelude.{◌≡◌};
 ghost use Rattle.number.specs.Number.{number_at};
 ghost use Rattle.saved.specs.File.{own_steps};

@@ -1,5 +1,7 @@
 // The entries over files: any word, any file, any text and any room may be handed to them. Each answers, or refuses with a number of the
 // table in docs/PROMISES.md, and its one promise fixes the answer and every entry of every lent buffer, for refusals too.
+#![tactic(auto)]
+
 ghost use Rattle.std.specs.Prelude.{◌≡◌, ◌+◌, ◌*◌, ◌<◌, ◌≤◌, length, replicate};
 ghost use Rattle.table.specs.Table.{read_arrow};
 ghost use Rattle.table.specs.Formed.{Formed};

@@ -1,5 +1,7 @@
 // The entries over words: any word, any text and any room may be handed to them. Each answers, or refuses with a number of the table in
 // docs/PROMISES.md, and its one promise fixes the answer and every entry of every lent buffer, for refusals too.
+#![tactic(auto)]
+
 ghost use Rattle.std.specs.Prelude.{◌≡◌};
 ghost use Rattle.marks.specs.Build.{built, build_says};
 ghost use Rattle.marks.specs.Search.{searched, search_says};

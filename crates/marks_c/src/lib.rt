@@ -1,6 +1,8 @@
 // The entries for C and Rust, by numbers and slices alone: a slice is a pointer and a length. Each returns 0 and writes its answers through
 // the last pointers, or returns the refusal's number and leaves those pointers alone, but for the offset where the refusal has one, which
 // nothing else writes. There is no state and no heap, so calls on buffers of their own may run at the same time.
+#![tactic(auto)]
+
 ghost use Rattle.std.specs.Prelude.{◌≡◌};
 ghost use Rattle.answers.specs.Answers.{number_of, size_answer, tally_answer};
 ghost use Rattle.marks_c.specs.Calls.{result_of, size_given, count_given, letters_given, offset_given, place_given};

@@ -1,4 +1,6 @@
 // The numbers of a saved file: groups of seven bits, one spelling each. Serves the rooms above, which load and save.
+#![tactic(auto)]
+
 ghost use Rattle.std.specs.Prelude.{◌≡◌, ◌+◌, ◌≤◌, length};
 ghost use Rattle.number.specs.Number.{spell_number, written, refuses, number_at};
 

@@ -1,4 +1,6 @@
 // A text that comes in pieces: what is kept of it, that this is enough to go on, and the run over one piece. Serves the searchers.
+#![tactic(auto)]
+
 ghost use Rattle.std.specs.Prelude.{◌≡◌, ◌≢◌, map, ℕ, ◌+◌, ◌-◌, ◌<◌, ◌≤◌, length};
 ghost use Rattle.words.specs.Limits.{longest_text};
 ghost use Rattle.words.specs.Words.{letter, occurrences};

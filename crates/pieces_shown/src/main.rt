@@ -2,6 +2,8 @@
 // piece ends, how many finds end in it, what the lent list holds afterwards, and how often the word was found in all, which is proved to be
 // how often it stands in the text. `tools/expect` computes the same lines another way, and they are the file `stdout`. Before a piece each
 // entry of the list is 77.
+#![tactic(auto)]
+
 ghost use Rattle.std.specs.Prelude.{◌≡◌, ◌<◌, ◌≤◌, length};
 ghost use Rattle.words.specs.Limits.{longest_streamed, longest_text};
 ghost use Rattle.words.specs.Words.{occurrences};

@@ -2,6 +2,8 @@
 // any arrow can follow those on a letter; and `dense`, a column of arrows for each letter, one for each of the first states, with
 // `column`, where a letter's column starts. Letters that the word has not share the column at 0, which stays empty. All of it is filled
 // from the arrows, in time linear in m. Serves the searches.
+#![tactic(auto)]
+
 ghost use Rattle.std.specs.Prelude.{◌≡◌, ◌≢◌, true, ℕ, ◌<◌, ◌≤◌, length};
 ghost use Rattle.words.specs.Lists.{at};
 ghost use Rattle.table.specs.Formed.{Formed};

@@ -1,5 +1,7 @@
 // Reading the header of a ride: whether `.FIT` at a place is in one, where it begins, and whether the ride that it declares ends within the
 // text. What it declares comes from a stranger: it decides that and nothing else. Serves the lister.
+#![tactic(auto)]
+
 ghost use Rattle.std.specs.Prelude.{◌≡◌, ◌+◌, ◌<◌, ◌≤◌, length};
 ghost use Rattle.rides.specs.Rides.{allowed, data_size};
 ghost use Rattle.rides.specs.Answers.{header_of};

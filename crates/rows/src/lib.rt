@@ -1,4 +1,6 @@
 // Rows of numbers, one entry after the other: copied, and compared. Serves the searchers and their bytes.
+#![tactic(auto)]
+
 ghost use Rattle.std.specs.Prelude.{◌≡◌, ℕ, ◌<◌, length};
 ghost use Rattle.words.specs.Lists.{at};
 ghost use Rattle.words.specs.Words.{same};

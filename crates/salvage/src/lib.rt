@@ -2,6 +2,8 @@
 // docs/PROMISES.md, and its one promise fixes the answer and every entry of every lent buffer, for refusals too. The text is searched for
 // `.FIT` in parts, each into a list of the call's own that has an entry for every find which a part can have. So no find is looked for
 // twice, and the time is linear whatever the text holds.
+#![tactic(auto)]
+
 ghost use Rattle.std.specs.Prelude.{◌≡◌, [], ◌∷◌, map, ◌+◌, ◌<◌, ◌≤◌, length};
 ghost use Rattle.words.specs.Words.{mirror};
 ghost use Rattle.words.specs.Limits.{longest_text};

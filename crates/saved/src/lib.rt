@@ -1,4 +1,6 @@
 // The saved file of a word: its one spelling, and writing it from the word's table. Serves the entries.
+#![tactic(auto)]
+
 ghost use Rattle.std.specs.Prelude.{◌≡◌, ◌++◌, ◌<◌, ◌≤◌, length, drop};
 ghost use Rattle.saved.specs.File.{own_steps, spell};
 ghost use Rattle.saved.specs.Stepping.{Tabled, Standing, Leapt};

@@ -1,5 +1,7 @@
 // The backward search over a table: a window is read from its end, and moved to behind the first letter that has no arrow. In a long text
 // the arrows are prepared first, so that most are not looked for. Serves the entries.
+#![tactic(auto)]
+
 ghost use Rattle.std.specs.Prelude.{◌≡◌, ◌+◌, ◌<◌, ◌≤◌, length, replicate};
 ghost use Rattle.table.specs.Formed.{Formed};
 ghost use Rattle.table.specs.Table.{read_arrow};

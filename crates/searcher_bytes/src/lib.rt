@@ -1,5 +1,7 @@
 // Searchers as lent bytes: packed, unpacked, opened and handed a piece. Any bytes may be handed to `open` and `take`; their one promise
 // fixes the answer, every byte and every entry of the list, for refusals too.
+#![tactic(auto)]
+
 ghost use Rattle.std.specs.Prelude.{◌≡◌, ℕ, ◌<◌, length};
 ghost use Rattle.words.specs.Lists.{at};
 ghost use Rattle.answers.specs.Answers.{size_answer};

@@ -1,6 +1,8 @@
 // Runs the worked examples of files by the entries for C, and writes a line for each: what is handed over, the number returned, the answer
 // and, of a load, the offset, and what the lent buffers hold afterwards. `tools/expect` computes the same lines another way, from 01 and 02
 // alone, and they are the file `stdout`. Before a call each lent byte is 6, each table entry 7, the answer 0 and the offset 99999.
+#![tactic(auto)]
+
 use io::{print_decimal, write_all};
 use libc::STDOUT_FILENO;
 use words::WORD_LIMIT;

@@ -1,1 +1,2 @@
 // Mathematics alone: the storacle by its rule, and what holds of it. No code.
+#![tactic(auto)]

@@ -1,5 +1,7 @@
 // The entry of the storacle: any word and any room may be handed to it. It answers, or refuses with a number of the table in
 // docs/PROMISES.md, and its one promise fixes the answer and every entry of the lent room, for refusals too.
+#![tactic(auto)]
+
 ghost use Rattle.std.specs.Prelude.{◌≡◌};
 ghost use Rattle.marks.specs.Build.{built};
 ghost use Rattle.storacle_entries.specs.StoracleBuild.{storacle_build_says};

@@ -1,5 +1,7 @@
 // The table of a storacle, filled from a word. Serves the entry above. As the rule goes, suffix after suffix is walked, and an arrow is
 // added where one lacks; but the walk goes on from there, as it would come there again.
+#![tactic(auto)]
+
 ghost use Rattle.std.specs.Prelude.{◌≡◌, ◌+◌, ◌≤◌, ◌<◌, length};
 ghost use Rattle.oracle.specs.Arrows.{spine};
 ghost use Rattle.table.specs.Table.{read_word};

@@ -1,6 +1,8 @@
 // A search whose text comes in pieces. A searcher owns its word and the borders of its beginnings, and goes by value from piece to piece.
 // Any word, searcher, piece and list may be handed to `open` and `take`; their one promise fixes the answer, the searcher that is handed
 // back and every entry of the list, for refusals too.
+#![tactic(auto)]
+
 ghost use Rattle.std.specs.Prelude.{◌≡◌, [], ◌≤◌, length};
 ghost use Rattle.words.specs.Limits.{longest_streamed};
 ghost use Rattle.answers.specs.Answers.{refused};

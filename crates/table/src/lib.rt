@@ -1,6 +1,8 @@
 // The table of a word's oracle: 6(m+1) entries of 16 bits, in rows. Filling it takes time linear in m: letters are added over chains,
 // newest first, then one pass over the states from the last to the first lays the chains out, which turns each one round. Serves the rooms
 // above.
+#![tactic(auto)]
+
 ghost use Rattle.std.specs.Prelude.{◌≡◌, ◌+◌, ◌*◌, ◌<◌, ◌≤◌, length, replicate};
 ghost use Rattle.words.specs.Words.{mirror};
 ghost use Rattle.words.specs.Answers.{arrow_to};

@@ -1,6 +1,8 @@
 // The Turbo search over a table, for words and texts that strangers choose. A window is read from its end, but never below the forward
 // place; then its letters are read forward along the word's borders. In a long text the arrows are prepared first, as in the backward
 // search. Serves the entries.
+#![tactic(auto)]
+
 ghost use Rattle.std.specs.Prelude.{◌≡◌, cond, ◌-◌, ◌*◌, ◌<◌, ◌≤◌, length, leb};
 ghost use Rattle.words.specs.Limits.{longest_word, longest_text};
 ghost use Rattle.border.specs.Borders.{borders};

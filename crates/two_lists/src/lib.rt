@@ -1,5 +1,7 @@
 // Two lists of the caller's that are filled side by side: for each find its start in the one and a small number that goes with it in the
 // other, as many as fit the shorter one, and their exact number. Serves the rooms above.
+#![tactic(auto)]
+
 ghost use Rattle.std.specs.Prelude.{◌≡◌, List, [], ◌∷◌, ◌++◌, ℕ, ◌+◌, ◌<◌, min, length, replicate};
 ghost use Rattle.finds.specs.Finds.{filled};
 ghost use Rattle.two_lists.specs.TwoLists.{Both};

@@ -2,6 +2,8 @@
 // and a letter are types of their own, so that none is taken for another. The types serve the rooms above; there is no code. The longest
 // word and the longest text, in bytes, the longest words that a stream is opened for and that a storacle is built for, the most marks of a
 // set, and the least word that is saved.
+#![tactic(auto)]
+
 pub const WORD_LIMIT: usize = 4096;
 
 pub const TEXT_LIMIT: usize = 16777216;
