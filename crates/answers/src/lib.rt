@@ -21,21 +21,21 @@ pub const UNMADE: u8 = 16;
 pub const SHORT_WORD: u8 = 17;
 
 // A number, alone or with the place of the file where it shows.
-#[derive(Drop)]
+#[derive(Clone, Copy)]
 pub enum Refusal {
     Numbered(u8),
     Placed(u8, usize),
 }
 
 // The letters of a word, the bytes of a file, or a number of finds.
-#[derive(Drop)]
+#[derive(Clone, Copy)]
 pub enum SizeAnswer {
     Done(usize),
     Refused(Refusal),
 }
 
 // How often a word was found, and how many letters were read.
-#[derive(Drop)]
+#[derive(Clone, Copy)]
 pub enum TallyAnswer {
     Done(finds::Tally),
     Refused(Refusal),

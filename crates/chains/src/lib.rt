@@ -13,7 +13,7 @@ ghost use Rattle.chains.specs.Letters.{Climbing, ClimbSays, Begun, Added, Blank,
 const STATES_IN_ONE_GO: usize = 64;
 
 // The last slot that is used, and the new state's supply; or the state where the walk rests.
-#[derive(Drop)]
+#[derive(Clone, Copy)]
 pub enum Climbed {
     Ended(u16, words::State),
     Rests(u16, words::State),

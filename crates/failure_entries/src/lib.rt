@@ -10,7 +10,7 @@ ghost use Rattle.failure_entries.specs.FailureSearch.{failure_searched, failure_
 use answers::{Refusal, SizeAnswer};
 
 // How often a word was found, how many letters were read and how many failure arrows taken.
-#[derive(Drop)]
+#[derive(Clone, Copy)]
 pub enum FailureAnswer {
     Done(failure_search::FailureTally),
     Refused(Refusal),

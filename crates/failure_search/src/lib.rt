@@ -14,14 +14,14 @@ ghost use Rattle.failure_search.specs.Tallies.{counted_read_of, failure_tally_of
 ghost use Rattle.failure_search.specs.Memory.{TellsFirst, Remembers};
 
 // How a window was read, and the failure arrows taken in it.
-#[derive(Drop)]
+#[derive(Clone, Copy)]
 pub struct CountedRead {
     pub how: search::WindowRead,
     pub failures: u64,
 }
 
 // How often a word was found, how many letters were read for it and how many failure arrows taken.
-#[derive(Drop)]
+#[derive(Clone, Copy)]
 pub struct FailureTally {
     pub count: usize,
     pub letters: u64,

@@ -10,7 +10,7 @@ ghost use Rattle.failure_table.specs.FailureFormed.{FailureFormed};
 ghost use Rattle.failure_table.specs.Building.{answered_as, word_in, with_arrow, slots_with, Stage, Shared, AlongSpine};
 
 // Where a letter leads, the last state that was asked for it, and the failure arrows taken.
-#[derive(Drop)]
+#[derive(Clone, Copy)]
 pub struct Answered {
     pub leads: words::Leads,
     pub last: words::State,

@@ -19,7 +19,7 @@ fn number_at(file: &[u8], at: usize) -> Number
 }
 
 // How many letters, and where they stand; or the refusal and where it shows.
-#[derive(Drop)]
+#[derive(Clone, Copy)]
 pub enum Head {
     Letters(usize, usize),
     Stop(u8, usize),
@@ -62,7 +62,7 @@ pub fn read_front(file: &[u8], start: usize) -> Head
 }
 
 // Two numbers and the next place; or the refusal and where it shows.
-#[derive(Drop)]
+#[derive(Clone, Copy)]
 pub enum Pair {
     Both(u32, u32, usize),
     Neither(u8, usize),
@@ -86,7 +86,7 @@ fn read_two(file: &[u8], c: Cursor) -> Pair
 }
 
 // The place behind the file, whose arrows are the word's own; or the refusal and where it shows.
-#[derive(Drop)]
+#[derive(Clone, Copy)]
 pub enum Ended {
     Behind(usize),
     Broken(u8, usize),
@@ -147,7 +147,7 @@ pub fn compare_open(word: &[u8], table: &[u16], file: &[u8], at: usize) -> Ended
 }
 
 // The file's arrows are the word's own, and nothing follows; or the refusal and where it shows.
-#[derive(Drop)]
+#[derive(Clone, Copy)]
 pub enum Compared {
     Right,
     Wrong(u8, usize),

@@ -9,7 +9,7 @@ ghost use Rattle.finds.specs.Finds.{filled};
 ghost use Rattle.pieces.specs.Kept.{kept, heard};
 
 // What a run over a piece comes to: how many letters are kept then, and how many finds end in it.
-#[derive(Drop)]
+#[derive(Clone, Copy)]
 pub struct Ran {
     pub keep: usize,
     pub count: usize,

@@ -12,7 +12,7 @@ pub const CUT: u8 = 0;
 pub const WHOLE: u8 = 1;
 
 // Where a listed header begins and its ride's kind; or that there is none.
-#[derive(Drop)]
+#[derive(Clone, Copy)]
 pub enum Header {
     Listed(words::Place, u8),
     Missing,

@@ -11,7 +11,7 @@ use number::Cursor;
 pub const EDITION: u32 = 1;
 
 // An arrow as the file has it, and its source.
-#[derive(Drop)]
+#[derive(Clone, Copy)]
 pub struct Leap {
     pub up: u32,
     pub over: u32,

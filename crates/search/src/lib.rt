@@ -11,7 +11,7 @@ ghost use Rattle.search.specs.Answers.{reading_of, tally_of};
 ghost use Rattle.finds.specs.Finds.{filled};
 
 // How a window was read: up to the first letter without an arrow, or all its letters.
-#[derive(Drop)]
+#[derive(Clone, Copy)]
 pub enum WindowRead {
     Failed(words::Place),
     Whole,

@@ -15,7 +15,7 @@ use words::STREAMED_LIMIT;
 
 // The word, so many bytes long, and the longest borders of its beginnings, zeros behind both; how many letters of the word are kept, as the
 // text ends with them; and how many bytes were taken.
-#[derive(Drop)]
+#[derive(Clone, Copy)]
 pub struct Searcher {
     pub word: [u8; STREAMED_LIMIT],
     pub borders: [u16; STREAMED_LIMIT],
@@ -25,14 +25,14 @@ pub struct Searcher {
 }
 
 // The searcher is all zero where nothing was opened: taking with it is refused.
-#[derive(Drop)]
+#[derive(Clone, Copy)]
 pub struct Opened {
     pub answer: SizeAnswer,
     pub searcher: Searcher,
 }
 
 // The number of finds that end in the piece, and the next searcher; where the piece was refused, the same.
-#[derive(Drop)]
+#[derive(Clone, Copy)]
 pub struct Taken {
     pub answer: SizeAnswer,
     pub next: Searcher,

@@ -13,7 +13,7 @@ ghost use Rattle.backward.specs.Steps.{read_down};
 ghost use Rattle.turbo.specs.Readings.{begins_at, StopsAs, Swept};
 
 // Where a reading forward begins, how many letters of the word are kept there, and how many letters were read backward.
-#[derive(Drop)]
+#[derive(Clone, Copy)]
 pub struct Begin {
     pub place: words::Place,
     pub keep: usize,
@@ -21,7 +21,7 @@ pub struct Begin {
 }
 
 // Where it stops, how many letters are kept there, and how many finds there are.
-#[derive(Drop)]
+#[derive(Clone, Copy)]
 pub struct Stop {
     pub place: words::Place,
     pub keep: usize,

@@ -16,24 +16,24 @@ pub const MARKS_LIMIT: usize = 16;
 
 pub const LEAST_SAVED: usize = 2;
 
-#[derive(Drop)]
+#[derive(Clone, Copy)]
 pub struct Letter(pub u8);
 
-#[derive(Drop)]
+#[derive(Clone, Copy)]
 pub struct Place(pub u32);
 
-#[derive(Drop)]
+#[derive(Clone, Copy)]
 pub struct State(pub u16);
 
 // Where the arrow from a state on a letter leads.
-#[derive(Drop)]
+#[derive(Clone, Copy)]
 pub enum Leads {
     To(State),
     Missing,
 }
 
 // What the supply of a state is. State 0 has none.
-#[derive(Drop)]
+#[derive(Clone, Copy)]
 pub enum Supply {
     Of(State),
     Without,
