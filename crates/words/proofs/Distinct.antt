@@ -23,16 +23,19 @@ module _ {A : Type 0} where
 
   -- E without the place at which a stands
   without : {a : A} (E : List A) → Memᴰ a E → List A
+  without {a = a} [] x' = elim x' [ ]
   without (b ∷ E) (Memᴰ.head e) = E
   without (b ∷ E) (Memᴰ.tail m) = b ∷ without E m
 
   without_length : {a : A} (E : List A) (m : Memᴰ a E) → length E ≡ suc (length (without E m))
   unfolding without
+  without_length {a = a} [] m = elim m [ ]
   without_length (b ∷ E) (Memᴰ.head e) = refl
   without_length (b ∷ E) (Memᴰ.tail m) = ap suc (without_length E m)
 
   others_stay : {a b : A} (E : List A) (m : Memᴰ a E) → Memᴰ b E → b ≢ a → Memᴰ b (without E m)
   unfolding without
+  others_stay {a = a} {b = b} [] m _ f = elim m [ ]
   others_stay (d ∷ E) (Memᴰ.head e) (Memᴰ.head q) f = absurd (f (q ∙ sym e))
   others_stay (d ∷ E) (Memᴰ.head e) (Memᴰ.tail n) f = n
   others_stay (d ∷ E) (Memᴰ.tail m) (Memᴰ.head q) f = Memᴰ.head q
