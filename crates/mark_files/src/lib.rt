@@ -57,8 +57,8 @@ fn clear(letters: &mut [u8])
 // The file's letters from a place on and their table, into rooms that are just long enough; or zeros there, and the refusal, where the
 // arrows behind them are not the word's own.
 fn take_word(file: &[u8], at: usize, room: &mut [u8], table: &mut [u16]) -> SizeAnswer
-    requires* fact { do ⌜ (at + (← ⟦room.len()⟧) ≤ (← ⟦file.len()⟧)) × ((← ⟦table.len()⟧) ≡ 6 * ((← ⟦room.len()⟧) + 1)) ⌝ }
-    requires* fact_2 { do ⌜ (1 ≤ (← ⟦room.len()⟧)) × ((← ⟦room.len()⟧) < 65535) ⌝ }
+    requires inside { (at + length room.old ≤ length file.now) × (length table.old ≡ 6 * (length room.old + 1)) }
+    requires size_bound { (1 ≤ length room.old) × (length room.old < 65535) }
     ensures { loaded_as result room.new table.new
         ≡ judged_at file.now at (length room.old) }
 {

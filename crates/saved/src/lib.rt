@@ -73,7 +73,7 @@ pub fn file_size(word: &[u8], table: &[u16]) -> usize
 
 // Copies a word into a room of its size.
 pub fn put_letters(word: &[u8], room: &mut [u8])
-    requires* { do ⌜ (← ⟦room.len()⟧) ≡ (← ⟦word.len()⟧) ⌝ }
+    requires { length room.old ≡ length word.now }
     ensures { room.new ≡ word.now }
 {
     let mut i = 0;
