@@ -1,0 +1,31 @@
+-- `loaded::read_letters` meets its contract: each way out is what `letters_at` shows once the number of letters is read.
+use mathlib.Core.Path.{sym, ◌∙◌}
+use borrow.Author.Tests.{not-true, not-false}
+use Rattle.words.proofs.Limits.{least_saved_lem, word_limit}
+use Rattle.number.proofs.Theorems.{number_at-inside}
+use Rattle.loaded.proofs.Fronts.{shows-other-size, shows-cut, shows-letters}
+use Rattle.loaded.proofs.read_letters.Goals as goal
+
+pub returns-then-not-m : goal.returns-then-not-m
+returns-then-not-m c =
+    let read = sym c.number_at-declared.ensures ∙ c.in-Value.is in
+    shows-other-size _ _ read (rw (least_saved_lem, word_limit) (not-true _ c.if-not-m.true-raw))
+
+pub overflow_sub-file : goal.overflow_sub-file
+overflow_sub-file c =
+    let read = sym c.number_at-declared.ensures ∙ c.in-Value.is in
+    (number_at-inside c.args.file.now c.args.c.at read).1
+
+pub returns-then-file-next : goal.returns-then-file-next
+returns-then-file-next c =
+    let read = sym c.number_at-declared.ensures ∙ c.in-Value.is in
+    shows-cut _ _ read (rw (least_saved_lem, word_limit) (not-false _ c.if-not-m.false-raw)) c.if-file-next.true
+
+pub returns-in-Refused : goal.returns-in-Refused
+returns-in-Refused c =
+    simp (sym c.number_at-declared.ensures ∙ c.in-Refused.is)
+
+pub returns-else-file-next : goal.returns-else-file-next
+returns-else-file-next c =
+    let read = sym c.number_at-declared.ensures ∙ c.in-Value.is in
+    shows-letters _ _ read (rw (least_saved_lem, word_limit) (not-false _ c.if-not-m.false-raw)) c.if-file-next.false

@@ -1,0 +1,21 @@
+-- `rows::narrow` meets its contract: the law of copying. The measure is how many entries are left.
+use mathlib.Core.Path.{refl}
+use native.Mathlib.Omega.{arith}
+use Rattle.words.proofs.Loops.{copy_start, copy_step, copy_end}
+use Rattle.rows.proofs.narrow.Goals as goal
+
+pub loop-i-init : goal.loop-i-init
+loop-i-init c = copy_start _ _
+
+pub overflow_cast-to : goal.overflow_cast-to
+overflow_cast-to c = omega (arith, c.requires.1 c.loop-i.i)
+
+pub loop-i-preserved : goal.loop-i-preserved
+loop-i-preserved c = copy_step c.loop-i.invariant (omega (arith, c.requires.0)) refl
+
+pub shape_of-to : goal.shape_of-to
+shape_of-to c = c.loop-i.invariant.size
+
+pub returns : goal.returns
+returns c =
+    copy_end c.loop-i.invariant c.requires.0 (omega (arith, c.requires.0))

@@ -1,0 +1,22 @@
+-- `search::read_window` meets its contract: `StillToRead` says that what the rest of the window answers is the answer for all of it. The
+-- measure is how many letters are left.
+use native.Mathlib.Omega.{arith}
+use Rattle.words.proofs.Answers.{arrow-told, arrow-untold}
+use Rattle.search.proofs.Readings.{all_to_read, none_to_read, letter-fails, letter-goes}
+use Rattle.search.proofs.read_window.Goals as goal
+
+pub loop-left-init : goal.loop-left-init
+loop-left-init c = all_to_read
+
+pub loop-left-preserved : goal.loop-left-preserved
+loop-left-preserved c =
+    letter-goes c.loop-left.invariant (λ z. omega (arith, c.if-left-eq0.false))
+    (arrow-told _ _ _ c.lookup.ensures c.in-To.is)
+
+pub returns-then-left-eq0 : goal.returns-then-left-eq0
+returns-then-left-eq0 c = none_to_read c.loop-left.invariant (omega (arith, c.if-left-eq0.true))
+
+pub returns-in_default : goal.returns-in_default
+returns-in_default c =
+    letter-fails c.loop-left.invariant (λ z. omega (arith, c.if-left-eq0.false))
+    (arrow-untold _ _ c.lookup.ensures c.in_default.is)

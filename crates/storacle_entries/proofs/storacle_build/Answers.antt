@@ -1,0 +1,33 @@
+-- `storacle_entries::storacle_build` meets its contract: each way out is a case of `StoracleBuildCase`, and for each `given` says what is
+-- to be answered. The room fits a machine's number, as m is within a limit of few letters.
+use mathlib.Core.Path.{sym}
+use native.Mathlib.Omega.{arith}
+use lib.Seq.{length-take-le}
+use Rattle.words.proofs.Limits.{storacle_limit}
+use Rattle.storacle_entries.specs.Cases.{StoracleBuildCase}
+use Rattle.storacle_entries.proofs.BuildSays.{given, says-filled, room_fits}
+use Rattle.storacle_entries.proofs.storacle_build.Goals as goal
+
+pub returns-then-m-lt1 : goal.returns-then-m-lt1
+returns-then-m-lt1 c = sym (given _ _ (StoracleBuildCase.on_empty_word c.if-m-lt1.true))
+
+pub returns-then-m-gt-STORACLE_LIMIT : goal.returns-then-m-gt-STORACLE_LIMIT
+returns-then-m-gt-STORACLE_LIMIT c = sym (given _ _ (StoracleBuildCase.on_long_word c.if-m-lt1.false (omega (arith, storacle_limit, c.if-m-gt-STORACLE_LIMIT.true))))
+
+pub overflow_mul-room : goal.overflow_mul-room
+overflow_mul-room c = omega (arith, room_fits c.if-m-gt-STORACLE_LIMIT.false (omega arith))
+
+pub returns-then-tables-room : goal.returns-then-tables-room
+returns-then-tables-room c =
+    sym (given _ _ (StoracleBuildCase.on_short_room c.if-m-lt1.false (omega (arith, storacle_limit, c.if-m-gt-STORACLE_LIMIT.false)) c.if-tables-room.true))
+
+pub slice_bounds-fill-end-2 : goal.slice_bounds-fill-end-2
+slice_bounds-fill-end-2 c = sym (length-take-le _ _ c.if-tables-room.false)
+
+pub fill-requires : goal.fill-requires
+fill-requires c =
+    (c.if-m-lt1.false, omega (arith, c.if-m-gt-STORACLE_LIMIT.false), length-take-le _ _ c.if-tables-room.false)
+
+pub returns : goal.returns
+returns c =
+    says-filled _ _ c.fill.ensures c.if-m-lt1.false (omega (arith, storacle_limit, c.if-m-gt-STORACLE_LIMIT.false)) c.if-tables-room.false
