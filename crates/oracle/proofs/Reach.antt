@@ -1,7 +1,7 @@
 -- WHERE FACTORS LEAD. `reach i n` is the state that the n letters behind the first i are walked to. Every factor is walked, to a state on
 -- the chain of its last letter's state; and those states, over all factors that end there, are that chain, none left out. By induction on
 -- the letters: `chain-arrow` has an arrow for each, and a factor without its first letter leads to the same state or to its supply.
-use mathlib.Core.Path.{◌≡◌, refl, sym, ap, ◌∙◌}
+use mathlib.Core.Path.{◌≡◌, refl, sym, ap, subst, ◌∙◌}
 use mathlib.Core.Logic.{inr, ⊎_elim, by_cases}
 use mathlib.Core.Option.{Option, none, some, get_or}
 use Prim.Native.Nat.{ℕ, zero, suc, ◌+◌, ◌-◌, ◌≤◌, ◌<◌}
@@ -92,7 +92,7 @@ module _ {m : ℕ} {w : ℕ → Letter} {δ : Delta} {S : State → State} (O : 
   chain-from : (n i : ℕ) → i + n ≤ m → {y : State} → On S y (to i n) → (d : ℕ) × (k : ℕ) × (d + k ≡ n) × (to (i + d) k ≡ y)
   unfolding reach
   chain-from zero i h {y} r = (0, 0, omega arith, sym (on-zero O refl r))
-  chain-from (suc n) i h {y} (here e) = (0, suc n, omega arith, rw (add-zero i) (sym e))
+  chain-from (suc n) i h {y} (here e) = (0, suc n, omega arith, subst (λ (j : ℕ). to j (suc n) ≡ y) (sym (add-zero i)) (sym e))
   chain-from (suc n) i h {y} (next r) =
       let below : On S y (to (suc i) n) = ⊎_elim (λ e. rw e (next r)) (λ e. rw e r) (reach_near i n h) in
       let t = chain-from n (suc i) (omega arith) below in

@@ -123,12 +123,12 @@ module _ (p : Word) where
   factor_walked [] f = (0, refl)
   factor_walked (c ∷ v) f =
       let e = stands-part (c ∷ v) p f.0 f.1 in
-      let w = walks.factor-walk p oracle-supplied f.0 (length (c ∷ v)) (stands-inside (c ∷ v) p f.0 (omega arith) f.1) in
+      let w = walks.factor_walk p oracle-supplied f.0 (length (c ∷ v)) (stands-inside (c ∷ v) p f.0 (omega arith) f.1) in
       (_, rw e at w)
 
   pub word-walked : walk (oracle p) 0 p ≡ some (length p)
   word-walked =
-      let walked = walks.factor-walk p oracle-supplied 0 (length p) (omega arith) in
+      let walked = walks.factor_walk p oracle-supplied 0 (length p) (omega arith) in
       rw (part-whole p, reach_spine oracle-supplied (length p) (le_refl _)) at walked
 
   pub only-walk : (v : Word) (y : State) → walk (oracle p) 0 v ≡ some y → length v ≡ length p → v ≡ p
