@@ -43,12 +43,12 @@ climb-climbed-requires c =
 pub bounds-table-n-in-Ended : goal.bounds-table-n-in-Ended
 bounds-table-n-in-Ended c =
     let R = c.loop-slot.invariant.there.ready in
-    omega (arith, c.climb-climbed.auto.0, R.chained.size, R.inside)
+    omega (arith, c.climb-climbed.auto.table, R.chained.size, R.inside)
 
 pub shape_of-table-in-Ended : goal.shape_of-table-in-Ended
 shape_of-table-in-Ended c =
     let size = c.loop-slot.invariant.there.ready.chained.size in
-    simp length-set (c.climb-climbed.auto.0 ∙ size ∙ sym c.requires.begun.0.chained.size)
+    simp length-set (c.climb-climbed.auto.table ∙ size ∙ sym c.requires.begun.0.chained.size)
 
 pub returns-in-Ended : goal.returns-in-Ended
 returns-in-Ended c =

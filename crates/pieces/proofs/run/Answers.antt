@@ -28,7 +28,8 @@ loop-at-init c =
 
 pub extend-end-requires : goal.extend-end-requires
 extend-end-requires c =
-    running_known c.loop-at.invariant.1 c.requires.held_in_bounds.0 c.requires.held_in_bounds.1
+    let known = running_known c.loop-at.invariant.1 c.requires.held_in_bounds.0 c.requires.held_in_bounds.1 in
+    record { start_in_bounds = known.0; known = known.1 }
 
 pub bounds-word-0 : goal.bounds-word-0
 bounds-word-0 c =
