@@ -1,7 +1,7 @@
 -- `search::windows_prepared` meets its contract: before each window `SoFar` holds, as in `windows`, whether it is then read with the
 -- entries or with lookups. The measure is how much of the text lies behind the window's start.
 use mathlib.Core.Path.{◌≡◌, ◌∙◌}
-use mathlib.Core.Logic.{◌≢◌, ⊎_elim}
+use mathlib.Core.Logic.{◌≢◌}
 use mathlib.Core.List.{List}
 use Prim.Native.Nat.{ℕ, ◌+◌, ◌-◌, ◌<◌}
 use native.Mathlib.Omega.{arith}
@@ -16,50 +16,22 @@ use Rattle.search.specs.Answers.{reading_of}
 use Rattle.search.proofs.SoFar.{so_far-start, so_far-length, so_far-end, so-far-find, so_far_miss}
 use Rattle.search.proofs.SoFar.{letters_fit, find-fits, fails-inside}
 use Rattle.search.proofs.Starting.{last_misses, next_misses, rest-says}
-use Rattle.finds.proofs.note.Reads as note-reads
-use Rattle.prepared.proofs.rows_next.Reads as rows-next-reads
-use Rattle.search.proofs.read_on.Reads as read-on-reads
-use Rattle.search.proofs.read_window.Reads as read-window-reads
-use Rattle.search.proofs.windows_prepared.Reads as reads
-use Rattle.search.proofs.windows_prepared.Lts as lts
 use Rattle.search.proofs.windows_prepared.Goals as goal
+use Rattle.search.proofs.windows_prepared.Goals.{Joined-asked-eq0, then-asked-eq0, else-asked-eq0}
 
 -- ── The rest is read ───────────────────────────────────────────────────────
 
-abbrev claims : lts.Claims
-claims = (
-  read-window-reads.Asked,
-  read-window-reads.Learnt,
-  read-on-reads.Asked,
-  read-on-reads.Learnt,
-  note-reads.Asked,
-  note-reads.Learnt,
-  rows-next-reads.Asked,
-  rows-next-reads.Learnt,
-)
-
 -- where both ways of reading it meet, either answers for the window
-module _ (c : lts.Joined3 claims reads.Pre reads.Post invariant_window decreases_window) where
-  abbrev at_window : lts.At-window claims reads.Pre reads.Post invariant_window decreases_window
-  at_window = c.before.before.before.before.before.before.before.before
-
-  abbrev at_start : lts.Start claims reads.Pre reads.Post invariant_window decreases_window
-  at_start = at_window.before.before.before.before.before.before.before.before.before
-
-  abbrev word : List ℕ
-  word = at_start.args.word.now
-
-  abbrev text : List ℕ
-  text = at_start.args.text.now
-
-  window-says : c.if3.read
-      ≡ reading_of (read_down (read_arrow (length word) at_start.args.table.now) text at_window.window.start (length word) 0)
-  window-says =
-      let at-if1 = c.before.before.before.before in
-      let at_last = at-if1.before.before in
-      rest-says word text at_window.window.start at_start.pre.1.1 at_start.pre.0.0
-      (at_last.shared-slice-known8.given _).fits at-if1.if1.false
-      (⊎_elim (λ w. w.2 ∙ w.1.ensures) (λ w. w.2 ∙ w.1.ensures) c.if3.branch)
+window-says : (c : Joined-asked-eq0) → c.if-asked-eq0.read
+    ≡ reading_of
+    (read_down (read_arrow (length c.args.word.now) c.args.table.now) c.args.text.now c.window.start (length c.args.word.now) 0)
+window-says c =
+    rest-says c.args.word.now c.args.text.now c.window.start c.requires.formed.1 c.requires.in_bounds.0
+    (c.type_inv.text _).fits c.if-x.false
+    (elim c.if-asked-eq0.branch [
+      then-asked-eq0 w ↦ w.read-is ∙ w.read_window-read.ensures
+      | else-asked-eq0 w ↦ w.read-is ∙ w.read_on-read.ensures
+    ])
 
 below_but : {v : ℕ} → v < 65536 → v ≢ 65535 → v < 65535
 below_but h f = omega arith
@@ -120,22 +92,22 @@ overflow_cast-d c = Fits-widen tt (c.type_inv.text _)
 pub overflow_mul-c : goal.overflow_mul-c
 overflow_mul-c c =
     let end = c.window.start + length c.args.word.now in
-    omega (arith, c.«shared-slice-known8».given (end - 1))
+    omega (arith, c.type_inv.text (end - 1))
 
 pub overflow_add-c : goal.overflow_add-c
 overflow_add-c c =
     let end = c.window.start + length c.args.word.now in
-    omega (arith, c.«shared-slice-known8».given (end - 1), c.type_inv.text (end - 2))
+    omega (arith, c.type_inv.text (end - 1), c.type_inv.text (end - 2))
 
 pub bounds-flags-c : goal.bounds-flags-c
 bounds-flags-c c =
     let end = c.window.start + length c.args.word.now in
-    let last = c.«shared-slice-known8».given (end - 1) in
+    let last = c.type_inv.text (end - 1) in
     omega (arith, c.requires.formed.1.followers.size, last, c.type_inv.text (end - 2))
 
 pub overflow_add-letters-then-flags-c-eq0 : goal.overflow_add-letters-then-flags-c-eq0
 overflow_add-letters-then-flags-c-eq0 c =
-    let prepared = next_misses _ _ _ c.requires.formed.1 c.requires.in_bounds.0 (c.«shared-slice-known8».given _).fits in
+    let prepared = next_misses _ _ _ c.requires.formed.1 c.requires.in_bounds.0 (c.type_inv.text _).fits in
     let small = (c.type_inv.text _).fits in
     let missed = prepared c.window.invariant c.window-test.true c.if-x.false small c.if-flags-c-eq0.true in
     omega (arith, letters_fit missed c.requires.formed.0.small c.requires.in_bounds.1)
@@ -150,7 +122,7 @@ window-smaller-then-flags-c-eq0 c =
 
 pub window-preserved-then-flags-c-eq0 : goal.window-preserved-then-flags-c-eq0
 window-preserved-then-flags-c-eq0 c =
-    let prepared = next_misses _ _ _ c.requires.formed.1 c.requires.in_bounds.0 (c.«shared-slice-known8».given _).fits in
+    let prepared = next_misses _ _ _ c.requires.formed.1 c.requires.in_bounds.0 (c.type_inv.text _).fits in
     let small = (c.type_inv.text _).fits in
     prepared c.window.invariant c.window-test.true c.if-x.false small c.if-flags-c-eq0.true
 
@@ -164,7 +136,7 @@ overflow_sub-m c =
 
 pub overflow_cast-x : goal.overflow_cast-x
 overflow_cast-x c =
-    record { fits = c.requires.formed.1.firsts.small _ (c.«shared-slice-known8».given _).fits }
+    record { fits = c.requires.formed.1.firsts.small _ (c.type_inv.text _).fits }
 
 pub read_window-read-requires : goal.read_window-read-requires
 read_window-read-requires c =
@@ -179,14 +151,15 @@ overflow_sub-m-else-asked-eq0 c =
 
 pub read_on-read-requires : goal.read_on-read-requires
 read_on-read-requires c =
-    let small = c.requires.formed.1.firsts.small _ (c.«shared-slice-known8».given _).fits in (
-      (omega (arith, c.window-test.true), c.requires.in_bounds.1, below_but small c.if-x.false),
-      (c.requires.formed.0, λ h. c.requires.formed.1.entries),
-    )
+    let small = c.requires.formed.1.firsts.small _ (c.type_inv.text _).fits in
+    record {
+      k_in_bounds = (omega (arith, c.window-test.true), c.requires.in_bounds.1, below_but small c.if-x.false);
+      formed = (c.requires.formed.0, λ h. c.requires.formed.1.entries);
+    }
 
 pub overflow_add-letters-in_default : goal.overflow_add-letters-in_default
 overflow_add-letters-in_default c =
-    let fits = find-fits c.window.invariant c.window-test.true _ (window-says c) c.in_default.is in
+    let fits = find-fits c.window.invariant c.window-test.true _ (window-says (goal.at.overflow_add-letters-in_default c).Joined-asked-eq0) c.in_default.is in
     omega (arith, fits c.requires.formed.0.small c.requires.in_bounds.1)
 
 pub overflow_add-start-in_default : goal.overflow_add-start-in_default
@@ -199,32 +172,32 @@ window-smaller-in_default c =
 
 pub window-preserved-in_default : goal.window-preserved-in_default
 window-preserved-in_default c =
-    so-far-find c.window.invariant c.window-test.true _ (window-says c) c.in_default.is
+    so-far-find c.window.invariant c.window-test.true _ (window-says (goal.at.window-preserved-in_default c).Joined-asked-eq0) c.in_default.is
     (omega (arith, c.requires.in_bounds.0)) c.requires.in_bounds.2 c.note-count.ensures.0 c.note-count.ensures.1
 
 pub overflow_sub-deep : goal.overflow_sub-deep
 overflow_sub-deep c =
-    let inside = fails-inside c.window.invariant c.window-test.true _ (window-says c) _ c.in-Failed.is in
+    let inside = fails-inside c.window.invariant c.window-test.true _ (window-says (goal.at.overflow_sub-deep c).Joined-asked-eq0) _ c.in-Failed.is in
     omega arith
 
 pub overflow_add-letters-in-window : goal.overflow_add-letters-in-window
 overflow_add-letters-in-window c =
-    let missed = so_far_miss c.window.invariant c.window-test.true _ (window-says c) _ c.in-Failed.is in
+    let missed = so_far_miss c.window.invariant c.window-test.true _ (window-says (goal.at.overflow_add-letters-in-window c).Joined-asked-eq0) _ c.in-Failed.is in
     omega (arith, letters_fit missed c.requires.formed.0.small c.requires.in_bounds.1)
 
 pub overflow_add-start-in-window : goal.overflow_add-start-in-window
 overflow_add-start-in-window c =
-    let inside = fails-inside c.window.invariant c.window-test.true _ (window-says c) _ c.in-Failed.is in
+    let inside = fails-inside c.window.invariant c.window-test.true _ (window-says (goal.at.overflow_add-start-in-window c).Joined-asked-eq0) _ c.in-Failed.is in
     omega (arith, c.window-test.true, c.requires.in_bounds.1)
 
 pub window-smaller : goal.window-smaller
 window-smaller c =
-    let inside = fails-inside c.window.invariant c.window-test.true _ (window-says c) _ c.in-Failed.is in
+    let inside = fails-inside c.window.invariant c.window-test.true _ (window-says (goal.at.window-smaller c).Joined-asked-eq0) _ c.in-Failed.is in
     omega (arith, c.window-test.true, c.requires.in_bounds.0)
 
 pub window-preserved : goal.window-preserved
 window-preserved c =
-    so_far_miss c.window.invariant c.window-test.true _ (window-says c) _ c.in-Failed.is
+    so_far_miss c.window.invariant c.window-test.true _ (window-says (goal.at.window-preserved c).Joined-asked-eq0) _ c.in-Failed.is
 
 pub shape_of-finds : goal.shape_of-finds
 shape_of-finds c =
