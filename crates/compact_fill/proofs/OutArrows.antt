@@ -26,7 +26,7 @@ use Rattle.table.proofs.Theorems.{oracle-over}
 use Rattle.compact_fill.specs.Filling.{out_targets, letter_into, FirstForm}
 
 -- where a member stands
-place_of : {l : List ℕ} {y : ℕ} → Memᴰ y l → (i : ℕ) × (i < length l) × (at l i ≡ y)
+place_of : {y : ℕ} {l : List ℕ} → Memᴰ y l → (i : ℕ) × (i < length l) × (at l i ≡ y)
 place_of (Memᴰ.head e) = (0, omega arith, sym e)
 place_of (Memᴰ.tail m) = let r = place_of m in (suc r.0, omega (arith, r.1), r.2)
 

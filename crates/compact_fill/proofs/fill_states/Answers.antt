@@ -16,7 +16,8 @@ overflow_cast-x c =
 
 pub fill_state-before-requires : goal.fill_state-before-requires
 fill_state-before-requires c =
-    state-asked c.loop-x.invariant.2 c.requires.first_form.0 c.loop-x-test.true c.loop-x.invariant.1
+    let asked = state-asked c.loop-x.invariant.2 c.requires.first_form.0 c.loop-x-test.true c.loop-x.invariant.1 in
+    record { first_form = asked.0; sets_len = asked.1 }
 
 pub loop-x-preserved : goal.loop-x-preserved
 loop-x-preserved c =

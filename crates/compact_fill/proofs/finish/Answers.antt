@@ -20,7 +20,8 @@ overflow_cast-m c =
 pub start_state-rows-requires : goal.start_state-rows-requires
 start_state-rows-requires c =
     let filled = c.fill_states-all.ensures in
-    last-asked c.requires.first_form filled.2 filled.1 filled.0
+    let asked = last-asked c.requires.first_form filled.2 filled.1 filled.0 in
+    record { first_form = asked.0; own_words = asked.1 }
 
 pub returns : goal.returns
 returns c =

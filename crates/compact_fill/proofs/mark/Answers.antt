@@ -5,6 +5,4 @@ use Rattle.compact_fill.proofs.Marking.{bit_set}
 use Rattle.compact_fill.proofs.mark.Goals as goal
 
 pub returns : goal.returns
-returns c =
-    let byte = c.«struct-known2».given in
-    bit_set c.args.sets.now (arrow_number c.args.x.0 c.args.c.0) (omega (arith, byte, c.requires))
+returns c = bit_set c.args.sets.now (arrow_number c.args.x.0 c.args.c.0) (omega (arith, c.requires))

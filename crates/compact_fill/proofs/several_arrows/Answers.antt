@@ -12,15 +12,16 @@ mark_state-requires c =
 
 pub start_state-next-requires : goal.start_state-next-requires
 start_state-next-requires c =
-    let marked = c.mark_state.ensures in (
-      (c.requires.first_form.0, omega (arith, c.requires.first_form.1), omega (arith, marked.size, c.requires.sets_len.0)),
-      (own-words c.requires.sets_len.2 marked c.requires.sets_len.1, c.requires.sets_len.3),
-    )
+    let marked = c.mark_state.ensures in
+    record {
+      first_form = (c.requires.first_form.0, omega (arith, c.requires.first_form.1), omega (arith, marked.size, c.requires.sets_len.0));
+      own_words = (own-words c.requires.sets_len.2 marked c.requires.sets_len.1, c.requires.sets_len.3);
+    }
 
 pub put_state-requires : goal.put_state-requires
 put_state-requires c =
-    targets-asked c.requires.first_form.0 c.requires.first_form.1 c.start_state-next.ensures.1
-    c.requires.sets_len.2 c.requires.sets_len.1 c.mark_state.ensures (omega (arith, c.requires.sets_len.0))
+    let asked = targets-asked c.requires.first_form.0 c.requires.first_form.1 c.start_state-next.ensures.1 c.requires.sets_len.2 c.requires.sets_len.1 c.mark_state.ensures (omega (arith, c.requires.sets_len.0)) in
+    record { first_form = asked.0; m_in_bounds = asked.1 }
 
 pub shape_of-sets : goal.shape_of-sets
 shape_of-sets c =

@@ -39,11 +39,11 @@ pub few_starts-requires : goal.few_starts-requires
 few_starts-requires c =
     let F = c.requires.first_form.0 in
     let h = c.requires.first_form.1 in
-    let counted = c.requires.sets_len.1 in (
-      (F, h, few-before F h counted),
-      pair_word F h counted c.requires.first_form.2 c.letter_into-to_y.ensures
-          (letter_of F h counted c.arrow_target-z.ensures c.letter_into-to_z.ensures),
-    )
+    let counted = c.requires.sets_len.1 in
+    record {
+      first_form = (F, h, few-before F h counted);
+      by_index = pair_word F h counted c.requires.first_form.2 c.letter_into-to_y.ensures (letter_of F h counted c.arrow_target-z.ensures c.letter_into-to_z.ensures);
+    }
 
 pub past-requires : goal.past-requires
 past-requires c =

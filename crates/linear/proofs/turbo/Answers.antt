@@ -40,11 +40,11 @@ slice_bounds-scan-end-2 c = sym (length-take-le _ _ (search rules))
 
 pub scan-requires : goal.scan-requires
 scan-requires c =
-    let few = c.if-m-gt-WORD_LIMIT.false in (
-      (c.if-m-lt1.false, omega (arith, word_limit, few), omega (arith, text_limit, c.if-text-gt-TEXT_LIMIT.false)),
-      lent-formed c.args.word.now c.args.text.now c.args.tables.now c.args.finds.now _
-          c.fill_mirror.ensures (omega (arith, few)),
-    )
+    let few = c.if-m-gt-WORD_LIMIT.false in
+    record {
+      in_bounds = (c.if-m-lt1.false, omega (arith, word_limit, few), omega (arith, text_limit, c.if-text-gt-TEXT_LIMIT.false));
+      formed = lent-formed c.args.word.now c.args.text.now c.args.tables.now c.args.finds.now _ c.fill_mirror.ensures (omega (arith, few));
+    }
 
 pub returns : goal.returns
 returns c =

@@ -36,7 +36,8 @@ slice_bounds-take_word-end-in-Letters-3 c =
 pub take_word-requires : goal.take_word-requires
 take_word-requires c =
     let shown = sym c.read_front-head.ensures ∙ ap head_of c.in-Letters.is in
-    lent-sized _ _ _ shown c.if-room-m.false c.if-tables-need.false
+    let asked = lent-sized _ _ _ shown c.if-room-m.false c.if-tables-need.false in
+    record { inside = asked.0; size_bound = asked.1 }
 
 pub returns-in-Stop : goal.returns-in-Stop
 returns-in-Stop c =

@@ -46,7 +46,8 @@ pub scan_loaded-requires : goal.scan_loaded-requires
 scan_loaded-requires c =
     let text = c.args.text.now in
     let stands = told-stands _ _ _ c.load-said.ensures c.in-Done.is in
-    lent-sized text stands (omega (arith, text_limit, c.if-text-gt-TEXT_LIMIT.false))
+    let asked = lent-sized text stands (omega (arith, text_limit, c.if-text-gt-TEXT_LIMIT.false)) in
+    record { in_bounds = asked.0; formed = asked.1 }
 
 pub returns-in-Refused : goal.returns-in-Refused
 returns-in-Refused c =

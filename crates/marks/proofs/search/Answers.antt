@@ -42,10 +42,11 @@ pub scan-requires : goal.scan-requires
 scan-requires c =
     let word = c.args.word.now in
     let few = c.if-m-gt-WORD_LIMIT.false in
-    let step = c.step_after_find-step.ensures in (
-      (c.if-m-lt1.false, omega (arith, c.if-text-gt-TEXT_LIMIT.false), step.0),
-      lent-formed word _ c.fill_mirror.ensures step.1 (omega (arith, few)),
-    )
+    let step = c.step_after_find-step.ensures in
+    record {
+      in_bounds = (c.if-m-lt1.false, omega (arith, c.if-text-gt-TEXT_LIMIT.false), step.0);
+      formed = lent-formed word _ c.fill_mirror.ensures step.1 (omega (arith, few));
+    }
 
 pub returns : goal.returns
 returns c =

@@ -22,10 +22,11 @@ scan-tally-requires c =
     let lent = c.requires.word_value in
     let text = c.args.text.now in
     let short = length-take (c.part_end-end.result - c.loop-at.at) (drop c.loop-at.at text) in
-    let ends = c.part_end-end.ensures in (
-      scan_asks lent.0 lent.1 (omega (arith, texts_fit, c.requires.text_len_bound.0, ends, short)),
-      scan_formed lent.0 lent.1,
-    )
+    let ends = c.part_end-end.ensures in
+    record {
+      in_bounds = scan_asks lent.0 lent.1 (omega (arith, texts_fit, c.requires.text_len_bound.0, ends, short));
+      formed = scan_formed lent.0 lent.1;
+    }
 
 pub overflow_cast-from : goal.overflow_cast-from
 overflow_cast-from c =

@@ -36,7 +36,8 @@ bounds-text-at c =
 
 pub extend-long-requires : goal.extend-long-requires
 extend-long-requires c =
-    going_known c.loop-at.invariant.1 c.requires.found_le_c.2 c.requires.kept_in_bounds.2
+    let asked = going_known c.loop-at.invariant.1 c.requires.found_le_c.2 c.requires.kept_in_bounds.2 in
+    record { start_in_bounds = asked.0; known = asked.1 }
 
 pub slice_bounds-skip-end : goal.slice_bounds-skip-end
 slice_bounds-skip-end c =

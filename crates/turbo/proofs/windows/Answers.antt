@@ -24,19 +24,21 @@ read_back-begin-requires c =
     let within = c.window-test.true in
     let asked = c.window.invariant.1 in
     let longer = so_far-longer c.window.invariant.0 c.requires.in_bounds.0 within in
-    let prepared = c.requires.formed.1 in (
-      (omega (arith, longer), within, c.requires.in_bounds.1),
-      (c.requires.formed.0, λ h. rw (asked h) (prepared (omega (arith, asked h)))),
-    )
+    let prepared = c.requires.formed.1 in
+    record {
+      c_le_end = (omega (arith, longer), within, c.requires.in_bounds.1);
+      formed = (c.requires.formed.0, λ h. rw (asked h) (prepared (omega (arith, asked h))));
+    }
 
 pub forward-stop-requires : goal.forward-stop-requires
 forward-stop-requires c =
     let within = c.window-test.true in
     let so_far = c.window.invariant.0 in
-    let fits = begin_fits so_far c.requires.in_bounds.0 within c.read_back-begin.ensures in (
-      (fits.0, fits.1, c.requires.in_bounds.2),
-      (omega (arith, so_far.few, fits.2), omega (arith, fits.3, within), within, c.requires.in_bounds.1),
-    )
+    let fits = begin_fits so_far c.requires.in_bounds.0 within c.read_back-begin.ensures in
+    record {
+      kept_in_bounds = (fits.0, fits.1, c.requires.in_bounds.2);
+      found_le_c = (omega (arith, so_far.few, fits.2), omega (arith, fits.3, within), within, c.requires.in_bounds.1);
+    }
 
 pub overflow_sub-letters : goal.overflow_sub-letters
 overflow_sub-letters c =
