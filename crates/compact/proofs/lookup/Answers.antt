@@ -8,19 +8,19 @@ use Rattle.compact.proofs.lookup.Goals as goal
 
 pub returns-then-from-m : goal.returns-then-from-m
 returns-then-from-m c =
-    let byte : c.args.c.0 < 256 = omega (arith, c.«struct-known2».given) in
+    let byte : c.args.c.0 < 256 = omega arith in
     sym (ap arrow_to (look-far c.requires c.args.x.0 c.args.c.0 byte c.if-from-m.true))
 
 pub returns-then-table-from : goal.returns-then-table-from
 returns-then-table-from c =
-    let byte : c.args.c.0 < 256 = omega (arith, c.«struct-known2».given) in
+    let byte : c.args.c.0 < 256 = omega arith in
     sym (ap arrow_to (look-spine c.requires c.args.x.0 c.args.c.0 byte c.if-from-m.false c.if-table-from.true))
 
 pub target_of-requires : goal.target_of-requires
 target_of-requires c = (
       c.requires,
       c.if-from-m.false,
-      omega (arith, c.«struct-known2».given),
+      omega arith,
       sym c.has_arrow.ensures ∙ c.if-has_arrow.true,
     )
 
@@ -29,6 +29,6 @@ returns-then-has_arrow c = sym (ap arrow_to c.target_of.ensures)
 
 pub returns : goal.returns
 returns c =
-    let byte : c.args.c.0 < 256 = omega (arith, c.«struct-known2».given) in
+    let byte : c.args.c.0 < 256 = omega arith in
     let absent = sym c.has_arrow.ensures ∙ c.if-has_arrow.false in
     sym (ap arrow_to (look_none c.requires c.args.x.0 c.args.c.0 byte c.if-from-m.false absent))

@@ -130,7 +130,7 @@ pub window-preserved-then-not-follows : goal.window-preserved-then-not-follows
 window-preserved-then-not-follows c =
     let prepared = next_misses _ _ _ c.requires.compact_formed.1 c.requires.in_bounds.0 (c.«shared-slice-known8».given _).fits in
     let state = c.requires.compact_formed.1.states _ (c.«shared-slice-known8».given _).fits c.if-x.false in
-    let absent = sym c.has_arrow-follows.ensures ∙ not-true _ c.if-not-follows.true-raw in
+    let absent = sym c.has_arrow-follows.ensures ∙ c.if-not-follows.true in
     let none-there = reads_none _ _ _ _ _ state (c.type_inv.text _).fits absent in
     prepared c.window.invariant c.window-test.true c.if-x.false none-there
 

@@ -33,13 +33,13 @@ pub returns-then-not-up-own : goal.returns-then-not-up-own
 returns-then-not-up-own c =
     let read = sym (ap pair_of c.in-Both.is) ∙ c.read_two-two.ensures in
     let own = c.next_step-own.ensures in
-    shows-other c.loop-left.invariant c.loop-left-test.true read own (not-true _ c.if-not-up-own.true-raw)
+    shows-other c.loop-left.invariant c.loop-left-test.true read own c.if-not-up-own.true
 
 pub loop-left-preserved : goal.loop-left-preserved
 loop-left-preserved c =
     let read = sym (ap pair_of c.in-Both.is) ∙ c.read_two-two.ensures in
     let own = c.next_step-own.ensures in
-    compare_next c.loop-left.invariant c.loop-left-test.true read own (not-false _ c.if-not-up-own.false-raw)
+    compare_next c.loop-left.invariant c.loop-left-test.true read own c.if-not-up-own.false
 
 pub returns-then-slot-total-2 : goal.returns-then-slot-total-2
 returns-then-slot-total-2 c =

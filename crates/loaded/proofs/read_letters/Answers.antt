@@ -9,7 +9,7 @@ use Rattle.loaded.proofs.read_letters.Goals as goal
 pub returns-then-not-m : goal.returns-then-not-m
 returns-then-not-m c =
     let read = sym c.number_at-declared.ensures ∙ c.in-Value.is in
-    shows-other-size _ _ read (rw (least_saved_lem, word_limit) (not-true _ c.if-not-m.true-raw))
+    shows-other-size _ _ read (rw (least_saved_lem, word_limit) c.if-not-m.true)
 
 pub overflow_sub-file : goal.overflow_sub-file
 overflow_sub-file c =
@@ -19,7 +19,7 @@ overflow_sub-file c =
 pub returns-then-file-next : goal.returns-then-file-next
 returns-then-file-next c =
     let read = sym c.number_at-declared.ensures ∙ c.in-Value.is in
-    shows-cut _ _ read (rw (least_saved_lem, word_limit) (not-false _ c.if-not-m.false-raw)) c.if-file-next.true
+    shows-cut _ _ read (rw (least_saved_lem, word_limit) c.if-not-m.false) c.if-file-next.true
 
 pub returns-in-Refused : goal.returns-in-Refused
 returns-in-Refused c =
@@ -28,4 +28,4 @@ returns-in-Refused c =
 pub returns-else-file-next : goal.returns-else-file-next
 returns-else-file-next c =
     let read = sym c.number_at-declared.ensures ∙ c.in-Value.is in
-    shows-letters _ _ read (rw (least_saved_lem, word_limit) (not-false _ c.if-not-m.false-raw)) c.if-file-next.false
+    shows-letters _ _ read (rw (least_saved_lem, word_limit) c.if-not-m.false) c.if-file-next.false

@@ -31,7 +31,7 @@ returns-then-not-done c =
 
 pub loop-x-preserved : goal.loop-x-preserved
 loop-x-preserved c =
-    fill_step c.loop-x.invariant c.loop-x-test.true c.put_state-done.ensures (not-false _ c.if-not-done.false-raw)
+    fill_step c.loop-x.invariant c.loop-x-test.true c.put_state-done.ensures c.if-not-done.false
 
 pub shape_of-dense : goal.shape_of-dense
 shape_of-dense c =

@@ -38,10 +38,11 @@ pub put-done-requires : goal.put-done-requires
 put-done-requires c =
     let formed = c.requires.formed.0 in
     let few = slots-low formed c.if-m-from.false c.loop-s.invariant in
-    let target = formed.targets (c.loop-s.s - 1) (omega (arith, few)) in (
-      (omega (arith, target, formed.enough), (λ q. omega (arith, target, formed.small)), c.requires.formed.1),
-      rw c.loop-s.invariant.size c.requires.apart,
-    )
+    let target = formed.targets (c.loop-s.s - 1) (omega (arith, few)) in
+    record {
+      y_in_bounds = (omega (arith, target, formed.enough), (λ q. omega (arith, target, formed.small)), c.requires.formed.1);
+      apart = rw c.loop-s.invariant.size c.requires.apart;
+    }
 
 pub shape_of-dense-then-not-done : goal.shape_of-dense-then-not-done
 shape_of-dense-then-not-done c =
@@ -49,22 +50,23 @@ shape_of-dense-then-not-done c =
 
 pub returns-then-not-done : goal.returns-then-not-done
 returns-then-not-done c =
-    put-fails c.loop-s.invariant c.put-done.ensures (not-true _ c.if-not-done.true-raw)
+    put-fails c.loop-s.invariant c.put-done.ensures c.if-not-done.true
 
 pub loop-s-preserved : goal.loop-s-preserved
 loop-s-preserved c =
     let few = slots-low c.requires.formed.0 c.if-m-from.false c.loop-s.invariant in
     let more = c.loop-s-test.true in
-    put_step c.loop-s.invariant c.put-done.ensures (not-false _ c.if-not-done.false-raw) (omega (arith, more)) more
+    put_step c.loop-s.invariant c.put-done.ensures c.if-not-done.false (omega (arith, more)) more
     (omega (arith, few, c.requires.formed.0.enough)) refl
 
 pub put-requires : goal.put-requires
 put-requires c =
     let formed = c.requires.formed.0 in
-    let more = c.if-m-from.false in (
-      (omega (arith, more, formed.enough), (λ q. omega (arith, more, formed.small)), c.requires.formed.1),
-      rw c.loop-s.invariant.size c.requires.apart,
-    )
+    let more = c.if-m-from.false in
+    record {
+      y_in_bounds = (omega (arith, more, formed.enough), (λ q. omega (arith, more, formed.small)), c.requires.formed.1);
+      apart = rw c.loop-s.invariant.size c.requires.apart;
+    }
 
 pub shape_of-dense : goal.shape_of-dense
 shape_of-dense c =

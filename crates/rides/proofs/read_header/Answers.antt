@@ -12,51 +12,51 @@ returns-then-q-lt8 c = sym (too_early _ _ (omega (arith, c.if-q-lt8.true)))
 pub returns-then-not-is_header_size : goal.returns-then-not-is_header_size
 returns-then-not-is_header_size c =
     let late = c.if-q-lt8.false in
-    sym (other-size _ _ late (sym c.is_header_size.ensures ∙ not-true _ c.if-not-is_header_size.true-raw))
+    sym (other-size _ _ late (sym c.is_header_size.ensures ∙ c.if-not-is_header_size.true))
 
 pub overflow_cast-behind : goal.overflow_cast-behind
 overflow_cast-behind c =
-    let size = sym c.is_header_size.ensures ∙ not-false _ c.if-not-is_header_size.false-raw in
+    let size = sym c.is_header_size.ensures ∙ c.if-not-is_header_size.false in
     omega (arith, allowed-size _ size)
 
 pub overflow_add-behind : goal.overflow_add-behind
 overflow_add-behind c =
-    let size = sym c.is_header_size.ensures ∙ not-false _ c.if-not-is_header_size.false-raw in
+    let size = sym c.is_header_size.ensures ∙ c.if-not-is_header_size.false in
     omega (arith, allowed-size _ size)
 
 pub returns-then-text-behind : goal.returns-then-text-behind
 returns-then-text-behind c =
     let late = c.if-q-lt8.false in
-    let size = sym c.is_header_size.ensures ∙ not-false _ c.if-not-is_header_size.false-raw in
+    let size = sym c.is_header_size.ensures ∙ c.if-not-is_header_size.false in
     sym (behind_the_end _ _ late size (omega (arith, c.if-text-behind.true)))
 
 pub data_size-requires : goal.data_size-requires
 data_size-requires c =
-    let size = sym c.is_header_size.ensures ∙ not-false _ c.if-not-is_header_size.false-raw in
+    let size = sym c.is_header_size.ensures ∙ c.if-not-is_header_size.false in
     omega (arith, allowed-size _ size, c.if-text-behind.false)
 
 pub overflow_add-end : goal.overflow_add-end
 overflow_add-end c =
     let known = c.type_inv.text in
     let fits = data_size-fits c.args.text.now (c.args.q.0 - 8) (λ i. omega (arith, known i)) in
-    let size = sym c.is_header_size.ensures ∙ not-false _ c.if-not-is_header_size.false-raw in
+    let size = sym c.is_header_size.ensures ∙ c.if-not-is_header_size.false in
     omega (arith, c.if-text-behind.false, allowed-size _ size, c.data_size.ensures, fits)
 
 pub overflow_add-end-2 : goal.overflow_add-end-2
 overflow_add-end-2 c =
     let known = c.type_inv.text in
     let fits = data_size-fits c.args.text.now (c.args.q.0 - 8) (λ i. omega (arith, known i)) in
-    let size = sym c.is_header_size.ensures ∙ not-false _ c.if-not-is_header_size.false-raw in
+    let size = sym c.is_header_size.ensures ∙ c.if-not-is_header_size.false in
     omega (arith, c.if-text-behind.false, allowed-size _ size, c.data_size.ensures, fits)
 
 pub returns-then-text-end : goal.returns-then-text-end
 returns-then-text-end c =
     let late = c.if-q-lt8.false in
-    let size = sym c.is_header_size.ensures ∙ not-false _ c.if-not-is_header_size.false-raw in
+    let size = sym c.is_header_size.ensures ∙ c.if-not-is_header_size.false in
     sym (listed-cut _ _ late size c.if-text-behind.false (omega (arith, c.data_size.ensures, c.if-text-end.true)))
 
 pub returns : goal.returns
 returns c =
     let late = c.if-q-lt8.false in
-    let size = sym c.is_header_size.ensures ∙ not-false _ c.if-not-is_header_size.false-raw in
+    let size = sym c.is_header_size.ensures ∙ c.if-not-is_header_size.false in
     sym (listed-whole _ _ late size c.if-text-behind.false (omega (arith, c.data_size.ensures, c.if-text-end.false)))
