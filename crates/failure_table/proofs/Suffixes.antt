@@ -181,7 +181,7 @@ module _ {p : Word} {m : ℕ} {L : List ℕ} {u i : ℕ} (S : Stage p m L u i) w
     -- the letter leads on
     pub walking_goes : (y : Stated) → r.leads ≡ To y → Walking p i (k + 1) y.0
     walking_goes y e =
-        let there = arrow-told _ r.leads y (ap (λ (s : Answered). s.leads) said) e in
+        let there : δ x (letter p k) ≡ some y.0 = arrow-told _ r.leads y (ap (λ (s : Answered). s.leads) said) e in
         let one : k + 1 ≡ suc k = omega arith in
         record {
           within = omega arith;

@@ -49,7 +49,7 @@ add_arrow-requires c =
 
 pub shape_of-table-in_default : goal.shape_of-table-in_default
 shape_of-table-in_default c =
-    c.add_arrow.auto.0 ∙ ap length c.loop-k.invariant.0
+    c.add_arrow.auto.table ∙ ap length c.loop-k.invariant.0
 
 pub returns-in_default : goal.returns-in_default
 returns-in_default c =

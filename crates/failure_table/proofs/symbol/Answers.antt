@@ -1,9 +1,9 @@
 -- `failure_table::symbol` meets its contract: before each slot `Seeking` holds. The measure is the slot, as slots lead to older ones.
-use mathlib.Core.Logic.{⊎_elim}
 use Prim.Native.Nat.{◌+◌, ◌*◌}
 use native.Mathlib.Omega.{arith}
 use Rattle.failure_table.proofs.Seeking.{seek-spine, seek-start, seek-end, seek-state, seek-older, seek_hit, seek-next}
 use Rattle.failure_table.proofs.symbol.Goals as goal
+use Rattle.failure_table.proofs.symbol.Goals.{then-from-m+else-table-from, else-from-m}
 
 pub returns-then-table-from : goal.returns-then-table-from
 returns-then-table-from c =
@@ -15,8 +15,10 @@ overflow_cast-slot c =
 
 pub loop-slot-init : goal.loop-slot-init
 loop-slot-init c =
-    seek-start c.requires.0 c.requires.1
-    (⊎_elim (λ r l. r.2.left) (λ r l. absurd (omega (arith, r.left))) c.if-from-m.branch)
+    seek-start c.requires.0 c.requires.1 (elim c.if-from-m.branch [
+      | then-from-m+else-table-from w ↦ λ l. w.if-table-from.false
+      | else-from-m w ↦ λ l. absurd (omega arith)
+    ])
 
 pub overflow_cast-at : goal.overflow_cast-at
 overflow_cast-at c =

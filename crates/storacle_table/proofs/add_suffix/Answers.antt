@@ -1,12 +1,12 @@
 -- `storacle_table::add_suffix` meets its contract: before each letter `Walking` holds, and at the word's end the table is that of the rule.
 -- The measure is how many letters are left.
 use mathlib.Core.Path.{refl, sym, ◌∙◌}
-use mathlib.Core.Logic.{⊎_elim}
 use native.Mathlib.Omega.{arith}
 use mir.Facts.{Fits-widen}
 use Rattle.storacle_table.proofs.Walking.{walking_size, step_column, step_cell, step_fits, step_goes, step_adds}
 use Rattle.storacle_table.proofs.Walking.{after_walking, after-walked}
 use Rattle.storacle_table.proofs.add_suffix.Goals as goal
+use Rattle.storacle_table.proofs.add_suffix.Goals.{then-y-eq0, else-y-eq0}
 
 pub overflow_add-k : goal.overflow_add-k
 overflow_add-k c = omega (arith, c.requires.1, c.requires.0.sized.small)
@@ -71,10 +71,13 @@ loop-k-preserved c =
     let long = c.requires.0.sized.long in
     let inv = c.loop-k.invariant in
     let place = c.cell-place.ensures in
-    ⊎_elim
-    (λ t. rw (t.4, t.5, place) (step_adds long inv c.loop-k-test.true (rw place at t.0.taken) t.3.ensures))
-    (λ t. rw (t.1, t.2) (step_goes long inv c.loop-k-test.true _ (rw place refl) t.0.left))
-    c.if-y-eq0.branch
+    elim c.if-y-eq0.branch [
+      | then-y-eq0 w ↦
+          rw (w.table-is, w.y-is, place)
+          (step_adds long inv c.loop-k-test.true (rw place at w.if-y-eq0.true) w.first_alike-y.ensures)
+      | else-y-eq0 w ↦
+          rw (w.table-is, w.y-is) (step_goes long inv c.loop-k-test.true _ (rw place refl) w.if-y-eq0.false)
+    ]
 
 pub shape_of-table : goal.shape_of-table
 shape_of-table c =
