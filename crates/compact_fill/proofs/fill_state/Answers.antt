@@ -40,9 +40,7 @@ pub returns-then-k-eq2 : goal.returns-then-k-eq2
 returns-then-k-eq2 c = c.two_arrows.ensures
 
 pub several_arrows-requires : goal.several_arrows-requires
-several_arrows-requires c =
-    let asked = c.requires in
-    record { first_form = asked.0; sets_len = asked.1 }
+several_arrows-requires c = record { first_form = c.requires.first_form; sets_len = c.requires.sets_len }
 
 pub shape_of-sets : goal.shape_of-sets
 shape_of-sets c = c.several_arrows.ensures.1.size
