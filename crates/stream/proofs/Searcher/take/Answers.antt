@@ -44,10 +44,11 @@ slice_bounds-run-end-2 c =
 
 pub run-ran-requires : goal.run-ran-requires
 run-ran-requires c =
-    let S = makeable_sound _ (sym c.can_be_made-fine.ensures ∙ not-false _ c.if-not-fine.false-raw) in (
-      (omega (arith, word-length S, S.short), own-borders S),
-      (S.no_more, omega (arith, S.inside, text_limit, c.if-before-piece.false)),
-    )
+    let S = makeable_sound _ (sym c.can_be_made-fine.ensures ∙ not-false _ c.if-not-fine.false-raw) in
+    record {
+      held_in_bounds = (omega (arith, word-length S, S.short), own-borders S);
+      held_le_before = (S.no_more, omega (arith, S.inside, text_limit, c.if-before-piece.false));
+    }
 
 pub overflow_add-result : goal.overflow_add-result
 overflow_add-result c =
