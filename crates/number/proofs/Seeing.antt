@@ -2,7 +2,7 @@
 -- their number, and k more may follow the first of them, n + k being 4.
 use mathlib.Core.Path.{◌≡◌, refl, sym, ap, ◌∙◌}
 use mathlib.Core.Logic.{◌⊎◌, inl, inr}
-use mathlib.Core.Bool.{Bool, true, false, ◌&&◌, ◌||◌, or_true, true≢false}
+use mathlib.Core.Bool.{Bool, true, false, ◌&&◌, ◌||◌, or-true, true≢false}
 use mathlib.Core.List.{List, [], ◌∷◌, ◌++◌}
 use Prim.Native.Nat.{ℕ, zero, suc, ◌+◌, ◌*◌, ◌/◌, ◌%◌, ◌≤◌, ◌<◌}
 use native.Mathlib.Decide.{dec_lt}
@@ -29,7 +29,7 @@ Refusable n b = ((0 < n) × (b ≡ 0)) ⊎ ((n ≡ 4) × (15 < b))
 pub refuses_when : {n b : ℕ} → Refusable n b → refuses n b ≡ true
 unfolding refuses
 refuses_when {n} {b} (inl q) = rw (lt-ltb 0 n q.0, eq-eqb b 0 q.1)
-refuses_when {n} {b} (inr q) = rw (eq-eqb n 4 q.0, lt-ltb 15 b q.1, or_true (ltb 0 n && eqb b 0))
+refuses_when {n} {b} (inr q) = rw (eq-eqb n 4 q.0, lt-ltb 15 b q.1, or-true (ltb 0 n && eqb b 0))
 
 -- and no other is
 pub refuses_why : {n b : ℕ} → refuses n b ≡ true → Refusable n b
@@ -134,13 +134,13 @@ follow_spellable b h f =
 
 -- what was spelled is seen, whatever follows
 pub see-spells : {n k v : ℕ} {l : List ℕ} (r : List ℕ) → Spellable n k v → Spells v l → see n (l ++ r) ≡ number v (n + length l)
-see-spells {n} r f (last {v = v} h) = let e : n + 1 ≡ suc n = omega arith in see-last r (spellable_passes f) h ∙ rw e
-see-spells {n} r f (follows {v = v} {l = l} h s) =
+see-spells {n = n} r f (last {v = v} h) = let e : n + 1 ≡ suc n = omega arith in see-last r (spellable_passes f) h ∙ rw e
+see-spells {n = n} r f (follows {v = v} {l = l} h s) =
     let g = spellable_follow f h in
     let e : (128 + v % 128) % 128 + 128 * (v / 128) ≡ v = omega arith in
     let c : suc n + length l ≡ n + suc (length l) = omega arith in
     see-follows (l ++ r) g.2 (omega arith)
-    ∙ ap (with_group ((128 + v % 128) % 128)) (see-spells r g.1 s)
+    ∙ ap (with_group ((128 + v % 128) % 128)) (see-spells {n = suc n} r g.1 s)
     ∙ rw (e, c)
 
 -- ── What is seen was spelled ───────────────────────────────────────────────

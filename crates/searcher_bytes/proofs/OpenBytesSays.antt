@@ -1,4 +1,5 @@
--- THE THEOREMS on `open_bytes_says`: each refusal exactly where it is tabled, what a refusal leaves, and that the promise allows one outcome.
+-- THE THEOREMS on `open_bytes_says`: each refusal exactly where it is tabled, what a refusal leaves, and that the promise allows one
+-- outcome.
 use mathlib.Core.Path.{◌≡◌, refl, sym, ap, ◌∙◌}
 use mathlib.Core.Bool.{true}
 use mathlib.Core.Logic.{◌↔◌}
@@ -34,7 +35,8 @@ module _ (w : Word) (B : List ℕ) where
   unfolding open_bytes_says
   says-long h l = rw (le-ltb _ _ h, lt-ltb _ _ l)
 
-  pub says-short : 1 ≤ length w → length w ≤ longest_streamed → length B < searcher_bytes → open_bytes_says w B ≡ outcome (refused short_room) B
+  pub says-short : 1 ≤ length w → length w ≤ longest_streamed → length B < searcher_bytes
+      → open_bytes_says w B ≡ outcome (refused short_room) B
   unfolding open_bytes_says
   says-short h l s = rw (le-ltb _ _ h, le-ltb _ _ l, lt-ltb _ _ s)
 
@@ -99,8 +101,8 @@ module _ (w : Word) (B : List ℕ) where
 -- ── One outcome ────────────────────────────────────────────────────────────
 
 -- two outcomes that the promise of open allows are equal
-pub open_one : (w : Word) (B : List ℕ) (r s : SizeAnswer) (P Q : List ℕ) → opened r P ≡ open_bytes_says w B → opened s Q ≡ open_bytes_says w B
-    → (r ≡ s) × (P ≡ Q)
+pub open_one : (w : Word) (B : List ℕ) (r s : SizeAnswer) (P Q : List ℕ) → opened r P ≡ open_bytes_says w B
+    → opened s Q ≡ open_bytes_says w B → (r ≡ s) × (P ≡ Q)
 open_one w B r s P Q e f =
     let g : opened r P ≡ opened s Q = e ∙ sym f in
     (size_answer-one r s (ap (λ o. o.answer) g), ap (λ o. o.bytes) g)

@@ -18,7 +18,8 @@ pub returns-then-word-lt1 : goal.returns-then-word-lt1
 returns-then-word-lt1 c = sym (says-empty _ _ c.if-word-lt1.true)
 
 pub returns-then-word-gt-STREAMED_LIMIT : goal.returns-then-word-gt-STREAMED_LIMIT
-returns-then-word-gt-STREAMED_LIMIT c = sym (says-long _ _ c.if-word-lt1.false (omega (arith, streamed_limit, c.if-word-gt-STREAMED_LIMIT.true)))
+returns-then-word-gt-STREAMED_LIMIT c =
+    sym (says-long _ _ c.if-word-lt1.false (omega (arith, streamed_limit, c.if-word-gt-STREAMED_LIMIT.true)))
 
 pub returns-then-bytes-lt-SEARCHER : goal.returns-then-bytes-lt-SEARCHER
 returns-then-bytes-lt-SEARCHER c =
@@ -35,7 +36,7 @@ pack-requires c =
     let some = c.if-word-lt1.false in
     let few : length word ≤ longest_streamed = omega (arith, streamed_limit, c.if-word-gt-STREAMED_LIMIT.false) in
     let no_text : 0 ≤ longest_text = omega arith in
-    let made = opened-searcher word [] some few c.«open».result c.«open».ensures in
+    let made = opened-searcher word [] some few c.open-opened.result c.open-opened.ensures in
     let size = length-take-le 134 c.args.bytes.now c.if-bytes-lt-SEARCHER.false in
     record {
       out_len = size ∙ sym searcher_bytes_lem;
@@ -45,4 +46,4 @@ pack-requires c =
 pub returns : goal.returns
 returns c =
     says-packed _ _ c.if-word-lt1.false (omega (arith, streamed_limit, c.if-word-gt-STREAMED_LIMIT.false)) c.if-bytes-lt-SEARCHER.false
-    c.«open».result c.«open».ensures c.pack.ensures
+    c.open-opened.result c.open-opened.ensures c.pack.ensures

@@ -3,8 +3,7 @@ use mathlib.Core.Path.{◌≡◌, sym, ◌∙◌}
 use native.Mathlib.Omega.{arith}
 use lib.ListN.{length}
 use lib.Seq.{length-take-le}
-use denote.Struct.Field.{u16-field}
-use borrow.Author.Rules.{rules, length_unmapped}
+use borrow.Author.Rules.{rules}
 use Rattle.searcher_bytes.proofs.Packing.{searcher_bytes_lem, middle_length, packed-parts}
 use Rattle.searcher_bytes.proofs.pack.Goals as goal
 
@@ -17,27 +16,27 @@ slice_bounds-copy-end-3 c =
 
 pub copy-requires : goal.copy-requires
 copy-requires c =
-    let row : length c.args.s.word ≡ 64 = search (rules, c.«well-formed».) in
+    let row : length c.args.s.word ≡ 64 = search (rules, c.well_formed) in
     length-take-le 64 c.args.out.now (omega (arith, searcher_bytes_lem, c.requires.out_len)) ∙ sym row
 
 pub slice_bounds-narrow-end-2 : goal.slice_bounds-narrow-end-2
 slice_bounds-narrow-end-2 c =
-    omega (arith, searcher_bytes_lem, c.requires.out_len, c.«out».given)
+    omega (arith, searcher_bytes_lem, c.requires.out_len, c.copy.auto.to)
 
 pub narrow-requires : goal.narrow-requires
 narrow-requires c =
-    let row : length c.args.s.borders ≡ 64 = search (rules, c.«well-formed».) in
-    let own : length c.args.s.word ≡ 64 = search (rules, c.«well-formed».) in
+    let row : length c.args.s.borders ≡ 64 = search (rules, c.well_formed) in
+    let own : length c.args.s.word ≡ 64 = search (rules, c.well_formed) in
     (middle_length c.args.out.now c.copy.ensures own c.requires.out_len ∙ sym row, c.requires.size_bound.2)
 
 pub slice_bounds-copy-end-5 : goal.slice_bounds-copy-end-5
 slice_bounds-copy-end-5 c =
-    omega (arith, searcher_bytes_lem, c.requires.out_len, c.«out».given, c.«out2».given)
+    omega (arith, searcher_bytes_lem, c.requires.out_len, c.copy.auto.to, c.narrow.auto.to)
 
 pub returns : goal.returns
 returns c =
     let s = c.args.s in
-    let own : length s.word ≡ 64 = search (rules, c.«well-formed».) in
-    let its = length_unmapped u16-field.Value s.borders 64 c.«well-formed».0.1.1.1.0.1.0.1 in
+    let own : length s.word ≡ 64 = search (rules, c.well_formed) in
+    let its : length s.borders ≡ 64 = search (rules, c.well_formed) in
     packed-parts s own its c.args.out.now c.requires.out_len c.copy.ensures c.narrow.ensures
     c.copy-2.ensures

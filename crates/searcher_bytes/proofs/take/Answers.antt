@@ -3,7 +3,6 @@
 use mathlib.Core.Path.{sym, ◌∙◌}
 use native.Mathlib.Omega.{arith}
 use lib.Seq.{length-take-le}
-use borrow.Author.Tests.{not-true, not-false}
 use Rattle.searcher_bytes.proofs.Packing.{searcher_bytes_lem}
 use Rattle.searcher_bytes.proofs.Packable.{packable}
 use Rattle.searcher_bytes.proofs.TakeBytesSays.{says-few, says-refused, says-packed, done_sound}
@@ -24,7 +23,7 @@ pub returns-then-not-done : goal.returns-then-not-done
 returns-then-not-done c =
     says-refused _ _ _ (omega (arith, searcher_bytes_lem, c.if-bytes-lt-SEARCHER.false)) c.unpack-s.ensures
     c.take-taken.result c.take-taken.ensures
-    (sym c.is_done-done.ensures ∙ not-true _ c.if-not-done.true-raw)
+    (sym c.is_done-done.ensures ∙ c.if-not-done.true)
 
 pub slice_bounds-pack-end-2 : goal.slice_bounds-pack-end-2
 slice_bounds-pack-end-2 c =
@@ -32,14 +31,15 @@ slice_bounds-pack-end-2 c =
 
 pub pack-requires : goal.pack-requires
 pack-requires c =
-    let told = sym c.is_done-done.ensures ∙ not-false _ c.if-not-done.false-raw in (
-      length-take-le 134 c.args.bytes.now c.if-bytes-lt-SEARCHER.false ∙ sym searcher_bytes_lem,
-      packable (done_sound _ _ _ c.take-taken.result c.take-taken.ensures told),
-    )
+    let told = sym c.is_done-done.ensures ∙ c.if-not-done.false in
+    record {
+      out_len = length-take-le 134 c.args.bytes.now c.if-bytes-lt-SEARCHER.false ∙ sym searcher_bytes_lem;
+      size_bound = packable (done_sound _ _ _ c.take-taken.result c.take-taken.ensures told);
+    }
 
 pub returns : goal.returns
 returns c =
-    let told = sym c.is_done-done.ensures ∙ not-false _ c.if-not-done.false-raw in
+    let told = sym c.is_done-done.ensures ∙ c.if-not-done.false in
     says-packed _ _ _ (omega (arith, searcher_bytes_lem, c.if-bytes-lt-SEARCHER.false)) c.unpack-s.ensures
     c.take-taken.result c.take-taken.ensures told
     c.pack.ensures

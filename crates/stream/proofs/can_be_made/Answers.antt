@@ -5,7 +5,6 @@ use native.Mathlib.Omega.{arith}
 use lib.ListN.{length}
 use lib.Seq.{length-take-le}
 use borrow.Author.Rules.{rules}
-use borrow.Author.Tests.{not-true, not-false}
 use Rattle.words.proofs.Limits.{streamed_limit, text_limit}
 use Rattle.stream.proofs.Sound.{unsound}
 use Rattle.stream.proofs.Testing.{own-length, its-length, other_word, last_test}
@@ -51,7 +50,7 @@ same_bytes-one-requires c =
 
 pub returns-then-not-one : goal.returns-then-not-one
 returns-then-not-one c =
-    sym (other_word _ c.fresh-o.ensures (sym c.same_bytes-one.ensures ∙ not-true _ c.if-not-one.true-raw))
+    sym (other_word _ c.fresh-o.ensures (sym c.same_bytes-one.ensures ∙ c.if-not-one.true))
 
 pub same_borders-requires : goal.same_borders-requires
 same_borders-requires c =
@@ -61,7 +60,7 @@ same_borders-requires c =
 
 pub returns : goal.returns
 returns c =
-    let one = sym c.same_bytes-one.ensures ∙ not-false _ c.if-not-one.false-raw in
+    let one = sym c.same_bytes-one.ensures ∙ c.if-not-one.false in
     c.same_borders.ensures
     ∙ last_test _ c.fresh-o.ensures c.if-m-lt1.false c.if-m-gt-STREAMED_LIMIT.false c.if-m-s.false c.if-s.false
     c.if-s-gt-TEXT_LIMIT.false one

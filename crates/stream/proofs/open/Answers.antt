@@ -13,7 +13,8 @@ returns-then-word-lt1 c = c.unopened.ensures ∙ sym (says-empty _ c.if-word-lt1
 
 pub returns-then-word-gt-STREAMED_LIMIT : goal.returns-then-word-gt-STREAMED_LIMIT
 returns-then-word-gt-STREAMED_LIMIT c =
-    c.unopened-then-word-gt-STREAMED_LIMIT.ensures ∙ sym (says-long _ c.if-word-lt1.false (omega (arith, streamed_limit, c.if-word-gt-STREAMED_LIMIT.true)))
+    c.unopened-then-word-gt-STREAMED_LIMIT.ensures
+    ∙ sym (says-long _ c.if-word-lt1.false (omega (arith, streamed_limit, c.if-word-gt-STREAMED_LIMIT.true)))
 
 pub fresh-s-requires : goal.fresh-s-requires
 fresh-s-requires c = (c.if-word-lt1.false, omega (arith, streamed_limit, c.if-word-gt-STREAMED_LIMIT.false))

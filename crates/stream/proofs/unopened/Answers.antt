@@ -1,4 +1,5 @@
 -- `stream::unopened` meets its contract: what it hands out is blank, rows of zeros.
+use mathlib.Core.Path.{◌≡◌}
 use lib.ListN.{replicate}
 use Rattle.words.proofs.Limits.{streamed_limit}
 use Rattle.stream.specs.declared.Searcher.{Searcher}
