@@ -18,9 +18,9 @@ list_find-listed-requires c =
 
 pub loop-i-preserved : goal.loop-i-preserved
 loop-i-preserved c =
-    let kept = c.list_find-listed.auto.1.1 in
+    let kept = c.list_find-listed.auto in
     let found = c.list_find-listed.ensures in
-    upto_next c.loop-i.invariant c.loop-i-test.true kept.0 kept.1.0 found.0 found.1
+    upto_next c.loop-i.invariant c.loop-i-test.true kept.starts kept.kinds found.0 found.1
 
 pub shape_of-starts : goal.shape_of-starts
 shape_of-starts c = c.loop-i.invariant.sizes.0

@@ -63,9 +63,9 @@ pub loop-at-preserved : goal.loop-at-preserved
 loop-at-preserved c =
     let lent = c.requires.word_value in
     let search = searched lent.0 lent.1 c.part_end-end.ensures c.scan-tally.ensures in
-    let kept = c.list_finds-count.auto.1.1.1 in
+    let kept = c.list_finds-count.auto in
     let listed = c.list_finds-count.ensures in
-    before-next c.loop-at.invariant search kept.0 kept.1.0 listed.0 listed.1
+    before-next c.loop-at.invariant search kept.starts kept.kinds listed.0 listed.1
 
 pub shape_of-finds : goal.shape_of-finds
 shape_of-finds c = c.loop-at.invariant.sizes.0 ∙ sym c.requires.text_len_bound.1
