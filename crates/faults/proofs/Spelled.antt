@@ -32,6 +32,7 @@ SmallStep t = (t.up ≤ greatest) × (t.over ≤ greatest)
 steps-small : (x : State) (l : List Extra) → ((a : Extra) → Memᴰ a l → (a.source ≤ greatest) × (a.to ≤ greatest))
     → (t : Step) → Memᴰ t (steps_from x l) → SmallStep t
 unfolding steps_from
+steps-small x mathlib.Core.List.[] small t x4 = elim x4 [ ]
 steps-small x (a ∷ l) small t (Memᴰ.head e) =
     let h = small a (Memᴰ.head refl) in
     rw e (omega (arith, h.0), omega (arith, h.1))
