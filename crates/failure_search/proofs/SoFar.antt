@@ -5,14 +5,12 @@ use mathlib.Core.Path.{◌≡◌, refl, sym, ap, ◌∙◌}
 use mathlib.Core.Bool.{true, false}
 use mathlib.Core.Option.{none, some}
 use mathlib.Core.List.{List, [], ◌∷◌, ◌++◌, append_assoc, append-nil}
-use Prim.Native.Nat.{ℕ, zero, suc, ◌+◌, ◌-◌, ◌*◌, ◌≤◌, ◌<◌}
+use Prim.Native.Nat.{ℕ, suc, ◌+◌, ◌-◌, ◌≤◌, ◌<◌}
 use native.Mathlib.Nat.{le_refl, zero-add, mul-le-mul}
 use native.Mathlib.Omega.{arith}
 use lib.ListN.{length, length-append}
-use Rattle.words.specs.Words.{Word, Place, letter, stands}
+use Rattle.words.specs.Words.{Word, Place, stands}
 use Rattle.words.specs.declared.Place.{Place as Placed}
-use Rattle.words.proofs.Lists.{option_cases}
-use Rattle.oracle.specs.Arrows.{State}
 use Rattle.backward.specs.Steps.{after_find}
 use Rattle.backward.proofs.Reading.{FailedAt, whole-letters}
 use Rattle.backward.proofs.AfterFind.{after_moves, after-most}
@@ -22,7 +20,7 @@ use Rattle.search.proofs.Readings.{failed-told, whole-told}
 use Rattle.finds.specs.Finds.{filled}
 use Rattle.finds.proofs.Filling.{filled-nil, filled-length}
 use Rattle.failure.specs.FailureRule.{Asking, leads}
-use Rattle.failure.specs.FailureSteps.{FailureSweep, read_both, read_window_both, failure_windows, failure_steps_with}
+use Rattle.failure.specs.FailureSteps.{FailureSweep, read_window_both, failure_windows, failure_steps_with}
 use Rattle.failure.proofs.Windows.{as_read_down, both-failed-place, next, with_window, next_moves}
 use Rattle.failure.proofs.Windows.{windows-past, windows-one, windows-enough, steps-letters, steps-failures-most}
 use Rattle.failure_search.specs.declared.CountedRead.{CountedRead}

@@ -1,7 +1,6 @@
 -- SO FAR, AND STILL AHEAD: before each window, the finds so far and those of the windows still ahead are all finds, and so with the letters
 -- read. A window adds what its two readings answer: the first says where the second begins, which goes as `forward` does from there.
 use mathlib.Core.Path.{◌≡◌, refl, sym, ap, ◌∙◌}
-use mathlib.Core.Option.{none}
 use mathlib.Core.List.{List, [], ◌++◌, append_assoc, append-nil}
 use Prim.Native.Nat.{ℕ, suc, ◌+◌, ◌-◌, ◌*◌, ◌≤◌, ◌<◌}
 use native.Mathlib.Nat.{le_refl, zero-add}

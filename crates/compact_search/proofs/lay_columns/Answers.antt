@@ -10,12 +10,12 @@ loop-i-init c =
     laying_start c.requires.compact_formed.1 c.requires.zeros.0 c.requires.zeros.1
 
 pub returns-then-next-rows : goal.returns-then-next-rows
-returns-then-next-rows c = absurd (omega arith)
+returns-then-next-rows c = λ h. absurd (omega (arith, h))
 
 pub loop-i-preserved-then-has_arrow : goal.loop-i-preserved-then-has_arrow
 loop-i-preserved-then-has_arrow c =
     laying_column c.loop-i.invariant c.loop-i-test.true (omega (arith, c.if-next-rows.false, c.loop-i.invariant.most))
-    c.fill_column.auto.1.1.1.1.0 c.fill_column.ensures
+    c.fill_column.auto.column c.fill_column.ensures
 
 pub loop-i-preserved : goal.loop-i-preserved
 loop-i-preserved c =
@@ -24,4 +24,4 @@ loop-i-preserved c =
     laying_none c.loop-i.invariant (λ x. c.requires.compact_formed.0.firsts x _ none-from-first)
 
 pub returns : goal.returns
-returns c = laying_end c.loop-i.invariant c.loop-i-test.false
+returns c = λ _. laying_end c.loop-i.invariant c.loop-i-test.false

@@ -5,7 +5,7 @@ use Rattle.compact_search.proofs.Entries.{copied_first}
 use Rattle.compact_search.proofs.prepare.Goals as goal
 
 pub returns-then-rows-eq0 : goal.returns-then-rows-eq0
-returns-then-rows-eq0 c = absurd (omega arith)
+returns-then-rows-eq0 c = λ h. absurd (omega (arith, h))
 
 pub fill_first-requires : goal.fill_first-requires
 fill_first-requires c =
@@ -16,6 +16,6 @@ fill_first-requires c =
     }
 
 pub returns : goal.returns
-returns c =
+returns c = λ h.
     let laid = c.lay_columns-rows.ensures h in
     (copied_first c.requires.compact_formed.0 laid h c.fill_first.ensures, laid)

@@ -21,12 +21,12 @@ pub returns-in_default : goal.returns-in_default
 returns-in_default c =
     let R = c.requires.1 in
     let T = nowhere_told c.requires.0 _ _ c.ask-a.ensures c.in_default.is in
-    let small : c.args.c.0 < 256 = omega (arith, c.«struct_known».given) in
+    let small : c.args.c.0 < 256 = omega arith in
     (rw (written R _ _ small) T, remembers_more R _ _ small 65535 T)
 
 pub returns : goal.returns
 returns c =
     let R = c.requires.1 in
     let T = somewhere_told c.requires.0 _ _ c.ask-a.ensures _ c.in-To.is in
-    let small : c.args.c.0 < 256 = omega (arith, c.«struct_known».given) in
+    let small : c.args.c.0 < 256 = omega arith in
     (rw (written R _ _ small) T, remembers_more R _ _ small _ T)

@@ -23,9 +23,10 @@ overflow_cast-border c = omega (arith, c.type_inv.row (length c.args.word.now - 
 pub loop-at-init : goal.loop-at-init
 loop-at-init c =
     let word = c.args.word.now in
-    let lent = c.requires in
-    let last = ap (λ (row : List ℕ). at row (length word - 1)) lent.0.2 ∙ borders-last word (omega (arith, lent.0.0)) in
-    (last, going_start lent.1.1 lent.0.0 lent.0.1 lent.1.0)
+    let kept = c.requires.kept_in_bounds in
+    let found = c.requires.found_le_c in
+    let last = ap (λ (row : List ℕ). at row (length word - 1)) kept.2 ∙ borders-last word (omega (arith, kept.0)) in
+    (last, going_start found.1 kept.0 kept.1 found.0)
 
 pub reach-requires : goal.reach-requires
 reach-requires c = c.loop-at.invariant.1.short
@@ -108,7 +109,7 @@ loop-at-preserved c =
     let fits = c.requires.found_le_c.2 in (
       known.0,
       going_find known.1 fits c.reach.ensures c.loop-at-test.true c.extend-long.ensures c.if-long-m.false
-          known.0 noted.0 c.«finds».given noted.1,
+          known.0 noted.0 c.note-count.auto.finds noted.1,
     )
 
 pub overflow_cast-result : goal.overflow_cast-result

@@ -1,7 +1,6 @@
 use mathlib.Core.Path.{◌≡◌}
 use Prim.Native.Nat.{◌-◌}
 use lib.ListN.{length}
-use Rattle.words.specs.Lists.{at}
 use Rattle.border.specs.Borders.{longest_border}
 use Rattle.turbo.proofs.Going.{Going}
 use Rattle.turbo.proofs.forward.Given as goal

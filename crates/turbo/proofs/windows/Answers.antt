@@ -70,10 +70,10 @@ window-smaller c =
 
 pub window-preserved : goal.window-preserved
 window-preserved c = (
-      so_far_window c.window.invariant.0 c.requires.in_bounds.0 c.window-test.true c.read_back-begin.ensures
-          c.forward-stop.ensures,
-      c.rows_next-asked.ensures,
-    )
+  so_far_window c.window.invariant.0 c.requires.in_bounds.0 c.window-test.true c.read_back-begin.ensures
+      c.forward-stop.ensures,
+  c.rows_next-asked.ensures,
+)
 
 pub shape_of-finds : goal.shape_of-finds
 shape_of-finds c = so_far-length c.window.invariant.0
