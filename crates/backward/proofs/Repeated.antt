@@ -8,7 +8,7 @@ use Prim.Native.Nat.{ℕ, suc, ◌+◌, ◌-◌, ◌*◌, ◌≤◌, ◌<◌}
 use native.Mathlib.Nat.{le_refl, mul-zero, mul-suc}
 use native.Mathlib.Omega.{arith}
 use lib.ListN.{length, replicate, length-replicate, get_or-replicate}
-use Rattle.words.specs.Words.{Letter, Word, Place, letter, mirror, stands}
+use Rattle.words.specs.Words.{Letter, Word, Place, mirror, stands}
 use Rattle.words.proofs.Lists.{none_where}
 use Rattle.words.proofs.Occurrences.{letters_stand}
 use Rattle.border.specs.Borders.{longest_border}

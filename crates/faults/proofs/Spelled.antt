@@ -2,7 +2,7 @@
 -- spelling of a number begins another's.
 use mathlib.Core.Path.{◌≡◌, refl, sym, ap, ◌∙◌}
 use mathlib.Core.List.Memᴰ
-use mathlib.Core.List.{List, ◌∷◌, ◌++◌, append_assoc, Memᴰ}
+use mathlib.Core.List.{List, [], ◌∷◌, ◌++◌, append_assoc, Memᴰ}
 use Prim.Native.Nat.{ℕ, ◌≤◌}
 use native.Mathlib.Omega.{arith}
 use lib.ListN.{length}
@@ -32,7 +32,7 @@ SmallStep t = (t.up ≤ greatest) × (t.over ≤ greatest)
 steps-small : (x : State) (l : List Extra) → ((a : Extra) → Memᴰ a l → (a.source ≤ greatest) × (a.to ≤ greatest))
     → (t : Step) → Memᴰ t (steps_from x l) → SmallStep t
 unfolding steps_from
-steps-small x mathlib.Core.List.[] small t x4 = elim x4 [ ]
+steps-small x [] small t m = elim m [ ]
 steps-small x (a ∷ l) small t (Memᴰ.head e) =
     let h = small a (Memᴰ.head refl) in
     rw e (omega (arith, h.0), omega (arith, h.1))

@@ -40,7 +40,7 @@ abbrev pub into : Letter → State → List State → List Arrow
 into c y xs = map (λ k. arrow k c y) xs
 
 pub target-new : (A : List Arrow) (c : Letter) (y x : State) (xs : List State) → Memᴰ x xs → target (into c y xs ++ A) x c ≡ some y
-target-new A c y x [] x'' = elim x'' [ ]
+target-new A c y x [] m = elim m [ ]
 target-new A c y x (k ∷ xs) (Memᴰ.head e) = rw e (target_hit (into c y xs ++ A) k c y)
 target-new A c y x (k ∷ xs) (Memᴰ.tail m) =
     let B = into c y xs ++ A in
@@ -69,7 +69,7 @@ target_member (a ∷ A) x c y e = ⊎_elim
 
 pub member_target : (A : List Arrow) → OneEach A → {a : Arrow} → Memᴰ a A → target A a.source a.on ≡ some a.to
 unfolding OneEach
-member_target [] o {a = a} x'' = elim x'' [ ]
+member_target [] o {a = a} m = elim m [ ]
 member_target (b ∷ A) o (Memᴰ.head e) = rw e (target_hit A b.source b.on b.to)
 member_target (b ∷ A) o {a} (Memᴰ.tail m) =
     let r = member_target A o.1 m in
@@ -87,6 +87,6 @@ none-behind (a ∷ A) B x c e = ⊎_elim
 -- no arrow of the one list leaves the same state on the same letter as one of the other
 pub apart : (A B : List Arrow) → OneEach (A ++ B) → {a : Arrow} → Memᴰ a A → target B a.source a.on ≡ none
 unfolding OneEach
-apart [] B o {a = a} x'' = elim x'' [ ]
+apart [] B o {a = a} m = elim m [ ]
 apart (b ∷ A) B o (Memᴰ.head e) = rw e (none-behind A B b.source b.on o.0)
 apart (b ∷ A) B o (Memᴰ.tail m) = apart A B o.1 m

@@ -1,7 +1,7 @@
 -- A MARK THAT IS LOOKED FOR ALONE: its search is lent the part of the list of starts that has a partner in the list of numbers, and the
 -- numbers of what it listed are zero. So both lists are as the find record has them.
 use mathlib.Core.Path.{◌≡◌, refl, sym, ap, ◌∙◌}
-use mathlib.Core.List.{List, [], ◌∷◌, ◌++◌, map, append_assoc}
+use mathlib.Core.List.{List, [], ◌∷◌, ◌++◌, append_assoc}
 use Prim.Native.Nat.{ℕ, zero, suc, ◌≤◌, min}
 use native.Mathlib.Decide.{dec_le}
 use native.Mathlib.Omega.{arith}

@@ -23,7 +23,7 @@ module _ {A : Type 0} where
 
   -- E without the place at which a stands
   without : {a : A} (E : List A) → Memᴰ a E → List A
-  without {a = a} [] x' = elim x' [ ]
+  without {a = a} [] m = elim m [ ]
   without (b ∷ E) (Memᴰ.head e) = E
   without (b ∷ E) (Memᴰ.tail m) = b ∷ without E m
 

@@ -172,7 +172,7 @@ module _ {A : Type 0} (P : A → Bool) where
 
   pub in_only : (l : List A) {a : A} → Memᴰ a l → P a ≡ true → Memᴰ a (only P l)
   unfolding only
-  in_only [] {a = a} x'' e = elim x'' [ ]
+  in_only [] {a = a} m e = elim m [ ]
   in_only (x ∷ l) (mathlib.Core.List.Memᴰ.head q) e = rw (only_yes x l (rw q at e)) (mathlib.Core.List.Memᴰ.head q)
   in_only (x ∷ l) (mathlib.Core.List.Memᴰ.tail m) e = test_cases (P x) (λ f. rw f (mathlib.Core.List.Memᴰ.tail (in_only l m e))) (λ f. rw f (in_only l m e))
 
@@ -214,7 +214,7 @@ module _ {A : Type 0} (P : A → Bool) where
   pub first-only : (l : List A) {a : A} → Memᴰ a l → P a ≡ true → ((b : A) → Memᴰ b l → P b ≡ true → b ≡ a)
       → first P l ≡ some a
   unfolding first
-  first-only [] {a = a} x3 e f = elim x3 [ ]
+  first-only [] {a = a} m e f = elim m [ ]
   first-only (b ∷ l) (mathlib.Core.List.Memᴰ.head q) e f = rw q (first-yes b l (rw q at e))
   first-only (b ∷ l) (mathlib.Core.List.Memᴰ.tail m) e f = test_cases (P b)
       (λ g. first-yes b l g ∙ ap {B = Option A} some (f b (mathlib.Core.List.Memᴰ.head refl) g))
@@ -228,7 +228,7 @@ rising_lower {a} h (up {x = x} g r) = let k : a ≤ x = omega arith in up k r
 
 -- nothing is below the bound
 pub rising_above : {a y : ℕ} {l : List ℕ} → Rising a l → Memᴰ y l → a ≤ y
-rising_above {y = y} (end {a = a}) x4 = elim x4 [ ]
+rising_above {y = y} (end {a = a}) m = elim m [ ]
 rising_above (up g r) (mathlib.Core.List.Memᴰ.head e) = omega arith
 rising_above (up g r) (mathlib.Core.List.Memᴰ.tail m) = omega (arith, rising_above r m)
 

@@ -24,13 +24,13 @@ returns-then-left-le1 t c =
 pub climb-requires : goal.climb-requires
 climb-requires t c =
     let R =
-        climb_rests c.requires.climbing c.push.ensures c.supply_at-next.ensures c.in-Of.is c.look-found.ensures c.in_default-found.is in
+    climb_rests c.requires.climbing c.push.ensures c.supply_at-next.ensures c.in-Of.is c.look-found.ensures c.in_default-found.is in
     (omega (arith, c.decreases, R.0), (c.requires.n_bound, R.1.there))
 
 pub returns-in_default-found : goal.returns-in_default-found
 returns-in_default-found t c =
     let R =
-        climb_rests c.requires.climbing c.push.ensures c.supply_at-next.ensures c.in-Of.is c.look-found.ensures c.in_default-found.is in
+    climb_rests c.requires.climbing c.push.ensures c.supply_at-next.ensures c.in-Of.is c.look-found.ensures c.in_default-found.is in
     says_on R _ c.climb.result c.climb.ensures
 
 -- it has one
