@@ -13,8 +13,10 @@ returns-then-first-eq-NOTHING c =
 pub loop-left-init : goal.loop-left-init
 loop-left-init c =
     let told = c.requires.failure_formed.1 in
-    let few = few-taken _ _ c.requires.failure_formed.0.small in
-    (first_goes _ _ _ c.requires.le_m.0 told c.if-first-eq-NOTHING.false few, first-state c.requires.failure_formed.0 told c.if-first-eq-NOTHING.false)
+    let few = few-taken _ _ c.requires.failure_formed.0.small in (
+      first_goes _ _ _ c.requires.le_m.0 told c.if-first-eq-NOTHING.false few,
+      first-state c.requires.failure_formed.0 told c.if-first-eq-NOTHING.false,
+    )
 
 pub ask-a-requires : goal.ask-a-requires
 ask-a-requires c =

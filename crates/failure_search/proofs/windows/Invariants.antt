@@ -7,7 +7,8 @@ use Rattle.failure_search.proofs.windows.Given as goal
 
 abbrev pub invariant-window : goal.invariant-window
 invariant-window l =
-    SoFar (read_ask l.m l.table) l.word l.text l.initial.finds l.finds l.s.0 l.count l.letters l.failures × Remembers (read_ask l.m l.table) l.leads l.taken
+    SoFar (read_ask l.m l.table) l.word l.text l.initial.finds l.finds l.s.0 l.count l.letters l.failures
+    × Remembers (read_ask l.m l.table) l.leads l.taken
 
 abbrev pub decreases-window : goal.decreases-window
 decreases-window l =
