@@ -278,7 +278,7 @@ module _ (word : Word) (T : List ℕ) where
     pub all_read : (read_word (length word) entries ≡ word)
         × ((x : State) (c : Letter) → read_symbol (length word) entries x c ≡ target (symbols word (failure_rule word)) x c)
         × ((x : State) → read_failure (length word) entries x ≡ failure_of (failure_rule word).failures x)
-    all_read = let L = Build.done-leaves word T some-letter few enough in (L.Reads-word, L.reads_symbols, L.reads_failures)
+    all_read = let L = Build.done-leaves word T some-letter few enough in (L.reads_word, L.reads_symbols, L.reads_failures)
 
 -- and the rule by which they are read does not work them out of the word: any such arrows are read from some table
 pub any_arrows-read : (p : Word) (A : FailureArrows) → FailureSet p A → (L : List ℕ) × ReadAsFailure p A L

@@ -183,7 +183,7 @@ module _ (word : Word) (T : List ℕ) where
     -- the word and the rule's arrows are read from them, and no others
     pub all_read : (read_word (length word) entries ≡ word)
         × ((x : State) (c : Letter) → read_storacle (length word) entries x c ≡ storacle word x c)
-    all_read = let L = Build.done-leaves word T some-letter few enough in (L.Reads-word, L.reads_arrows)
+    all_read = let L = Build.done-leaves word T some-letter few enough in (L.reads_word, L.reads_arrows)
 
 -- what is promised allows one outcome
 pub build_fixed : (word : Word) (T : List ℕ) (r s : SizeAnswer) (A B : List ℕ)

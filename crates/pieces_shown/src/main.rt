@@ -4,31 +4,28 @@
 // entry of the list is 77.
 #![tactic(auto)]
 
-ghost use Rattle.std.specs.Prelude.{◌≡◌, ◌<◌, ◌≤◌, length};
+ghost use Rattle.std.specs.Prelude.{◌≡◌, ◌<◌, ◌≤◌, length, IfOk};
 ghost use Rattle.words.specs.Limits.{longest_streamed, longest_text};
 ghost use Rattle.words.specs.Words.{occurrences};
 ghost use Rattle.answers.specs.Answers.{size_answer};
 ghost use Rattle.pieces_shown.specs.Counts.{count_of};
 
-use io::{print_decimal, write_all};
-use libc::STDOUT_FILENO;
+use std::io;
+use std::io::Write;
 
-fn entries(list: &[u32]) {
+fn entries(rt: &impl Print, list: &[u32]) -> io::Result<()> {
     let mut i = 0;
     while i < list.len() {
-        write_all(STDOUT_FILENO, b" ");
-        print_decimal(STDOUT_FILENO, list[i] as u64);
+        let entry = list[i];
+        print!(rt; " {entry}")?;
         i += 1;
     }
+    Ok(())
 }
 
-fn tell(end: usize, found: usize, list: &[u32]) {
-    write_all(STDOUT_FILENO, b"; to ");
-    print_decimal(STDOUT_FILENO, end as u64);
-    write_all(STDOUT_FILENO, b" found ");
-    print_decimal(STDOUT_FILENO, found as u64);
-    write_all(STDOUT_FILENO, b", list");
-    entries(list);
+fn tell(rt: &impl Print, end: usize, found: usize, list: &[u32]) -> io::Result<()> {
+    print!(rt; "; to {end} found {found}, list")?;
+    entries(rt, list)
 }
 
 // Where the piece ends that starts at `at`: so many bytes further, or with the text.
@@ -52,10 +49,10 @@ fn found(answer: answers::SizeAnswer) -> usize
     }
 }
 
-// How often the word stands in the text, which is taken in pieces of so many bytes.
-fn in_pieces(word: &[u8], text: &[u8], size: usize) -> usize
+// How often the word stands in the text, which is taken in pieces of so many bytes. Only a failed write is an error.
+fn in_pieces(rt: &impl Print, word: &[u8], text: &[u8], size: usize) -> io::Result<usize>
     requires { (1 ≤ length word.now) × (length word.now ≤ longest_streamed) × (length text.now ≤ longest_text) × (1 ≤ size) }
-    ensures { result ≡ length (occurrences word.now text.now) }
+    ensures { IfOk result (λ n. n ≡ length (occurrences word.now text.now)) }
 {
     let opened = stream::open(word);
     let mut s = opened.searcher;
@@ -68,35 +65,33 @@ fn in_pieces(word: &[u8], text: &[u8], size: usize) -> usize
         s = taken.next;
         let answer = taken.answer;
         let more = found(answer);
-        tell(end, more, &list);
+        tell(rt, end, more, &list)?;
         count += more;
         at = end;
     }
-    count
+    Ok(count)
 }
 
-fn show(word: &[u8], text: &[u8], size: usize)
+fn show(rt: &impl Print, word: &[u8], text: &[u8], size: usize) -> io::Result<()>
     requires { (1 ≤ length word.now) × (length word.now ≤ longest_streamed) × (length text.now ≤ longest_text) × (1 ≤ size) }
 {
-    write_all(STDOUT_FILENO, word);
-    write_all(STDOUT_FILENO, b" in ");
-    write_all(STDOUT_FILENO, text);
-    write_all(STDOUT_FILENO, b" by ");
-    print_decimal(STDOUT_FILENO, size as u64);
-    let all = in_pieces(word, text, size);
-    write_all(STDOUT_FILENO, b"; in all ");
-    print_decimal(STDOUT_FILENO, all as u64);
-    write_all(STDOUT_FILENO, b"\n");
+    let mut out = io::writer(rt);
+    out.write_all(word)?;
+    print!(rt; " in ")?;
+    out.write_all(text)?;
+    print!(rt; " by {size}")?;
+    let all = in_pieces(rt, word, text, size)?;
+    println!(rt; "; in all {all}")
 }
 
-fn main() {
-    show(b"aba", b"ababa", 1);
-    show(b"aba", b"ababa", 2);
-    show(b"aba", b"ababa", 3);
-    show(b"aba", b"ababa", 5);
-    show(b"a", b"aaaaaaaaa", 4);
-    show(b"aa", b"aaaaaaaaa", 4);
-    show(b"RIDE", b"..RIDE..RIDE", 5);
-    show(b"abcabd", b"abcabcabdabcabd", 7);
-    show(b"abb", b"ab", 1);
+fn main(rt: HostRuntime) -> io::Result<()> {
+    show(&rt, b"aba", b"ababa", 1)?;
+    show(&rt, b"aba", b"ababa", 2)?;
+    show(&rt, b"aba", b"ababa", 3)?;
+    show(&rt, b"aba", b"ababa", 5)?;
+    show(&rt, b"a", b"aaaaaaaaa", 4)?;
+    show(&rt, b"aa", b"aaaaaaaaa", 4)?;
+    show(&rt, b"RIDE", b"..RIDE..RIDE", 5)?;
+    show(&rt, b"abcabd", b"abcabcabdabcabd", 7)?;
+    show(&rt, b"abb", b"ab", 1)
 }

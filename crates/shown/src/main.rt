@@ -3,85 +3,84 @@
 // alone, and they are the file `stdout`. Before a call each lent byte is 6, each table entry 7, the answer 0 and the offset 99999.
 #![tactic(auto)]
 
-use io::{print_decimal, write_all};
-use libc::STDOUT_FILENO;
+use std::io;
 use words::WORD_LIMIT;
 
 // Table entries for every word.
 const ENTRIES: usize = 6 * (WORD_LIMIT + 1);
 
-fn from(place: usize, value: u64) {
-    write_all(STDOUT_FILENO, b" ");
-    print_decimal(STDOUT_FILENO, place as u64);
-    write_all(STDOUT_FILENO, b":");
-    print_decimal(STDOUT_FILENO, value);
+fn from(rt: &impl Print, place: usize, value: u64) -> io::Result<()> {
+    print!(rt; " {place}:{value}")
 }
 
 // Each place where another value begins, with it; so with table entries.
-fn bytes(s: &[u8]) {
+fn bytes(rt: &impl Print, s: &[u8]) -> io::Result<()> {
     let mut last = 256;
     let mut i = 0;
     while i < s.len() {
         let x = s[i] as u64;
         if x != last {
-            from(i, x);
+            from(rt, i, x)?;
         }
         last = x;
         i += 1;
     }
+    Ok(())
 }
 
-fn entries(s: &[u16]) {
+fn entries(rt: &impl Print, s: &[u16]) -> io::Result<()> {
     let mut last = 65536;
     let mut i = 0;
     while i < s.len() {
         let x = s[i] as u64;
         if x != last {
-            from(i, x);
+            from(rt, i, x)?;
         }
         last = x;
         i += 1;
     }
+    Ok(())
 }
 
-fn tell(number: u32, answer: u64) {
-    write_all(STDOUT_FILENO, b"; number ");
-    print_decimal(STDOUT_FILENO, number as u64);
-    write_all(STDOUT_FILENO, b", answer ");
-    print_decimal(STDOUT_FILENO, answer);
+fn tell(rt: &impl Print, number: u32, answer: u64) -> io::Result<()> {
+    print!(rt; "; number {number}, answer {answer}")
 }
 
-fn show(room: &[u8], tables: &[u16]) {
-    write_all(STDOUT_FILENO, b"; bytes");
-    bytes(room);
-    write_all(STDOUT_FILENO, b"; entries");
-    entries(tables);
-    write_all(STDOUT_FILENO, b"\n");
+fn show(rt: &impl Print, room: &[u8], tables: &[u16]) -> io::Result<()> {
+    print!(rt; "; bytes")?;
+    bytes(rt, room)?;
+    print!(rt; "; entries")?;
+    entries(rt, tables)?;
+    println!(rt; "")
 }
 
 // One load (L) or one save (S), in lent rooms.
-fn run(kind: u8, given: &[u8], room: &mut [u8], tables: &mut [u16]) {
+fn run(
+    rt: &impl Print,
+    kind: u8,
+    given: &[u8],
+    room: &mut [u8],
+    tables: &mut [u16],
+) -> io::Result<()> {
     let mut answer: u64 = 0;
     if kind == b'L' {
         let mut offset: u64 = 99999;
-        write_all(STDOUT_FILENO, b"load");
-        bytes(given);
+        print!(rt; "load")?;
+        bytes(rt, given)?;
         let number = marks_c::marks_load(given, room, tables, &mut answer, &mut offset);
-        tell(number, answer);
-        write_all(STDOUT_FILENO, b", offset ");
-        print_decimal(STDOUT_FILENO, offset);
-        show(room, tables);
-        return;
+        tell(rt, number, answer)?;
+        print!(rt; ", offset {offset}")?;
+        return show(rt, room, tables);
     }
-    write_all(STDOUT_FILENO, b"save");
-    bytes(given);
+    print!(rt; "save")?;
+    bytes(rt, given)?;
     let number = marks_c::marks_save(given, tables, room, &mut answer);
-    tell(number, answer);
-    show(room, tables);
+    tell(rt, number, answer)?;
+    show(rt, room, tables)
 }
 
 // A table of cases: for each its kind, how many bytes are handed over, and these. The rooms are enough for every word.
-fn cases(table: &[u8]) {
+fn cases(rt: &impl Print, table: &[u8]) -> io::Result<()> {
     let mut at = 0;
     while 2 <= table.len() - at {
         let mut room = [6u8; WORD_LIMIT];
@@ -90,28 +89,29 @@ fn cases(table: &[u8]) {
         let long = table[at + 1] as usize;
         let start = at + 2;
         if table.len() - start < long {
-            return;
+            return Ok(());
         }
         let end = start + long;
-        run(kind, &table[start..end], &mut room, &mut tables);
+        run(rt, kind, &table[start..end], &mut room, &mut tables)?;
         at = end;
     }
+    Ok(())
 }
 
 // Loads a file that ends behind its letters: as many as the longest word has, whatever it declares.
-fn long_file(declared: u32, room: &mut [u8]) {
+fn long_file(rt: &impl Print, declared: u32, room: &mut [u8]) -> io::Result<()> {
     let mut file = [b'a'; WORD_LIMIT + 6];
     let mut tables = [7u16; ENTRIES];
     file[0] = 1;
     let width = number::width(declared);
     number::write(&mut file, number::Cursor { at: 1 }, declared);
     let end = 1 + width + WORD_LIMIT;
-    run(b'L', &file[0..end], room, &mut tables);
+    run(rt, b'L', &file[0..end], room, &mut tables)
 }
 
 // Loads the file of the longest word that is a, b and then a's, with its last arrow's second number changed. It has the extra arrows 0-2
 // and 1-4, which are 00 00 and 01 01.
-fn last_arrow_wrong(room: &mut [u8]) {
+fn last_arrow_wrong(rt: &impl Print, room: &mut [u8]) -> io::Result<()> {
     let mut file = [b'a'; WORD_LIMIT + 11];
     let mut tables = [7u16; ENTRIES];
     file[0] = 1;
@@ -124,11 +124,12 @@ fn last_arrow_wrong(room: &mut [u8]) {
     file[end + 2] = 0;
     file[end + 3] = 1;
     file[end + 4] = 2;
-    run(b'L', &file[0..end + 5], room, &mut tables);
+    run(rt, b'L', &file[0..end + 5], room, &mut tables)
 }
 
-fn main() {
+fn main(rt: HostRuntime) -> io::Result<()> {
     cases(
+        &rt,
         b"S\x01a\
         S\x03aaa\
         S\x07abbbaab\
@@ -155,12 +156,12 @@ fn main() {
         L\x12\x01\x07abbbaab\x04\x00\x00\x01\x04\x01\x01\x01\x00\
         L\x10\x01\x07abbbaab\x03\x00\x00\x01\x03\x01\x01\
         L\x14\x01\x07abbbaab\x04\x00\x00\x01\x03\x01\x01\x01\x00**",
-    );
+    )?;
     let mut room = [6u8; WORD_LIMIT];
     let mut short = [6u8; WORD_LIMIT - 1];
-    long_file(WORD_LIMIT as u32 + 1, &mut room);
-    long_file(WORD_LIMIT as u32, &mut short);
-    long_file(WORD_LIMIT as u32, &mut room);
+    long_file(&rt, WORD_LIMIT as u32 + 1, &mut room)?;
+    long_file(&rt, WORD_LIMIT as u32, &mut short)?;
+    long_file(&rt, WORD_LIMIT as u32, &mut room)?;
     let mut again = [6u8; WORD_LIMIT];
-    last_arrow_wrong(&mut again);
+    last_arrow_wrong(&rt, &mut again)
 }

@@ -18,11 +18,11 @@ returns-then-table-from c =
 
 pub target_of-requires : goal.target_of-requires
 target_of-requires c = (
-      c.requires,
-      c.if-from-m.false,
-      omega arith,
-      sym c.has_arrow.ensures ∙ c.if-has_arrow.true,
-    )
+  c.requires,
+  c.if-from-m.false,
+  omega arith,
+  sym c.has_arrow.ensures ∙ c.if-has_arrow.true,
+)
 
 pub returns-then-has_arrow : goal.returns-then-has_arrow
 returns-then-has_arrow c = sym (ap arrow_to c.target_of.ensures)

@@ -5,4 +5,4 @@ use Rattle.marks_c.proofs.marks_open.Goals as goal
 
 pub returns : goal.returns
 returns c =
-    rw c.tell.ensures (ap open_returns c.«open».ensures)
+    rw c.tell.ensures (ap open_returns c.open-opened.ensures)

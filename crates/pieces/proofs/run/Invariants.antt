@@ -1,7 +1,6 @@
 use mathlib.Core.Path.{◌≡◌}
 use Prim.Native.Nat.{◌-◌}
 use lib.ListN.{length}
-use Rattle.words.specs.Lists.{at}
 use Rattle.border.specs.Borders.{longest_border}
 use Rattle.pieces.proofs.Running.{Running}
 use Rattle.pieces.proofs.run.Given as goal

@@ -9,7 +9,7 @@ use Rattle.pieces_shown.proofs.in_pieces.Goals as goal
 pub loop-at-init : goal.loop-at-init
 loop-at-init c =
     let asked = c.requires in
-    handed-start _ _ asked.0 asked.1 c.«open».result c.«open».ensures
+    handed-start _ _ asked.0 asked.1 c.open-opened.result c.open-opened.ensures
 
 pub piece_end-end-requires : goal.piece_end-end-requires
 piece_end-end-requires c = (c.loop-at-test.true, c.requires.3)

@@ -1,7 +1,6 @@
 -- `prepared::fill` meets its contract: before each state `Filling` holds. The measure is how many states are left.
 use mathlib.Core.Path.{◌∙◌}
 use native.Mathlib.Omega.{arith}
-use borrow.Author.Tests.{not-false}
 use Rattle.prepared.proofs.Filling.{fill_start, fill_step, fill_stop, fill_end}
 use Rattle.prepared.proofs.fill.Goals as goal
 

@@ -3,8 +3,6 @@ use mathlib.Core.Path.{refl, ◌∙◌}
 use mathlib.Core.Path.{◌∙◌}
 use Prim.Native.Nat.{◌+◌, ◌*◌, ◌-◌}
 use native.Mathlib.Omega.{arith}
-use borrow.Author.Tests.{not-false, not-true}
-use borrow.Author.Tests.{not-false}
 use Rattle.prepared.proofs.Putting.{put_last, put-start, put-fails, put_step, put-end, slots-low}
 use Rattle.prepared.proofs.put_state.Goals as goal
 

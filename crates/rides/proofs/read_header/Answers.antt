@@ -2,7 +2,6 @@
 use mathlib.Core.Path.{sym, ◌∙◌}
 use Prim.Native.Nat.{◌-◌}
 use native.Mathlib.Omega.{arith}
-use borrow.Author.Tests.{not-true, not-false}
 use Rattle.rides.proofs.Headers.{allowed-size, too_early, other-size, behind_the_end, listed-cut, listed-whole, data_size-fits}
 use Rattle.rides.proofs.read_header.Goals as goal
 

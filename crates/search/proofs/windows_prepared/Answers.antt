@@ -2,7 +2,6 @@
 -- entries or with lookups. The measure is how much of the text lies behind the window's start.
 use mathlib.Core.Path.{◌≡◌, ◌∙◌}
 use mathlib.Core.Logic.{◌≢◌}
-use mathlib.Core.List.{List}
 use Prim.Native.Nat.{ℕ, ◌+◌, ◌-◌, ◌<◌}
 use native.Mathlib.Omega.{arith}
 use lib.ListN.{length}
@@ -29,7 +28,7 @@ window-says c =
     rest-says c.args.word.now c.args.text.now c.window.start c.requires.formed.1 c.requires.in_bounds.0
     (c.type_inv.text _).fits c.if-x.false
     (elim c.if-asked-eq0.branch [
-      then-asked-eq0 w ↦ w.read-is ∙ w.read_window-read.ensures
+      | then-asked-eq0 w ↦ w.read-is ∙ w.read_window-read.ensures
       | else-asked-eq0 w ↦ w.read-is ∙ w.read_on-read.ensures
     ])
 
