@@ -1,7 +1,8 @@
 //! Links the proved library, which is taken
 //!   - from `MARKS_ARCHIVE`, where that names an archive (libmarks.a as it is installed, or made by tools/native-archive): then no toolchain is needed;
-//!   - else from the proof that the source tree keeps in target/, where that is up to date;
-//!   - else it is proved in the output folder, from a copy of the crates: nothing is written into the source tree.
+//!   - else from the archive that the source tree keeps in target/, where that is up to date;
+//!   - else it is proved in the output folder, from a copy of the crates: nothing is written into the source tree. What `rt` proved of them there
+//!     or elsewhere on the machine it takes by itself.
 use std::{
     env, fs, io,
     path::{Path, PathBuf},
@@ -82,7 +83,10 @@ fn take_proved(machine: &str, out: &Path, archive: &Path) {
             let copy = out.join("proof");
             copy_sources(&top, &copy)
                 .unwrap_or_else(|error| no(&format!("{} cannot be written: {error}", copy.display()), "make room there"));
-            native_archive(&copy, &[])
+            let code = native_archive(&copy, &[]);
+            // where the output folder lies in the source tree, `rt ci` would refuse the crates in it
+            let _ = fs::remove_dir_all(copy);
+            code
         }
         other => other,
     };
@@ -96,22 +100,21 @@ fn take_proved(machine: &str, out: &Path, archive: &Path) {
 
 /// The library is taken again where its sources or the toolchain moved, and where the source tree's own archive was made anew, as by each run of the gate.
 /// Cargo takes a file that is not there for one that has changed, so only those that are there are named.
+/// Of a crate that is what it is proved from, and not the folder out/, in which `rt` works.
 fn watch(top: &Path, machine: &str) {
     let kept = format!("target/native/{machine}/libmarks_c.a");
-    for watched in SOURCES.into_iter().chain(["kit", &kept]).map(|name| top.join(name)).filter(|path| path.exists()) {
+    let files = ["crates.txt", "tools/native-archive", "kit", &kept].map(|name| top.join(name));
+    let crates = fs::read_dir(top.join("crates")).into_iter().flatten().flatten();
+    let parts = crates.flat_map(|it| ["src", "specs", "proofs"].map(|part| it.path().join(part)));
+    for watched in files.into_iter().chain(parts).filter(|path| path.exists()) {
         println!("cargo:rerun-if-changed={}", watched.display());
     }
 }
 
-/// A copy to work in, with what is proved already.
+/// A copy to work in.
 fn copy_sources(top: &Path, copy: &Path) -> io::Result<()> {
     let _ = fs::remove_dir_all(copy);
-    for source in SOURCES.into_iter().chain(["target/rlib", "target/stamp"]) {
-        if top.join(source).exists() {
-            copy_all(&top.join(source), &copy.join(source))?;
-        }
-    }
-    Ok(())
+    SOURCES.into_iter().try_for_each(|source| copy_all(&top.join(source), &copy.join(source)))
 }
 
 fn copy_all(from: &Path, to: &Path) -> io::Result<()> {
@@ -121,6 +124,10 @@ fn copy_all(from: &Path, to: &Path) -> io::Result<()> {
     }
     for entry in fs::read_dir(from)? {
         let name = entry?.file_name();
+        // what `rt` keeps in a crate may be large, and it finds it from the copy, too
+        if name == "out" {
+            continue;
+        }
         copy_all(&from.join(&name), &to.join(&name))?;
     }
     Ok(())
