@@ -8,7 +8,7 @@ use Prim.Native.Nat.{ℕ, suc, ◌+◌, ◌-◌, ◌*◌, ◌≤◌, ◌<◌}
 use native.Mathlib.Omega.{arith}
 use lib.ListN.{length, replicate}
 use Rattle.words.specs.Lists.{Rising}
-use Rattle.words.specs.Words.{Letter, Word, Place, part, stands, occurrences}
+use Rattle.words.specs.Words.{Letter, Word, Place, part, occurrences}
 use Rattle.words.specs.Limits.{longest_word, longest_text}
 use Rattle.border.specs.Borders.{longest_border}
 use Rattle.oracle.specs.Arrows.{Delta}

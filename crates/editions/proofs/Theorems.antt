@@ -32,7 +32,7 @@ use Rattle.editions.specs.EitherCases.{EndingEither, arrows_broken, check_cut}
 use Rattle.editions.specs.EitherCases.{VerdictEither, ending_wrong, bytes_follow, nothing_follows}
 use Rattle.editions.proofs.AsPlain.{as_checked, as_other, by_edition, plain-length, plain-part, plain-ending}
 use Rattle.editions.proofs.Ways.{verdict_either_is, ending_either_is}
-use Rattle.editions.proofs.Files.{unsealed, unsealed_is, unsealed-length, spell_is, there, from-there, first_byte_lem, letters-behind}
+use Rattle.editions.proofs.Files.{unsealed, unsealed_is, unsealed-length, spell_is, from-there, first_byte_lem, letters-behind}
 use Rattle.editions.proofs.Files.{unsealed-shown, spelled_either, StandsIn, stands_plain, stands-checked}
 
 -- ── 1. The number of the edition ───────────────────────────────────────────

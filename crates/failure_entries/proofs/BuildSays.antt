@@ -18,7 +18,7 @@ use Rattle.failure.specs.FailureRule.{failure_of, symbols, failure_rule}
 use Rattle.failure_table.specs.FailureTable.{failure_room, failure_table, read_symbol, read_failure}
 use Rattle.failure_table.proofs.Theorems.{table-size, word_read, symbol-read, failure-read}
 use Rattle.answers.specs.declared.SizeAnswer.{SizeAnswer}
-use Rattle.answers.specs.Answers.{done, refused, empty_word, long_word, short_room, refuses_only, one_of}
+use Rattle.answers.specs.Answers.{done, refused, refuses_only, one_of}
 use Rattle.answers.proofs.Answers.{done_not_refused, size_answer-one}
 use Rattle.marks.specs.Build.{Outcome, outcome, built}
 use Rattle.failure_entries.specs.FailureBuild.{failure_build_says}

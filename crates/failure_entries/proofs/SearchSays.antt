@@ -4,7 +4,7 @@ use mathlib.Core.Path.{◌≡◌, refl, sym, ap, ◌∙◌}
 use mathlib.Core.Bool.{true}
 use mathlib.Core.Logic.{◌↔◌}
 use mathlib.Core.List.{List, [], ◌∷◌, ◌++◌}
-use Prim.Native.Nat.{ℕ, ◌+◌, ◌*◌, ◌-◌, ◌≤◌, ◌<◌}
+use Prim.Native.Nat.{ℕ, ◌+◌, ◌-◌, ◌≤◌, ◌<◌}
 use native.Mathlib.Decide.{dec_lt}
 use native.Mathlib.Omega.{arith}
 use lib.ListN.{length, take, drop, replicate, length-append, length-drop, length-replicate, length-reverse}
@@ -22,7 +22,7 @@ use Rattle.failure_search.specs.declared.FailureTally.{FailureTally}
 use Rattle.failure_search.specs.Tallies.{failure_tally_of}
 use Rattle.failure_search.proofs.Theorems.{mirror-formed, scan_steps}
 use Rattle.answers.specs.declared.Refusal.TheVariants.{Numbered, Placed}
-use Rattle.answers.specs.Answers.{Answer, done, refused, refused_at, empty_word, long_word, long_text, short_room, refuses_only, one_of}
+use Rattle.answers.specs.Answers.{Answer, done, refused, refused_at, refuses_only, one_of}
 use Rattle.answers.proofs.Answers.{done_not_refused}
 use Rattle.failure_entries.specs.declared.FailureAnswer.{FailureAnswer}
 use Rattle.failure_entries.specs.declared.FailureAnswer.TheVariants.{Done, Refused}

@@ -2,7 +2,7 @@
 -- with 1 begin one of edition 1, as far as the check is not reached; where all arrows were read, the word is known, and so is its check.
 use mathlib.Core.Path.{◌≡◌, refl, sym, ap, ap₂, ◌∙◌}
 use mathlib.Core.List.{List, [], ◌∷◌, ◌++◌, append-nil}
-use Prim.Native.Nat.{ℕ, zero, suc, ◌+◌, ◌*◌, ◌-◌, ◌≤◌, ◌<◌}
+use Prim.Native.Nat.{ℕ, zero, suc, ◌+◌, ◌*◌, ◌≤◌, ◌<◌}
 use native.Mathlib.Nat.{zero-add}
 use native.Mathlib.Omega.{arith}
 use lib.ListN.{length, take, drop, length-append, take-append-drop}
@@ -18,7 +18,7 @@ use Rattle.crc.proofs.Theorems.{sealed-append, sealed-length}
 use Rattle.editions.specs.Editions.{Edition, plain, checked, spell_in, SavedIn}
 use Rattle.editions.specs.Either.{as_plain, pair_at}
 use Rattle.editions.proofs.AsPlain.{plain-drop}
-use Rattle.editions.proofs.Files.{unsealed, unsealed_is, unsealed-length, spell_is, there, from-there, as_plain-drop, check_of_pair}
+use Rattle.editions.proofs.Files.{unsealed, unsealed_is, unsealed-length, spell_is, from-there, as_plain-drop, check_of_pair}
 use Rattle.editions.proofs.Files.{two-there, pair_of-check, plain-bytes}
 use Rattle.faults.specs.Faults.{CountAt, ArrowsAt}
 use Rattle.faults.specs.Beginnings.{Begins}

@@ -126,8 +126,7 @@ fn tell_file_search(
     }
 }
 
-#[unsafe(no_mangle)]
-pub extern "C" fn marks_build(word: &[u8], tables: &mut [u16], m: &mut u64) -> u32
+pub fn marks_build(word: &[u8], tables: &mut [u16], m: &mut u64) -> u32
     ensures { build_call result tables.new m.new
         ≡ build_call_says word.now tables.old m.old }
 {
@@ -135,13 +134,7 @@ pub extern "C" fn marks_build(word: &[u8], tables: &mut [u16], m: &mut u64) -> u
     tell_size(built, m)
 }
 
-#[unsafe(no_mangle)]
-pub extern "C" fn marks_save(
-    word: &[u8],
-    tables: &mut [u16],
-    out: &mut [u8],
-    length: &mut u64,
-) -> u32
+pub fn marks_save(word: &[u8], tables: &mut [u16], out: &mut [u8], length: &mut u64) -> u32
     ensures { save_call result tables.new out.new length.new
         ≡ save_call_says word.now tables.old out.old length.old }
 {
@@ -149,13 +142,7 @@ pub extern "C" fn marks_save(
     tell_size(saved, length)
 }
 
-#[unsafe(no_mangle)]
-pub extern "C" fn marks_save_checked(
-    word: &[u8],
-    tables: &mut [u16],
-    out: &mut [u8],
-    length: &mut u64,
-) -> u32
+pub fn marks_save_checked(word: &[u8], tables: &mut [u16], out: &mut [u8], length: &mut u64) -> u32
     ensures { save_call result tables.new out.new length.new
         ≡ save_checked_call_says word.now tables.old out.old length.old }
 {
@@ -163,8 +150,7 @@ pub extern "C" fn marks_save_checked(
     tell_size(saved, length)
 }
 
-#[unsafe(no_mangle)]
-pub extern "C" fn marks_load(
+pub fn marks_load(
     file: &[u8],
     room: &mut [u8],
     tables: &mut [u16],
@@ -178,8 +164,7 @@ pub extern "C" fn marks_load(
     tell_load(loaded, m, offset)
 }
 
-#[unsafe(no_mangle)]
-pub extern "C" fn marks_search(
+pub fn marks_search(
     word: &[u8],
     text: &[u8],
     tables: &mut [u16],
@@ -195,8 +180,7 @@ pub extern "C" fn marks_search(
     tell_tally(searched, count, letters)
 }
 
-#[unsafe(no_mangle)]
-pub extern "C" fn marks_turbo(
+pub fn marks_turbo(
     word: &[u8],
     text: &[u8],
     tables: &mut [u16],
@@ -212,8 +196,7 @@ pub extern "C" fn marks_turbo(
     tell_tally(searched, count, letters)
 }
 
-#[unsafe(no_mangle)]
-pub extern "C" fn marks_failure_build(word: &[u8], tables: &mut [u16], m: &mut u64) -> u32
+pub fn marks_failure_build(word: &[u8], tables: &mut [u16], m: &mut u64) -> u32
     ensures { build_call result tables.new m.new
         ≡ failure_build_call_says word.now tables.old m.old }
 {
@@ -221,8 +204,7 @@ pub extern "C" fn marks_failure_build(word: &[u8], tables: &mut [u16], m: &mut u
     tell_size(built, m)
 }
 
-#[unsafe(no_mangle)]
-pub extern "C" fn marks_failure_search(
+pub fn marks_failure_search(
     word: &[u8],
     text: &[u8],
     tables: &mut [u16],
@@ -240,8 +222,7 @@ pub extern "C" fn marks_failure_search(
     tell_failures(searched, count, letters, failures)
 }
 
-#[unsafe(no_mangle)]
-pub extern "C" fn marks_storacle_build(word: &[u8], tables: &mut [u16], m: &mut u64) -> u32
+pub fn marks_storacle_build(word: &[u8], tables: &mut [u16], m: &mut u64) -> u32
     ensures { build_call result tables.new m.new
         ≡ storacle_build_call_says word.now tables.old m.old }
 {
@@ -249,13 +230,7 @@ pub extern "C" fn marks_storacle_build(word: &[u8], tables: &mut [u16], m: &mut 
     tell_size(built, m)
 }
 
-#[unsafe(no_mangle)]
-pub extern "C" fn marks_compact_build(
-    word: &[u8],
-    sets: &mut [u64],
-    targets: &mut [u16],
-    m: &mut u64,
-) -> u32
+pub fn marks_compact_build(word: &[u8], sets: &mut [u64], targets: &mut [u16], m: &mut u64) -> u32
     ensures { compact_build_call result sets.new targets.new m.new
         ≡ compact_build_call_says word.now sets.old targets.old m.old }
 {
@@ -263,8 +238,7 @@ pub extern "C" fn marks_compact_build(
     tell_size(built, m)
 }
 
-#[unsafe(no_mangle)]
-pub extern "C" fn marks_compact_search(
+pub fn marks_compact_search(
     word: &[u8],
     text: &[u8],
     sets: &mut [u64],
@@ -282,8 +256,7 @@ pub extern "C" fn marks_compact_search(
     tell_tally(searched, count, letters)
 }
 
-#[unsafe(no_mangle)]
-pub extern "C" fn marks_salvage(
+pub fn marks_salvage(
     text: &[u8],
     tables: &mut [u16],
     starts: &mut [u32],
@@ -297,8 +270,7 @@ pub extern "C" fn marks_salvage(
     tell_size(listed, count)
 }
 
-#[unsafe(no_mangle)]
-pub extern "C" fn marks_search_file(
+pub fn marks_search_file(
     file: &[u8],
     text: &[u8],
     room: &mut [u8],
@@ -317,21 +289,14 @@ pub extern "C" fn marks_search_file(
     tell_file_search(searched, count, letters, offset)
 }
 
-#[unsafe(no_mangle)]
-pub extern "C" fn marks_open(word: &[u8], searcher: &mut [u8]) -> u32
+pub fn marks_open(word: &[u8], searcher: &mut [u8]) -> u32
     ensures { open_call result searcher.new ≡ open_call_says word.now searcher.old }
 {
     let opened = searcher_bytes::open(word, searcher);
     tell(opened)
 }
 
-#[unsafe(no_mangle)]
-pub extern "C" fn marks_take(
-    searcher: &mut [u8],
-    piece: &[u8],
-    finds: &mut [u32],
-    count: &mut u64,
-) -> u32
+pub fn marks_take(searcher: &mut [u8], piece: &[u8], finds: &mut [u32], count: &mut u64) -> u32
     ensures { take_call result searcher.new finds.new count.new
         ≡ take_call_says searcher.old piece.now finds.old count.old }
 {

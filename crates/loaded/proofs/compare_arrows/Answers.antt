@@ -2,7 +2,6 @@
 -- The measure is how many are left.
 use mathlib.Core.Path.{sym, ap, ◌∙◌}
 use native.Mathlib.Omega.{arith}
-use borrow.Author.Tests.{not-true, not-false}
 use Rattle.loaded.specs.Answers.{pair_of}
 use Rattle.loaded.proofs.Comparing.{compare_start, compare_next, shows-refused, shows_too_many, shows-other}
 use Rattle.loaded.proofs.Comparing.{shows-missing, shows-behind}

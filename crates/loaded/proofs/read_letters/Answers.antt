@@ -1,6 +1,5 @@
 -- `loaded::read_letters` meets its contract: each way out is what `letters_at` shows once the number of letters is read.
 use mathlib.Core.Path.{sym, ◌∙◌}
-use borrow.Author.Tests.{not-true, not-false}
 use Rattle.words.proofs.Limits.{least_saved_lem, word_limit}
 use Rattle.number.proofs.Theorems.{number_at-inside}
 use Rattle.loaded.proofs.Fronts.{shows-other-size, shows-cut, shows-letters}
