@@ -1,18 +1,18 @@
 -- WHAT AN ENTRY MAY SAY: done with an answer, or refused with a number of 01's table, alone or with the place of the file where it shows.
 --
---   empty_word ..     01's numbers, by what they mean
+--   empty_word ..    01's numbers, by what they mean
 --   refusals         the whole table: each number and when it is given, in the words that every face of the library says
 --   Answer A         done with an answer of kind A, or refused
 --   Succeeds a       a is done, with some answer
---   one_of n l        whether n is one of the numbers l
+--   one_of n l       whether n is one of the numbers l
 --   refuses_with l k a
 --                    whether a is done, or refused with one of the numbers l and nothing but the number, or with one of the numbers k and
 --                    a place
---   refuses_only l a  the same where no refusal has a place
---   number_of r       the number of the code's refusal r
---   refused_as r      what it means
---   size_answer r     what the code's answer r means: the letters of a word, the bytes of a file, or a number of finds
---   tally_answer r    the same of a search: finds and letters read
+--   refuses_only l a the same where no refusal has a place
+--   number_of r      the number of the code's refusal r
+--   refused_as r     what it means
+--   size_answer r    what the code's answer r means: the letters of a word, the bytes of a file, or a number of finds
+--   tally_answer r   the same of a search: finds and letters read
 --
 -- 01, 'When the library says no'; 02, 'Uploads in pieces', 'Where in the file is it broken?', 'One-letter marks' and 'Edition 2 with a
 -- check'.

@@ -21,10 +21,10 @@ after_moves [] = omega arith
 after_moves (c ∷ w) = omega (arith, border_shorter (c ∷ w))
 
 -- it moves by the length of the word at most
-pub after-most : (w : Word) → 1 ≤ length w → after_find w ≤ length w
+pub after_most : (w : Word) → 1 ≤ length w → after_find w ≤ length w
 unfolding after_find
-after-most [] h = h
-after-most (c ∷ w) h = omega arith
+after_most [] h = h
+after_most (c ∷ w) h = omega arith
 
 -- from an occurrence at s it does not move past a later one at j: two that overlap share a border
 pub after_safe : (w t : Word) (s j : Place) → stands w t s ≡ true → stands w t j ≡ true → s < j → s + after_find w ≤ j

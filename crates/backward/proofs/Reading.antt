@@ -18,9 +18,9 @@ use Rattle.backward.specs.Steps.{Reading, read_all, fails_at, one_more, read_dow
 
 module _ (δ : Delta) (t : Word) (a n : ℕ) (inside : a + n < length t) (x : State) where
   -- the walk of a part's mirror goes the arrow of the part's last letter first
-  walk-on : (y : State) → δ x (letter t (a + n)) ≡ some y → walk δ x (mirror (part t a (suc n))) ≡ walk δ y (mirror (part t a n))
+  walk_on : (y : State) → δ x (letter t (a + n)) ≡ some y → walk δ x (mirror (part t a (suc n))) ≡ walk δ y (mirror (part t a n))
   unfolding walk
-  walk-on y e = rw (mirror_snoc t a n inside, walk, e)
+  walk_on y e = rw (mirror_snoc t a n inside, walk, e)
 
   -- and ends at once where there is none
   walk-stuck : δ x (letter t (a + n)) ≡ none → walk δ x (mirror (part t a (suc n))) ≡ none
@@ -81,8 +81,8 @@ module _ (δ : Delta) (t : Word) (s : Place) where
       k x
 
   -- no reading reads more letters than the window has
-  pub reading-letters-most : (k : ℕ) (x : State) → (read_down δ t s k x).letters ≤ k
-  reading-letters-most k x = reading-induction (λ k x r. r.letters ≤ k)
+  pub reading_letters_most : (k : ℕ) (x : State) → (read_down δ t s k x).letters ≤ k
+  reading_letters_most k x = reading-induction (λ k x r. r.letters ≤ k)
       (λ x. le_refl 0)
       (λ k x d. omega arith)
       (λ k x y r d rec. omega arith)
@@ -95,7 +95,7 @@ module _ (δ : Delta) (t : Word) (s : Place) where
   whole-walked k x = reading-induction Walked
       (λ x h e. (x, refl))
       (λ k x d h e. never e refl)
-      (λ k x y r d rec h e. rw (walk-on δ t s k (omega arith) x y d) (rec (omega arith) e))
+      (λ k x y r d rec h e. rw (walk_on δ t s k (omega arith) x y d) (rec (omega arith) e))
       k x
     where
       Walked : ℕ → State → Reading → Type 0
@@ -123,4 +123,4 @@ module _ (δ : Delta) (t : Word) (s : Place) where
       goes k x y r d rec h e =
           let b = rec (omega arith) e in
           let q : s + k ≡ f + suc b.0 = omega (arith, b.1) in
-          (suc b.0, omega arith, walk-on δ t f (suc b.0) (omega arith) x y (rw q at d) ∙ b.2)
+          (suc b.0, omega arith, walk_on δ t f (suc b.0) (omega arith) x y (rw q at d) ∙ b.2)

@@ -13,17 +13,17 @@ use Rattle.words.specs.Words.{Word, Place, mirror, stands, occurrences}
 use Rattle.words.proofs.Occurrences.{occurrence_stands, standing_occurs, occurrences_rise}
 use Rattle.oracle.specs.SuffixRule.{oracle}
 use Rattle.oracle.proofs.Walks.{factor_walk}
-use Rattle.oracle.proofs.Theorems.{oracle-supplied, only-walk}
+use Rattle.oracle.proofs.Theorems.{oracle-supplied, only_walk}
 use Rattle.backward.specs.Steps.{read_window, nothing, backward}
 use Rattle.backward.proofs.Reading.{failed-place, whole-letters}
-use Rattle.backward.proofs.Windows.{Walker, failed_loses_none, steps-letters-most, steps-short, steps-list}
+use Rattle.backward.proofs.Windows.{Walker, failed_loses_none, steps_letters_most, steps-short, steps-list}
 
 module _ (w t : Word) where
   -- the oracle of the mirrored word is all that the search asks for
   pub oracle_walker : Walker w (oracle (mirror w))
   oracle_walker = record {
     parts = record { part-walked = λ a n h. (_, factor_walk (mirror w) (oracle-supplied (mirror w)) a n (rw (length-reverse w) h)) };
-    no_other = λ v y e n. only-walk (mirror w) v y e (n ∙ sym (length-reverse w));
+    no_other = λ v y e n. only_walk (mirror w) v y e (n ∙ sym (length-reverse w));
   }
 
   -- ── The list ─────────────────────────────────────────────────────────────
@@ -59,9 +59,9 @@ module _ (w t : Word) where
 
   -- ── The letters read ─────────────────────────────────────────────────────
 
-  pub search-letters-most : length w ≤ length t → (backward w t).letters ≤ length w * (length t - length w + 1)
+  pub search_letters_most : length w ≤ length t → (backward w t).letters ≤ length w * (length t - length w + 1)
   unfolding backward
-  search-letters-most h = steps-letters-most (oracle (mirror w)) w t h
+  search_letters_most h = steps_letters_most (oracle (mirror w)) w t h
 
   -- a text shorter than the word is not read at all
   pub search-short : length t < length w → backward w t ≡ nothing

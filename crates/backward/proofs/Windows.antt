@@ -19,7 +19,7 @@ use Rattle.words.proofs.Occurrences.{stands-part, part-stands, stands-inside, si
 use Rattle.oracle.specs.Arrows.{State, Delta, walk}
 use Rattle.oracle.proofs.Targets.{never}
 use Rattle.backward.specs.Steps.{Sweep, nothing, listed, read_down, read_window, after_find, next_window, windows, steps}
-use Rattle.backward.proofs.Reading.{FailedAt, failed-place, reading-letters-most, whole-walked, failed-walk}
+use Rattle.backward.proofs.Reading.{FailedAt, failed-place, reading_letters_most, whole-walked, failed-walk}
 use Rattle.backward.proofs.AfterFind.{after_moves, after_safe, after-mirror}
 
 -- ── One window ─────────────────────────────────────────────────────────────
@@ -144,7 +144,7 @@ module _ (δ : Delta) (w t : Word) where
       one : (s : Place) (later : Sweep) → s + length w ≤ length t → Few (next δ w t s) later → Few s (with_window δ w t s later)
       one s later l h =
           let u : suc (ahead (next δ w t s)) ≤ ahead s = omega (arith, next_moves δ w t s) in
-          omega (arith, mul-le-mul_left (length w) u, reading-letters-most δ t s (length w) 0)
+          omega (arith, mul-le-mul_left (length w) u, reading_letters_most δ t s (length w) 0)
 
   -- all windows: at each of the places from 0 to n - m
   pub steps-letters : (steps δ w t).letters ≤ length w * (suc (length t) - length w)
@@ -152,8 +152,8 @@ module _ (δ : Delta) (w t : Word) where
   steps-letters = rw (zero-add (length w)) at (windows-letters (suc (length t)) 0 (omega arith))
 
   -- so at most m (n - m + 1) letters are read
-  pub steps-letters-most : length w ≤ length t → (steps δ w t).letters ≤ length w * (length t - length w + 1)
-  steps-letters-most h = let e : suc (length t) - length w ≡ length t - length w + 1 = omega arith in rw e at steps-letters
+  pub steps_letters_most : length w ≤ length t → (steps δ w t).letters ≤ length w * (length t - length w + 1)
+  steps_letters_most h = let e : suc (length t) - length w ≡ length t - length w + 1 = omega arith in rw e at steps-letters
 
   -- in a text shorter than the word nothing is read and nothing found
   pub steps-short : length t < length w → steps δ w t ≡ nothing

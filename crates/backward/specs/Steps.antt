@@ -2,13 +2,13 @@
 -- the last to the first, walking the oracle of the mirrored word from state 0.
 --
 --   Reading              where a window's reading failed, if it did, and the letters it read
---   read_all              no letter is left
---   fails_at f            the letter at f fails; it counts as read
---   one_more r            one letter is read, and then the others as r says
---   read_down δ t s k x   reads the letters at s + k - 1 down to s, from state x
---   read_window δ w t s   reads the window of w's length that starts at s, from state 0
---   after_find w          how far the window moves after an occurrence of w: m less the longest border
---   next_window w s f     where the window goes from s, f the place of the failing letter if there is one
+--   read_all             no letter is left
+--   fails_at f           the letter at f fails; it counts as read
+--   one_more r           one letter is read, and then the others as r says
+--   read_down δ t s k x  reads the letters at s + k - 1 down to s, from state x
+--   read_window δ w t s  reads the window of w's length that starts at s, from state 0
+--   after_find w         how far the window moves after an occurrence of w: m less the longest border
+--   next_window w s f    where the window goes from s, f the place of the failing letter if there is one
 --   Sweep                the starts of the occurrences, rising, and all letters read
 --   nothing              the sweep of no window
 --   listed s f l         the starts l with s before them, where f says that no letter failed

@@ -9,7 +9,7 @@ use lib.ListN.{length, set, length-set, length-map}
 use lib.Seq.{get_or-set_same, get_or-set_other, ext_get_or}
 use Rattle.words.specs.Lists.{at, from}
 use Rattle.words.specs.Words.{Word, letter, part}
-use Rattle.words.proofs.Lists.{from-length, map-from-at}
+use Rattle.words.proofs.Lists.{from_length, map_from_at}
 use Rattle.words.proofs.Words.{part-whole}
 use Rattle.border.specs.Borders.{longest_border, borders, longest_end, Known}
 use Rattle.border.proofs.Beginnings.{EndsIn, ends_through, shorter_ends, ends-longer, ends-before}
@@ -49,7 +49,7 @@ module _ (w : Word) (n : ℕ) (pos : 0 < n) (inside : n < length w) where
 
 pub borders-length : (w : Word) → length (borders w) ≡ length w
 unfolding borders
-borders-length w = length-map (from 1 (length w)) (λ k. longest_border (part w 0 k)) ∙ from-length 1 (length w)
+borders-length w = length-map (from 1 (length w)) (λ k. longest_border (part w 0 k)) ∙ from_length 1 (length w)
 
 pub borders-known : (w : Word) → Known w (borders w) (length w)
 unfolding borders
@@ -58,7 +58,7 @@ borders-known w = record { entry = entry }
     entry : (j : ℕ) → j < length w → at (borders w) j ≡ longest_border (part w 0 (suc j))
     entry j h =
         let q : 1 + j ≡ suc j = omega arith in
-        map-from-at (λ k. longest_border (part w 0 k)) 1 (length w) j 0 h
+        map_from_at (λ k. longest_border (part w 0 k)) 1 (length w) j 0 h
         ∙ ap (λ (k : ℕ). longest_border (part w 0 k)) q
 
 -- the last entry is the word's own

@@ -2,9 +2,9 @@
 --
 --   longest P b       the greatest length below b that passes the test P, 0 where none does
 --   closes u k v      whether the first k letters of u are the last k of v
---   longest_border w   the length of w's longest border: the longest below m for which the first letters are the last, perhaps 0
+--   longest_border w  the length of w's longest border: the longest below m for which the first letters are the last, perhaps 0
 --   borders w         the longest borders of all beginnings of w: of its first letter, of its first two, .., of w
---   longest_end w v    the length of the longest beginning of w, perhaps all of it, that v ends with
+--   longest_end w v   the length of the longest beginning of w, perhaps all of it, that v ends with
 --   Known w row n     the first n entries of a row are the longest borders of w's first n beginnings
 --
 -- 02, 'The step after a find'.

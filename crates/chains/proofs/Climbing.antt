@@ -24,8 +24,8 @@ use Rattle.chains.specs.Letters.{Ready, Climbing, Climbs, finds, runs_out, goes_
 use Rattle.chains.specs.Letters.{Begun, Added, first-letter, later_letter}
 use Rattle.chains.specs.declared.Climbed.{Climbed}
 use Rattle.chains.specs.declared.Climbed.TheVariants.{Ended, Rests}
-use Rattle.chains.proofs.Looking.{chain-one, supply-none, supply-some, chain-states, look-same}
-use Rattle.chains.proofs.Pushing.{Pushable, push_low, other-chain, push_heads, push_chained}
+use Rattle.chains.proofs.Looking.{chain-one, supply-none, supply-some, chain-states, look_same}
+use Rattle.chains.proofs.Pushing.{Pushable, push_low, other_chain, push_heads, push_chained}
 
 -- ── What an answer says of a supply ────────────────────────────────────────
 
@@ -95,8 +95,8 @@ module _ {L : List ℕ} {n t u : ℕ} {k : State} (R : Ready L n t u k) where
       by : (l : List State) → Chain L' n (at L' (2 * n + 0)) l → (l' : List State) × Chain L n (at L (2 * n + 0)) l'
           → r ≡ arrow_to (look_in (at L') t l 0 c)
       by l C (l', D) =
-          let q : l ≡ l' = chain-one C (other-chain ready_push (suc t) 0 (omega (arith, R.inside)) (λ z. f (sym z)) D) in
-          let same = look-same (at L) (at L') t l' 0 c letters-kept (omega (arith, R.inside)) (λ y i. chain-states D i) in
+          let q : l ≡ l' = chain-one C (other_chain ready_push (suc t) 0 (omega (arith, R.inside)) (λ z. f (sym z)) D) in
+          let same = look_same (at L) (at L') t l' 0 c letters-kept (omega (arith, R.inside)) (λ y i. chain-states D i) in
           Z.says l' D ∙ ap arrow_to (same ∙ ap (λ v. look_in (at L') t v 0 c) (sym q))
 
 -- ── In the code's sums ─────────────────────────────────────────────────────
@@ -134,15 +134,15 @@ module _ {n t : ℕ} {c : Letter} {z : Leads} {L L₁ : List ℕ} {u : ℕ} {k :
 
 -- ── A climb in parts ───────────────────────────────────────────────────────
 
-pub rest-on : {n t : ℕ} {c : Letter} {z : Leads} {L L₁ L₂ : List ℕ} {u u₁ u₂ : ℕ} {k k₁ k₂ : State} → Resting n t c z L u k L₁ u₁ k₁
+pub rest_on : {n t : ℕ} {c : Letter} {z : Leads} {L L₁ L₂ : List ℕ} {u u₁ u₂ : ℕ} {k k₁ k₂ : State} → Resting n t c z L u k L₁ u₁ k₁
     → Resting n t c z L₁ u₁ k₁ L₂ u₂ k₂ → Resting n t c z L u k L₂ u₂ k₂
-rest-on R S = record { there = S.there; onward = λ C. R.onward (S.onward C) }
+rest_on R S = record { there = S.there; onward = λ C. R.onward (S.onward C) }
 
 -- what a climb from a rest says, it says from where it came to rest
 pub says_on : {n t : ℕ} {c : Letter} {z : Leads} {L L₁ : List ℕ} {u u₁ : ℕ} {k k₁ : State} → (k₁ < k) × Resting n t c z L u k L₁ u₁ k₁
     → (L' : List ℕ) (r : Climbed) → ClimbSays n t c z L₁ u₁ k₁ L' r → ClimbSays n t c z L u k L' r
 says_on R L' (Ended u' y) C = R.1.onward C
-says_on R L' (Rests u' k') S = (omega (arith, R.0, S.0), rest-on R.1 S.1)
+says_on R L' (Rests u' k') S = (omega (arith, R.0, S.0), rest_on R.1 S.1)
 
 -- ── One letter ─────────────────────────────────────────────────────────────
 
@@ -193,9 +193,9 @@ module _ {L : List ℕ} {n t u : ℕ} (B : Begun L n t u) where
           later_letter L₁ y p (rw (letter_in_row, of_t.1) at C) (rw (add-one t))
 
       -- it has an arrow: no climb
-      pub added-at_once : {l : Leads} → Looks L n t k.0 (at L (t + 1) % 256) l → {y : Stated} → l ≡ To y
+      pub added_at_once : {l : Leads} → Looks L n t k.0 (at L (t + 1) % 256) l → {y : Stated} → l ≡ To y
           → Added n t L u (set L (n + (t + 1)) y.0) u
-      added-at_once h i = letter-added (finds (rw i at h) refl refl)
+      added_at_once h i = letter-added (finds (rw i at h) refl refl)
 
       -- it has none
       pub rest-start : {z l : Leads} → Looks L n t 0 (at L (t + 1)) z → Looks L n t k.0 (at L (t + 1) % 256) l → l ≡ Missing

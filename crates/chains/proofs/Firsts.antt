@@ -21,7 +21,7 @@ use Rattle.chains.specs.Chains.{Chain, look_in, Looks}
 use Rattle.chains.specs.Letters.{zero_arrow, FirstState, unseen, seen, Firsts, Blank}
 use Rattle.chains.proofs.Looking.{chain-one}
 use Rattle.chains.proofs.Model.{arrows_of}
-use Rattle.chains.proofs.Sources.{look-held}
+use Rattle.chains.proofs.Sources.{look_held}
 use Rattle.chains.proofs.Grown.{Grown}
 
 -- ── The arrow that a first state tells ─────────────────────────────────────
@@ -88,7 +88,7 @@ module _ {B : List ℕ} {m : ℕ} {L : List ℕ} {t u : ℕ} (G : Grown B m L t 
       chain = G.held.chain 0 (omega arith)
 
       held : look_in (at L) t (G.T 0) 0 c ≡ arrows_of (at B) t G.T 0 c
-      held = look-held (at B) t c G.held (λ y b. G.letters y b) (omega arith)
+      held = look_held (at B) t c G.held (λ y b. G.letters y b) (omega arith)
 
       told : (y : ℕ) → FirstState (at B) t c y → zero_arrow y ≡ arrow_to (arrows_of (at B) t G.T 0 c)
       told y (unseen e f) = sym (zero-missing y e) ∙ ap arrow_to (sym (zero-none G.supplied c (λ i b. f (suc i) (omega arith) b)))

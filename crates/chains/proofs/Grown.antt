@@ -28,7 +28,7 @@ use Rattle.oracle.proofs.Supply.{supply_is_defined}
 use Rattle.oracle.proofs.Theorems.{same-letters}
 use Rattle.chains.specs.Chains.{ends}
 use Rattle.chains.specs.Letters.{Begun, Added, first-letter, later_letter, Blank, word_in, ChainsOf}
-use Rattle.chains.proofs.Looking.{look-far}
+use Rattle.chains.proofs.Looking.{look_far}
 use Rattle.chains.proofs.Pushing.{chain-kept}
 use Rattle.chains.proofs.Climbing.{begun-ready}
 use Rattle.chains.proofs.Model.{Targets, arrows_of, extras_up_to, Gets, letter-supplied, letter-in_order}
@@ -59,7 +59,7 @@ module _ {B : List ℕ} {m : ℕ} (K : Blank B m) where
   none_yet x = []
 
   no_arrow : (x : State) (c : Letter) (y : State) {X : Type 0} → arrows_of (at B) 0 none_yet x c ≡ some y → X
-  no_arrow x c y e = never (look-far (at B) 0 [] x c (omega arith)) e
+  no_arrow x c y e = never (look_far (at B) 0 [] x c (omega arith)) e
 
   pub grown_start : Grown B m B 0 0
   unfolding total from only

@@ -15,7 +15,7 @@ use Rattle.words.specs.Answers.{arrow_to, supply_of}
 use Rattle.words.specs.declared.Leads.{Leads}
 use Rattle.words.specs.declared.Leads.TheVariants.{To, Missing}
 use Rattle.words.specs.declared.Supply.TheVariants.{Of, Without}
-use Rattle.words.proofs.Lists.{first-yes, first_not}
+use Rattle.words.proofs.Lists.{first_yes, first_not}
 use Rattle.oracle.specs.Arrows.{State}
 use Rattle.chains.specs.Chains.{supply_in, Chain, ends, links, Chained, look_in, Looks}
 
@@ -45,17 +45,17 @@ module _ (L : List ℕ) (n : ℕ) (x : State) where
 -- ── The cases of a lookup ──────────────────────────────────────────────────
 
 module _ (a : State → Letter) (t : ℕ) (l : List State) (x : State) (c : Letter) where
-  pub look-far : t ≤ x → look_in a t l x c ≡ none
+  pub look_far : t ≤ x → look_in a t l x c ≡ none
   unfolding look_in
-  look-far h = rw (le-ltb x t h)
+  look_far h = rw (le-ltb x t h)
 
-  pub look-spine : x < t → a (suc x) ≡ c → look_in a t l x c ≡ some (suc x)
+  pub look_spine : x < t → a (suc x) ≡ c → look_in a t l x c ≡ some (suc x)
   unfolding look_in
-  look-spine h e = rw (lt-ltb x t h, eq-eqb (a (suc x)) c e)
+  look_spine h e = rw (lt-ltb x t h, eq-eqb (a (suc x)) c e)
 
-  pub look-chain : x < t → a (suc x) ≢ c → look_in a t l x c ≡ first (λ y. eqb (a y) c) l
+  pub look_chain : x < t → a (suc x) ≢ c → look_in a t l x c ≡ first (λ y. eqb (a y) c) l
   unfolding look_in
-  look-chain h e = rw (lt-ltb x t h, ne_eqb (a (suc x)) c e)
+  look_chain h e = rw (lt-ltb x t h, ne_eqb (a (suc x)) c e)
 
 -- ── Lookups by letters that agree ──────────────────────────────────────────
 
@@ -69,10 +69,10 @@ unfolding first
 first-same P Q [] h = refl
 first-same P Q (y ∷ l) h = rw (h y (Memᴰ.head refl), first-same P Q l (λ z m. h z (Memᴰ.tail m)))
 
-pub look-same : (a b : State → Letter) {n : ℕ} (t : ℕ) (l : List State) (x : State) (c : Letter) → ((y : State) → y < n → a y ≡ b y)
+pub look_same : (a b : State → Letter) {n : ℕ} (t : ℕ) (l : List State) (x : State) (c : Letter) → ((y : State) → y < n → a y ≡ b y)
     → suc x < n → ((y : State) → Memᴰ y l → y < n) → look_in a t l x c ≡ look_in b t l x c
 unfolding look_in
-look-same a b t l x c same h inside =
+look_same a b t l x c same h inside =
     let tests = first-same (λ y. eqb (a y) c) (λ y. eqb (b y) c) l (λ y m. ap (λ d. eqb d c) (same y (inside y m))) in
     rw (same (suc x) h, tests)
 
@@ -100,7 +100,7 @@ module _ {L : List ℕ} {n : ℕ} {x : State} {c : Letter} where
   looks_zero e R = rw e R
 
   pub looks_spine : {t : ℕ} → x < t → at L (x + 1) ≡ c → Looks L n t x c (To (record { 0 = x + 1 }))
-  looks_spine {t} h e = record { says = λ l C. rw (add-one x) (ap arrow_to (sym (look-spine (at L) t l x c h (rw (add-one x) at e)))) }
+  looks_spine {t} h e = record { says = λ l C. rw (add-one x) (ap arrow_to (sym (look_spine (at L) t l x c h (rw (add-one x) at e)))) }
 
   pub chase_start : Chained L n → x < n → at L (x + 1) ≢ c → Chasing L n x c (at L (2 * n + x))
   chase_start R b f =
@@ -115,7 +115,7 @@ module _ {L : List ℕ} {n : ℕ} {x : State} {c : Letter} where
 
   -- what is first among the targets from j on is the arrow
   chased : {j t : ℕ} {y : Option State} → x < t → (R : Chasing L n x c j) → first (has L c) R.rest ≡ y → Looks L n t x c (arrow_to y)
-  chased {t = t} h R e = record { says = λ l C. ap arrow_to (sym (look-chain (at L) t l x c h R.off_spine ∙ R.same l C ∙ e)) }
+  chased {t = t} h R e = record { says = λ l C. ap arrow_to (sym (look_chain (at L) t l x c h R.off_spine ∙ R.same l C ∙ e)) }
 
   pub chase_end : {j t : ℕ} → x < t → Chasing L n x c j → j ≡ 0 → Looks L n t x c Missing
   unfolding first
@@ -138,7 +138,7 @@ module _ {L : List ℕ} {n : ℕ} {x : State} {c : Letter} where
       where
         by : {r : List State} → Chain L n j r → first (has L c) r ≡ some (at L (5 * n + j))
         by (ends z) = absurd (f z)
-        by (links {y = y} {l = r} p h q g o C) = rw (← q) (first-yes (has L c) y r (eq-eqb (at L y) c (rw (← q) at e)))
+        by (links {y = y} {l = r} p h q g o C) = rw (← q) (first_yes (has L c) y r (eq-eqb (at L y) c (rw (← q) at e)))
 
     pub chase_next : at L (at L (5 * n + j)) ≢ c → Chasing L n x c (at L (4 * n + j))
     chase_next e = by R.chain R.same

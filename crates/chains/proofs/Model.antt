@@ -14,14 +14,14 @@ use lib.Dec.{eqb}
 use borrow.Author.Tests.{eq-eqb, ne_eqb, eqb-true}
 use Rattle.words.specs.Lists.{from, only, first}
 use Rattle.words.specs.Words.{Letter}
-use Rattle.words.proofs.Lists.{from_snoc, only_yes, only_not, only-append, only_same, first-yes, first_not}
+use Rattle.words.proofs.Lists.{from_snoc, only_yes, only_not, only_append, only_same, first_yes, first_not}
 use Rattle.oracle.specs.Arrows.{State, Delta}
 use Rattle.oracle.specs.FileOrder.{leads_to}
 use Rattle.oracle.proofs.Targets.{never}
-use Rattle.oracle.proofs.Chain.{Supplied, arrow-up}
+use Rattle.oracle.proofs.Chain.{Supplied, arrow_up}
 use Rattle.oracle.proofs.Grow.{Climb, source_free, arrow_stays, arrow_was, grown}
 use Rattle.chains.specs.Chains.{look_in}
-use Rattle.chains.proofs.Looking.{look-far, look-spine, look-chain}
+use Rattle.chains.proofs.Looking.{look_far, look_spine, look_chain}
 
 abbrev pub Targets : Type 0
 Targets = State → List State
@@ -88,14 +88,14 @@ module _ (a : State → Letter) {t : State} {T T' : Targets} {S : State → Stat
       P y = eqb (a y) d
 
       by : Dec (a (suc x) ≡ d) → Gets T T' xs (suc t) x → Dec (c ≡ d) → (δ' x d ≡ δ x d) ⊎ ((d ≡ c) × Memᴰ x (t ∷ xs))
-      by (yes e) g f = inl (look-spine a (suc t) (T' x) x d (omega arith) e ∙ sym (look-spine a t (T x) x d h e))
+      by (yes e) g f = inl (look_spine a (suc t) (T' x) x d (omega arith) e ∙ sym (look_spine a t (T x) x d h e))
       by (no e) (inl r) (yes f) = inr (sym f, Memᴰ.tail r.0)
       by (no e) (inl r) (no f) =
-          inl (look-chain a (suc t) (T' x) x d (omega arith) e
+          inl (look_chain a (suc t) (T' x) x d (omega arith) e
           ∙ ap (first P) r.1
           ∙ first_not P (suc t) (T x) (ne_eqb c d f)
-          ∙ sym (look-chain a t (T x) x d h e))
-      by (no e) (inr r) f = inl (look-chain a (suc t) (T' x) x d (omega arith) e ∙ ap (first P) r.1 ∙ sym (look-chain a t (T x) x d h e))
+          ∙ sym (look_chain a t (T x) x d h e))
+      by (no e) (inr r) f = inl (look_chain a (suc t) (T' x) x d (omega arith) e ∙ ap (first P) r.1 ∙ sym (look_chain a t (T x) x d h e))
 
   old_at : (d : Letter) → (δ' t d ≡ δ t d) ⊎ ((d ≡ c) × Memᴰ t (t ∷ xs))
   unfolding first
@@ -104,9 +104,9 @@ module _ (a : State → Letter) {t : State} {T T' : Targets} {S : State → Stat
       by : Dec (c ≡ d) → (δ' t d ≡ δ t d) ⊎ ((d ≡ c) × Memᴰ t (t ∷ xs))
       by (yes f) = inr (sym f, Memᴰ.head refl)
       by (no f) =
-          inl (look-chain a (suc t) (T' t) t d (le_refl _) f
+          inl (look_chain a (suc t) (T' t) t d (le_refl _) f
           ∙ ap (first (λ y. eqb (a y) d)) (fresh' t (le_refl t))
-          ∙ sym (look-far a t (T t) t d (le_refl t)))
+          ∙ sym (look_far a t (T t) t d (le_refl t)))
 
   old_arrows : (x : State) (d : Letter) → (δ' x d ≡ δ x d) ⊎ ((d ≡ c) × Memᴰ x (t ∷ xs))
   old_arrows x d = by (dec_lt x t) (ℕ_discrete x t)
@@ -114,20 +114,20 @@ module _ (a : State → Letter) {t : State} {T T' : Targets} {S : State → Stat
       by : Dec (x < t) → Dec (x ≡ t) → (δ' x d ≡ δ x d) ⊎ ((d ≡ c) × Memᴰ x (t ∷ xs))
       by (yes h) e = old_below x d h
       by (no h) (yes e) = rw e (old_at d)
-      by (no h) (no e) = inl (look-far a (suc t) (T' x) x d (omega arith) ∙ sym (look-far a t (T x) x d (omega arith)))
+      by (no h) (no e) = inl (look_far a (suc t) (T' x) x d (omega arith) ∙ sym (look_far a t (T x) x d (omega arith)))
 
   new-arrows : (x : State) → Memᴰ x (t ∷ xs) → δ' x c ≡ some (suc t)
-  new-arrows x (Memᴰ.head e) = rw e (look-spine a (suc t) (T' t) t c (le_refl _) refl)
+  new-arrows x (Memᴰ.head e) = rw e (look_spine a (suc t) (T' t) t c (le_refl _) refl)
   new-arrows x (Memᴰ.tail m) = by (news x)
     where
       off_spine : a (suc x) ≢ c
-      off_spine e = never (source_free C (Memᴰ.tail m)) (look-spine a t (T x) x c (low x m) e)
+      off_spine e = never (source_free C (Memᴰ.tail m)) (look_spine a t (T x) x c (low x m) e)
 
       by : Gets T T' xs (suc t) x → δ' x c ≡ some (suc t)
       by (inl r) =
-          look-chain a (suc t) (T' x) x c (omega (arith, low x m)) off_spine
+          look_chain a (suc t) (T' x) x c (omega (arith, low x m)) off_spine
           ∙ ap (first (λ y. eqb (a y) c)) r.1
-          ∙ first-yes (λ y. eqb (a y) c) (suc t) (T x) (eq-eqb c c refl)
+          ∙ first_yes (λ y. eqb (a y) c) (suc t) (T x) (eq-eqb c c refl)
       by (inr r) = absurd (r.0 m)
 
   module _ {S' : State → State} (kept : (x : State) → x ≤ t → S' x ≡ S x) (given : S' (suc t) ≡ y) where
@@ -159,7 +159,7 @@ module _ (a : State → Letter) {t : State} {T T' : Targets} {S : State → Stat
         (λ e. never refl e)
       where
         by : (δ x c ≡ some (suc t)) ⊎ ((c ≡ c) × (suc t ≡ suc t) × Memᴰ x (t ∷ xs)) → ⊥
-        by (inl e) = let u = arrow-up O x c (suc t) e in omega (arith, u.1)
+        by (inl e) = let u = arrow_up O x c (suc t) e in omega (arith, u.1)
         by (inr r) = at r.2
           where
             at : Memᴰ x (t ∷ xs) → ⊥
@@ -173,7 +173,7 @@ module _ (a : State → Letter) {t : State} {T T' : Targets} {S : State → Stat
         let n : suc t - suc x ≡ suc (t - suc x) = omega arith in
         let l : suc (suc x) + (t - suc x) ≡ suc t = omega arith in
         let old = only_same P' (λ z. leads_to (δ x (a z)) z) (suc (suc x)) (t - suc x) (λ z l b. tests_same x z (omega arith)) in
-        rw (n, from_snoc (suc (suc x)) (t - suc x), l, only-append P' (from (suc (suc x)) (t - suc x)) (suc t ∷ []))
+        rw (n, from_snoc (suc (suc x)) (t - suc x), l, only_append P' (from (suc (suc x)) (t - suc x)) (suc t ∷ []))
         (ap (λ l. l ++ only P' (suc t ∷ [])) old)
 
     pub letter-in_order : (x : State) → reverse (T x) ≡ extras_up_to a δ x t → reverse (T' x) ≡ extras_up_to a δ' x (suc t)

@@ -88,8 +88,8 @@ module _ {L : List ℕ} {n u : ℕ} {x : State} (P : Pushable L n u x) (y : Stat
       rw push_head (links {l = l} p P.slot (sym push_target) g o (rw push_next (kept (P.heads x P.source) C)))
 
   -- any other state's are as they were
-  pub other-chain : {l : List State} (z : State) → z < n → z ≢ x → Chain L n (at L (2 * n + z)) l → Chain L' n (at L' (2 * n + z)) l
-  other-chain z h f C = rw (other_head z h f) (kept (P.heads z h) C)
+  pub other_chain : {l : List State} (z : State) → z < n → z ≢ x → Chain L n (at L (2 * n + z)) l → Chain L' n (at L' (2 * n + z)) l
+  other_chain z h f C = rw (other_head z h f) (kept (P.heads z h) C)
 
   pub push_heads : (z : State) → z < n → at L' (2 * n + z) ≤ suc u
   push_heads z h = by (ℕ_discrete z x)
@@ -103,4 +103,4 @@ module _ {L : List ℕ} {n u : ℕ} {x : State} (P : Pushable L n u x) (y : Stat
     where
       by : (z : State) → z < n → Dec (z ≡ x) → (l : List State) × Chain L' n (at L' (2 * n + z)) l
       by z h (yes e) = let r = P.chained.chain x P.source in (y ∷ r.0, rw e (push_chain g r.1))
-      by z h (no e) = let r = P.chained.chain z h in (r.0, other-chain z h e r.1)
+      by z h (no e) = let r = P.chained.chain z h in (r.0, other_chain z h e r.1)

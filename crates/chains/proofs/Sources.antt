@@ -20,8 +20,8 @@ use Rattle.oracle.specs.Arrows.{State, Delta}
 use Rattle.oracle.proofs.Grow.{Climb, stop, out, go}
 use Rattle.chains.specs.Chains.{Chain, Chained, look_in, Looks, pushed}
 use Rattle.chains.specs.Letters.{Ready, Climbs, finds, runs_out, goes_on}
-use Rattle.chains.proofs.Looking.{chain-states, look-same}
-use Rattle.chains.proofs.Pushing.{Pushable, push_size, push_elsewhere, push_low, push_chain, other-chain, push_heads}
+use Rattle.chains.proofs.Looking.{chain-states, look_same}
+use Rattle.chains.proofs.Pushing.{Pushable, push_size, push_elsewhere, push_low, push_chain, other_chain, push_heads}
 use Rattle.chains.proofs.Climbing.{ready_push, ready-next}
 use Rattle.chains.proofs.Model.{Targets, arrows_of, Gets}
 
@@ -78,7 +78,7 @@ push_held {L} {n} {u} {T} {k} H P y g = record { size = push_size P y; heads = p
   where
     by : (x : State) → x < n → Dec (x ≡ k) → Chain (pushed L n u k y) n (at (pushed L n u k y) (2 * n + x)) (put T k y x)
     by x h (yes e) = rw (e, put-here T k y) (push_chain P y g (H.chain k P.source))
-    by x h (no e) = rw (put_other T k y x e) (other-chain P y x h e (H.chain x h))
+    by x h (no e) = rw (put_other T k y x e) (other_chain P y x h e (H.chain x h))
 
 -- ── Climbs ─────────────────────────────────────────────────────────────────
 
@@ -142,10 +142,10 @@ module _ {L : List ℕ} {n t u : ℕ} {T : Targets} {k : State} (R : Ready L n t
 -- ── All of them ────────────────────────────────────────────────────────────
 
 -- the lookup of the code is that of the targets held
-pub look-held : (a : State → Letter) {L : List ℕ} {n u : ℕ} (t : ℕ) (c : Letter) {T : Targets} {k : State} → Held L n u T
+pub look_held : (a : State → Letter) {L : List ℕ} {n u : ℕ} (t : ℕ) (c : Letter) {T : Targets} {k : State} → Held L n u T
     → ((y : State) → y < n → at L y ≡ a y) → suc k < n
     → look_in (at L) t (T k) k c ≡ arrows_of a t T k c
-look-held a {L} t c {T = T} {k = k} H same b = look-same (at L) a t (T k) k c same b (λ y m. chain-states (H.chain k (omega arith)) m)
+look_held a {L} t c {T = T} {k = k} H same b = look_same (at L) a t (T k) k c same b (λ y m. chain-states (H.chain k (omega arith)) m)
 
 module _ (a : State → Letter) {n t : ℕ} {c : Letter} where
   -- what the code finds is the arrow
@@ -153,7 +153,7 @@ module _ (a : State → Letter) {n t : ℕ} {c : Letter} where
       → {r : Leads} → Looks L n t k c r → r ≡ arrow_to (arrows_of a t T k c)
   arrow-held {T = T} {k = k} R H same s =
       s.says (T k) (H.chain k (ready_push R).source)
-      ∙ ap arrow_to (look-held a t c H same (omega (arith, R.below, R.inside)))
+      ∙ ap arrow_to (look_held a t c H same (omega (arith, R.below, R.inside)))
 
   pub comes_to : {L L' : List ℕ} {u u' : ℕ} {T : Targets} {k y : State} → Climbs n t c L u k L' u' y → Ready L n t u k → Held L n u T
       → ((z : State) → z < n → at L z ≡ a z) → ComesTo a n t c L u T k L' u' y

@@ -1,10 +1,10 @@
 -- CHAINS OF ARROWS in a table of six rows of n entries: what a lookup and a push mean there. Nothing here is of interest once the table is
 -- laid out.
 --
---   supply_in L n x     the supply of x, read from row 1; state 0 has none
+--   supply_in L n x    the supply of x, read from row 1; state 0 has none
 --   Chain L n j l      the slots from j on hold the targets l
 --   Chained L n        every state's slots hold some targets
---   look_in a t l x c   the arrow from x on c, a y being the letter of state y and l the targets of x
+--   look_in a t l x c  the arrow from x on c, a y being the letter of state y and l the targets of x
 --   Looks L n t x c r  r is that arrow, for the targets that the slots of x hold
 --   pushed L n u x y   an arrow from x to y in slot u + 1, before the others of x
 use Rattle.std.specs.Prelude.{◌≡◌, cond, List, [], ◌∷◌, ℕ, suc, ◌+◌, ◌*◌, ◌<◌, length, set, eqb, ltb}

@@ -8,7 +8,7 @@
 --   ClimbSays .. r      what the answer r says of a climb
 --   Begun L n t u       letter t + 1 can be added
 --   Added ..            what adding it does, a case for state 0 and one for the others
---   zero_arrow y         the arrow from state 0 on a letter whose first state is y, 0 standing for none
+--   zero_arrow y        the arrow from state 0 on a letter whose first state is y, 0 standing for none
 --   FirstState a t c y  y is the first of the states 1 to t that has the letter c, or 0 where none has
 --   Firsts a t F        F has the first state of each letter
 --   Blank L m           a word of m letters stands in row 0, and nothing elsewhere

@@ -10,7 +10,7 @@ use lib.ListN.{get_or-append}
 use lib.Seq.{get_or-take}
 use Rattle.words.specs.Lists.{at, from}
 use Rattle.words.specs.Words.{Word}
-use Rattle.words.proofs.Lists.{from-length, map-from-at, at-behind}
+use Rattle.words.proofs.Lists.{from_length, map_from_at, at-behind}
 use Rattle.words.proofs.Loops.{padded, zeros-at}
 use Rattle.oracle.specs.Arrows.{State, Delta}
 use Rattle.compact.specs.Compact.{sets_room, compact_room, set_word, targets_up_to, sets_from, compact_from}
@@ -20,11 +20,11 @@ use Rattle.compact.specs.Compact.{sets_room, compact_room, set_word, targets_up_
 module _ (δ : Delta) (m : ℕ) where
   pub sets-size : length (sets_from δ m) ≡ sets_room m
   unfolding sets_from
-  sets-size = length-map (from 0 (sets_room m)) (set_word δ) ∙ from-length 0 (sets_room m)
+  sets-size = length-map (from 0 (sets_room m)) (set_word δ) ∙ from_length 0 (sets_room m)
 
   pub word_at : (i : ℕ) → i < sets_room m → at (sets_from δ m) i ≡ set_word δ i
   unfolding sets_from
-  word_at i h = rw (zero-add i) at (map-from-at (set_word δ) 0 (sets_room m) i 0 h)
+  word_at i h = rw (zero-add i) at (map_from_at (set_word δ) 0 (sets_room m) i 0 h)
 
 -- ── The entries ────────────────────────────────────────────────────────────
 
@@ -57,13 +57,13 @@ module _ (p : Word) (δ : Delta) (S : State → State) where
   letter_row_lem = sym (add-one m)
 
   supply_row_lem : length supply_row ≡ n
-  supply_row_lem = ap suc (length-map (from 1 m) S ∙ from-length 1 m) ∙ sym (add-one m)
+  supply_row_lem = ap suc (length-map (from 1 m) S ∙ from_length 1 m) ∙ sym (add-one m)
 
   zero-rows : length zeros ≡ 2 * n
   zero-rows = length-replicate {A = ℕ} (2 * n) 0
 
   start_rows_lem : length start_rows ≡ 4 * n
-  start_rows_lem = length-map (from 0 (4 * n)) _ ∙ from-length 0 (4 * n)
+  start_rows_lem = length-map (from 0 (4 * n)) _ ∙ from_length 0 (4 * n)
 
   target_rows_lem : length target_rows ≡ 2 * n
   target_rows_lem = simp (length-take, length-append, length-replicate) (omega arith)
@@ -105,7 +105,7 @@ module _ (p : Word) (δ : Delta) (S : State → State) where
   -- where each word's targets start
   pub starts-there : (i : ℕ) → i < 4 * n → at L (4 * n + i) ≡ length (targets_up_to δ (64 * i))
   starts-there i h =
-      let value = map-from-at (λ k. length (targets_up_to δ (64 * k))) 0 (4 * n) i 0 h in
+      let value = map_from_at (λ k. length (targets_up_to δ (64 * k))) 0 (4 * n) i 0 h in
       behind-zeros i ∙ get_or-append start_rows _ 0 i (omega (arith, start_rows_lem)) ∙ rw (zero-add i) at value
 
   -- the targets, and zeros

@@ -19,24 +19,24 @@ use Rattle.compact.proofs.ReadBack.{beyond_state, reads-some, reads_none}
 
 module _ {Z L : List ℕ} {m : ℕ} (F : CompactFormed Z L m) (x : State) (c : Letter) (byte : c < 256) where
   -- past the last state, and at it
-  pub look-far : m ≤ x → read_compact m Z L x c ≡ none
-  look-far h = by_cases (ℕ_discrete m x)
+  pub look_far : m ≤ x → read_compact m Z L x c ≡ none
+  look_far h = by_cases (ℕ_discrete m x)
       (λ e. rw (← e) (reads_none m Z L m c (omega arith) byte (F.last c byte)))
       (λ e. beyond_state m Z L x c (omega arith))
 
   -- along the spine
-  pub look-spine : x < m → at L (x + 1) ≡ c → read_compact m Z L x c ≡ some (x + 1)
-  look-spine h e = rw e at (F.spine x h)
+  pub look_spine : x < m → at L (x + 1) ≡ c → read_compact m Z L x c ≡ some (x + 1)
+  look_spine h e = rw e at (F.spine x h)
 
   -- not in the set
   pub look_none : x < m → in_set Z x c ≡ false → read_compact m Z L x c ≡ none
   look_none h e = reads_none m Z L x c (omega arith) byte e
 
   -- the target's place, by its word
-  pub look-place : x < m
+  pub look_place : x < m
       → at L (4 * (m + 1) + arrow_number x c / 64) + how_many (bit_at (at Z (arrow_number x c / 64))) (arrow_number x c % 64)
       ≡ at L (4 * (m + 1) + 4 * x) + how_many (in_set Z x) c
-  look-place h =
+  look_place h =
       let k = c / 64 in
       let word : arrow_number x c / 64 ≡ 4 * x + k = omega arith in
       let bit : arrow_number x c % 64 ≡ c % 64 = omega arith in
@@ -46,15 +46,15 @@ module _ {Z L : List ℕ} {m : ℕ} (F : CompactFormed Z L m) (x : State) (c : L
 
   module _ (h : x < m) (e : in_set Z x c ≡ true) where
     -- it is within the rows of targets
-    pub look-inside : at L (4 * (m + 1) + 4 * x) + how_many (in_set Z x) c < 2 * (m + 1)
-    look-inside = omega (arith, count-passes (in_set Z x) c 256 byte e, F.fits x (omega arith))
+    pub look_inside : at L (4 * (m + 1) + 4 * x) + how_many (in_set Z x) c < 2 * (m + 1)
+    look_inside = omega (arith, count-passes (in_set Z x) c 256 byte e, F.fits x (omega arith))
 
     -- and the arrow leads to what stands there
-    pub look-some : {r : ℕ} → r ≡ at L (4 * (m + 1) + 4 * x) + how_many (in_set Z x) c → read_compact m Z L x c ≡ some (at L (8 * (m + 1) + r))
-    look-some q = reads-some m Z L x c (omega arith) byte e ∙ ap (λ (i : ℕ). some (at L (8 * (m + 1) + i))) (sym q)
+    pub look_some : {r : ℕ} → r ≡ at L (4 * (m + 1) + 4 * x) + how_many (in_set Z x) c → read_compact m Z L x c ≡ some (at L (8 * (m + 1) + r))
+    look_some q = reads-some m Z L x c (omega arith) byte e ∙ ap (λ (i : ℕ). some (at L (8 * (m + 1) + i))) (sym q)
 
     -- both of what code counts
-    pub look-found : {r : ℕ}
+    pub look_found : {r : ℕ}
         → r ≡ at L (4 * (m + 1) + arrow_number x c / 64) + how_many (bit_at (at Z (arrow_number x c / 64))) (arrow_number x c % 64)
         → (r < 2 * (m + 1)) × (read_compact m Z L x c ≡ some (at L (8 * (m + 1) + r)))
-    look-found q = (omega (arith, q, look-place h, look-inside), look-some (q ∙ look-place h))
+    look_found q = (omega (arith, q, look_place h, look_inside), look_some (q ∙ look_place h))

@@ -24,14 +24,14 @@ use Rattle.compact.proofs.CompactRows.{word_at, starts-there, targets-there}
 -- ── Sets ───────────────────────────────────────────────────────────────────
 
 -- of a number: its state and letter
-pub its-state : (x : State) (c : Letter) → c < 256 → arrow_number x c / 256 ≡ x
-its-state x c h = omega arith
+pub its_state : (x : State) (c : Letter) → c < 256 → arrow_number x c / 256 ≡ x
+its_state x c h = omega arith
 
-pub its-letter : (x : State) (c : Letter) → c < 256 → arrow_number x c % 256 ≡ c
-its-letter x c h = omega arith
+pub its_letter : (x : State) (c : Letter) → c < 256 → arrow_number x c % 256 ≡ c
+its_letter x c h = omega arith
 
 pub arrow_of : (δ : Delta) (x : State) (c : Letter) → c < 256 → arrow_at δ (arrow_number x c) ≡ δ x c
-arrow_of δ x c h = ap₂ δ (its-state x c h) (its-letter x c h)
+arrow_of δ x c h = ap₂ δ (its_state x c h) (its_letter x c h)
 
 -- bit d of word i tells of the arrow of number 64i + d
 pub word-told : (δ : Delta) (i d : ℕ) → d < 64 → bit_at (set_word δ i) d ≡ there δ (64 * i + d)

@@ -16,12 +16,12 @@ use lib.Seq.{take-append_seam}
 use borrow.Author.Tests.{le-leb, ne_eqb}
 use Rattle.words.specs.Lists.{at}
 use Rattle.words.specs.Words.{Letter, Word, letter}
-use Rattle.words.proofs.Lists.{map-from-at, none_where}
+use Rattle.words.proofs.Lists.{map_from_at, none_where}
 use Rattle.oracle.specs.Arrows.{State}
 use Rattle.oracle.specs.SuffixRule.{oracle}
 use Rattle.oracle.specs.Supply.{supply}
 use Rattle.oracle.proofs.Targets.{never}
-use Rattle.oracle.proofs.Chain.{zero-on, chain-arrow}
+use Rattle.oracle.proofs.Chain.{zero_on, chain-arrow}
 use Rattle.oracle.proofs.Theorems.{oracle-supplied, supply_lower, no_supply}
 use Rattle.table.specs.Table.{table_of, read_word, read_arrow, read_supply}
 use Rattle.table.proofs.Theorems.{oracle-over, table-arrow}
@@ -97,7 +97,7 @@ module _ (p : Word) where
   compact_supply (suc x) h =
       let s = supply_lower p (suc x) (omega arith) h in
       let S : State → State = λ x. get_or (supply p x) 0 in
-      let value = map-from-at S 1 m x 0 h in
+      let value = map_from_at S 1 m x 0 h in
       let there : at L (suc m + suc x) ≡ S (suc x) =
       rw (← add-one m) (supplies-there p (oracle p) S (suc x) (omega arith)) ∙ rw (one-add x) at value in
       rw (ne_eqb (suc x) 0 (λ e. omega arith), le-leb (suc x) m h, there, s.1)
@@ -110,9 +110,9 @@ module _ (p : Word) where
   compact_set x h c l = set_told (oracle p) m Z (word_at (oracle p) m) x h c l
 
   -- words of 64 bits
-  pub compact_words-small : (i : ℕ) → at (compact_sets p) i < 2 ^ 64
+  pub compact_words_small : (i : ℕ) → at (compact_sets p) i < 2 ^ 64
   unfolding compact_sets
-  compact_words-small i = by_cases (dec_lt i (sets_room m))
+  compact_words_small i = by_cases (dec_lt i (sets_room m))
       (λ h. rw (word_at (oracle p) m i h) (word_small (oracle p) i))
       (λ h. rw (get_or-eq_default Z 0 {n = i} (omega (arith, sets-size (oracle p) m))) (pow_pos 64))
 
@@ -143,7 +143,7 @@ module _ (p : Word) where
   none_first x c e = none_where (oracle p x c) (λ y f.
       let v = (oracle-over p).into x c y f in
       let O = oracle-supplied p in
-      never e (chain-arrow O c y (zero-on O x (omega (arith, v.2, v.4))) f).1)
+      never e (chain-arrow O c y (zero_on O x (omega (arith, v.2, v.4))) f).1)
 
   target-bound : (i : ℕ) → i < 2 * (m + 1) → at L (8 * (m + 1) + i) ≤ m
   unfolding compact_table
@@ -188,7 +188,7 @@ module _ (p : Word) where
   supplies-small zero h = omega (arith, supplies-there p (oracle p) (λ x. get_or (supply p x) 0) 0 h)
   supplies-small (suc i) h =
       let S : State → State = λ x. get_or (supply p x) 0 in
-      let value = rw (one-add i) at (map-from-at S 1 m i 0 (omega arith)) in
+      let value = rw (one-add i) at (map_from_at S 1 m i 0 (omega arith)) in
       let s = supply_lower p (suc i) (omega arith) (omega arith) in
       let lower : S (suc i) ≡ s.0 = rw s.1 in
       omega (arith, supplies-there p (oracle p) S (suc i) h, value, lower, s.2)
@@ -202,8 +202,8 @@ module _ (p : Word) where
   corner = letters-there p (oracle p) _ 0 (omega arith)
 
   -- entries of 16 bits
-  pub compact_entries-small : length p < 30000 → ((i : ℕ) → letter p i < 256) → (i : ℕ) → at (compact_table p) i < 65536
-  compact_entries-small few bytes i =
+  pub compact_entries_small : length p < 30000 → ((i : ℕ) → letter p i < 256) → (i : ℕ) → at (compact_table p) i < 65536
+  compact_entries_small few bytes i =
       by_cases (dec_lt i (m + 1)) (front i) (λ h.
       by_cases (dec_lt i (2 * (m + 1))) (λ l. row (m + 1) supply_row_lem (omega arith) (omega arith)) (λ l.
       by_cases (dec_lt i (4 * (m + 1))) (λ k. row (2 * (m + 1)) zero-rows (omega arith) (omega arith)) (λ k.

@@ -9,24 +9,24 @@
 --   rows 4 to 7, entry i      how many arrows have numbers below 64i: where the targets of word i start in the row of targets
 --   rows 8 and 9              the targets of all arrows by rising number, which is by rising source, then rising letter; zero behind them
 --
---   sets_room m                how many words
---   compact_room m             how many entries
---   arrow_number x c           the number of the arrow from x on c
---   arrow_at δ g               where the arrow of the number g leads
---   is_arrow o                 whether there is one
---   as_list o                  the state that it leads to, in a list of one or none
---   from_bits f k              the number whose first k bits say which of 0, .., k - 1 pass the test f
---   set_word δ i               word i
---   targets_up_to δ g           the targets of the arrows with numbers below g
---   sets_from δ m              all words for the arrows δ
---   compact_from p δ S         the rows for the arrows δ and the supplies S over p
---   compact_sets p             the words of a word's oracle: the suffix rule's arrows
---   compact_table p            its rows, with 001's supplies
---   bit_at w d                 whether bit d of w is 1
+--   sets_room m               how many words
+--   compact_room m            how many entries
+--   arrow_number x c          the number of the arrow from x on c
+--   arrow_at δ g              where the arrow of the number g leads
+--   is_arrow o                whether there is one
+--   as_list o                 the state that it leads to, in a list of one or none
+--   from_bits f k             the number whose first k bits say which of 0, .., k - 1 pass the test f
+--   set_word δ i              word i
+--   targets_up_to δ g         the targets of the arrows with numbers below g
+--   sets_from δ m             all words for the arrows δ
+--   compact_from p δ S        the rows for the arrows δ and the supplies S over p
+--   compact_sets p            the words of a word's oracle: the suffix rule's arrows
+--   compact_table p           its rows, with 001's supplies
+--   bit_at w d                whether bit d of w is 1
 --   marked Z g                whether the words Z tell of an arrow of the number g
---   in_set Z x c               whether c is in the set of x
---   how_many f k               how many of 0, .., k - 1 pass the test f
---   read_compact m Z L x c     where the arrow from x on c leads, read from the words Z and the entries L
+--   in_set Z x c              whether c is in the set of x
+--   how_many f k              how many of 0, .., k - 1 pass the test f
+--   read_compact m Z L x c    where the arrow from x on c leads, read from the words Z and the entries L
 --
 -- The word and the supplies are read as from the first form. 02, 'Compact rows'.
 use Rattle.std.specs.Prelude.{Bool, true, false, cond, ◌&&◌, List, [], ◌∷◌, ◌++◌, map, ℕ, zero, suc, ◌+◌, ◌*◌, ◌/◌, ◌%◌, ◌^◌, length, take, replicate, eqb, ltb, leb}

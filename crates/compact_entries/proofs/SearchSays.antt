@@ -101,16 +101,16 @@ compact_steps word text bytes =
     (λ x c. rw (length-reverse word) at (compact_agrees_all (mirror word) bytes x c))
 
 -- the rooms that were filled with Y and P, R and S being what stands behind them
-module _ (word : Word) {Y P : List ℕ} (R S : List ℕ) (Filled-in : (Y ≡ compact_sets (mirror word)) × (P ≡ compact_table (mirror word)))
+module _ (word : Word) {Y P : List ℕ} (R S : List ℕ) (filled_in : (Y ≡ compact_sets (mirror word)) × (P ≡ compact_table (mirror word)))
     (bytes : (i : ℕ) → letter (mirror word) i < 256) where
   abbrev size : ℕ
   size = length word
 
   lent-words : take (sets_room size) (Y ++ R) ≡ compact_sets (mirror word)
-  lent-words = rw Filled-in.0 (words-front (mirror word) (length-reverse word) R S)
+  lent-words = rw filled_in.0 (words-front (mirror word) (length-reverse word) R S)
 
   lent-entries : take (compact_room size) (P ++ S) ≡ compact_table (mirror word)
-  lent-entries = rw Filled-in.1 (entries-front (mirror word) (length-reverse word) R S)
+  lent-entries = rw filled_in.1 (entries-front (mirror word) (length-reverse word) R S)
 
   pub lent-formed : size < 30000 → CompactFormed (take (sets_room size) (Y ++ R)) (take (compact_room size) (P ++ S)) size
   lent-formed h = rw (lent-words, lent-entries, ← length-reverse word) (compact_formed (mirror word) (rw (length-reverse word) h) bytes)
@@ -129,8 +129,8 @@ module _ (word : Word) {Y P : List ℕ} (R S : List ℕ) (Filled-in : (Y ≡ com
     lent-entries,
     compact_steps word text bytes,
     search-lists-occurrences word text,
-    Filled-in.0,
-    Filled-in.1,
+    filled_in.0,
+    filled_in.1,
     kept,
   )
 

@@ -1,9 +1,10 @@
 -- WHAT THE BUILD OF COMPACT ROWS SAYS: the whole outcome as a function of what is lent.
 --
 --   Outcome                 the answer, and both rooms as they are left
---   compact_built r Z T      the outcome of code that answers r and leaves the words Z and the entries T
---   compact_short m Z T      whether a room is too small for m letters: the words, or the entries
---   compact_build_says word Z T
+--   compact_built r Z T     the outcome of code that answers r and leaves the words Z and the entries T
+--   compact_short m Z T     whether a room is too small for m letters: the words, or the entries
+--   compact_build_says word Z
+--                           T
 --                           what it must be: 1, 2, 3 in that order; else the word's compact rows, and the rest of both rooms as it was
 --
 -- 02, 'Compact rows'; 01, 'When the library says no'.

@@ -1,7 +1,7 @@
 -- WHAT THE SEARCH WITH COMPACT ROWS SAYS: the whole outcome as a function of what is lent.
 --
 --   Outcome                    the answer, and both rooms and the list as they are left
---   compact_searched r Z T F    the outcome of code that answers r and leaves Z, T and F
+--   compact_searched r Z T F   the outcome of code that answers r and leaves Z, T and F
 --   compact_search_says word text Z T F
 --                              what it must be: 1, 2, 4, 3 in that order; else every occurrence is counted and the first of them are
 --                              listed, as many as fit, the letters are those of the published steps, as `search` has them, the mirrored

@@ -14,7 +14,7 @@ use lib.Seq.{get_or-take, get_or-drop, length-take-le, ext_get_or}
 use borrow.Rule.Slice.PartMut.{mid_of, put_mid, same_len_mid}
 use Rattle.words.specs.Lists.{at}
 use Rattle.words.specs.Words.{Word}
-use Rattle.words.proofs.Lists.{at-behind, map-from-at}
+use Rattle.words.proofs.Lists.{at-behind, map_from_at}
 use Rattle.words.proofs.Loops.{zeros-at}
 use Rattle.oracle.specs.SuffixRule.{oracle}
 use Rattle.oracle.specs.Supply.{supply}
@@ -76,7 +76,7 @@ module _ (p : Word) where
       let e : length p + 1 + 0 ≡ suc (length p) = omega arith in
       rw e (row_1_first p (oracle p) _) ∙ sym (supplies-there p (oracle p) _ 0 h)
   same-supplies (suc i) h =
-      let value = map-from-at (λ x. get_or (supply p x) 0) 1 (length p) i 0 (omega arith) in
+      let value = map_from_at (λ x. get_or (supply p x) 0) 1 (length p) i 0 (omega arith) in
       rw (add-one (length p)) (row_1 p (oracle p) _ i (omega arith))
       ∙ sym (supplies-there p (oracle p) _ (suc i) h ∙ rw (one-add i) at value)
 

@@ -217,8 +217,8 @@ module _ {δ : Delta} {m : ℕ} {Z : List ℕ} {x : State} (U : MarkedUpTo δ m 
   pub next-empty : NoneOf x Z
   next-empty c l = U.ahead (arrow_number x c) (omega arith)
 
-  pub state-more : {Z' : List ℕ} → WithSet δ x Z Z' → MarkedUpTo δ m Z' (x + 1)
-  state-more {Z'} M = record {
+  pub state_more : {Z' : List ℕ} → WithSet δ x Z Z' → MarkedUpTo δ m Z' (x + 1)
+  state_more {Z'} M = record {
     size = M.size ∙ U.size;
     small = M.small U.small;
     done = λ g h. by_cases (ℕ_discrete (g / 256) x)

@@ -180,8 +180,8 @@ module _ {p : Word} {L : List ℕ} {m : ℕ} (F : FirstForm p L m) {x : State} (
   abbrev one : ℕ → ℕ → ℕ
   one e k = cond (ltb e k) 1 0
 
-  none-below_itself : (e : ℕ) → one e e ≡ 0
-  none-below_itself e = rw (le-ltb e e (omega arith))
+  none_below_itself : (e : ℕ) → one e e ≡ 0
+  none_below_itself e = rw (le-ltb e e (omega arith))
 
   below_all : (y : State) → one (letter_into p y) 256 ≡ 1
   below_all y = rw (lt-ltb (letter_into p y) 256 (F.bytes (pred y)))
@@ -202,7 +202,7 @@ module _ {p : Word} {L : List ℕ} {m : ℕ} (F : FirstForm p L m) {x : State} (
 
   module _ (alone : length (out_targets p x) ≡ 1) where
     lone_place : before ≡ place_of p x c
-    lone_place = omega (arith, counted, lone_start F h alone c (byte (x + 1)), none-below_itself c)
+    lone_place = omega (arith, counted, lone_start F h alone c (byte (x + 1)), none_below_itself c)
 
     pub lone_inside : before < 2 * (m + 1)
     lone_inside = omega (arith, lone_place, first-inside)
@@ -231,17 +231,17 @@ module _ {p : Word} {L : List ℕ} {m : ℕ} (F : FirstForm p L m) {x : State} (
     module _ {a b : Letter} (to-spine : a ≡ c) (to-other : b ≡ d) where
       spine-place : {r : ℕ} → r ≡ before + cond (ltb b a) 1 0 → r ≡ place_of p x c
       spine-place e =
-          omega (arith, e, ap₂ one to-other to-spine, counted, pair_start F h both c (byte (x + 1)), none-below_itself c)
+          omega (arith, e, ap₂ one to-other to-spine, counted, pair_start F h both c (byte (x + 1)), none_below_itself c)
 
       other_place : {r : ℕ} → r ≡ before + cond (ltb a b) 1 0 → r ≡ place_of p x d
       other_place e =
-          omega (arith, e, ap₂ one to-spine to-other, counted, pair_start F h both d (byte other), none-below_itself d)
+          omega (arith, e, ap₂ one to-spine to-other, counted, pair_start F h both d (byte other), none_below_itself d)
 
       pub spine-inside : {r : ℕ} → r ≡ before + cond (ltb b a) 1 0 → r < 2 * (m + 1)
       spine-inside e = omega (arith, spine-place e, first-inside)
 
-      pub other-inside : {r : ℕ} → r ≡ before + cond (ltb a b) 1 0 → r < 2 * (m + 1)
-      other-inside e = omega (arith, other_place e, place_inside F x h other (out-leads F x h 1 (omega (arith, both))).leads)
+      pub other_inside : {r : ℕ} → r ≡ before + cond (ltb a b) 1 0 → r < 2 * (m + 1)
+      other_inside e = omega (arith, other_place e, place_inside F x h other (out-leads F x h 1 (omega (arith, both))).leads)
 
     pub pair_next : before + 2 ≡ first_place (oracle p) (suc x)
     pair_next =

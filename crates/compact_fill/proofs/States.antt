@@ -19,7 +19,7 @@ use Rattle.compact.proofs.Targets.{targets_rise, target-inside, target_at, targe
 use Rattle.compact.proofs.Theorems.{no_arrow}
 use Rattle.compact_fill.specs.Filling.{first_place, FirstForm, Words64, NoneOf, WithState, FilledState, AllStates}
 use Rattle.compact_fill.proofs.OutArrows.{own-word, first_stays}
-use Rattle.compact_fill.proofs.Marking.{MarkedUpTo, next-empty, state-more, all-marked}
+use Rattle.compact_fill.proofs.Marking.{MarkedUpTo, next-empty, state_more, all-marked}
 
 -- the states below x have their starts and their targets; so many targets are there, and zeros behind them
 pub record FilledUpTo (p : Word) (m : ℕ) (L L' : List ℕ) (before : ℕ) (x : State) : Type 0 where
@@ -110,7 +110,7 @@ module _ {p : Word} {m : ℕ} {L : List ℕ} where
         where
           by : FilledState (oracle p) m x Z L' Z' L'' next
               → (x + 1 ≤ m) × MarkedUpTo (oracle p) m Z' (x + 1) × FilledUpTo p m L L'' next (x + 1)
-          by says = (omega arith, state-more U says.1, state-filled h says.0 says.2)
+          by says = (omega arith, state_more U says.1, state-filled h says.0 says.2)
 
       pub all_told : {Z : List ℕ} → x ≡ m → MarkedUpTo (oracle p) m Z x
           → (before ≡ first_place (oracle p) m) × (Z ≡ sets_from (oracle p) m) × AllStates (oracle p) m L L'

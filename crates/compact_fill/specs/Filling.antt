@@ -1,10 +1,10 @@
 -- HOW COMPACT ROWS ARE FILLED: from the first form of the same word, which stands in the entries meanwhile. What each step leaves; nothing
 -- here is of interest once they are filled.
 --
---   out_targets p x       where the arrows of x lead, a state below m: the spine's, and then the extra ones in the file's order
---   letter_into p y       the letter of the arrows into y
---   place_of p x c        the place of the target of the arrow from x on c, in the rows of targets
---   first_place δ x       the place of the first target of x there
+--   out_targets p x      where the arrows of x lead, a state below m: the spine's, and then the extra ones in the file's order
+--   letter_into p y      the letter of the arrows into y
+--   place_of p x c       the place of the target of the arrow from x on c, in the rows of targets
+--   first_place δ x      the place of the first target of x there
 --   FirstForm p L m      the entries L have room for compact rows, and rows 0 to 3 are those of the first form of p, which has m letters
 --   Words64 Z            Z are words of 64 bits
 --   WithBit Z g Z'       Z' is Z with the bit of the number g

@@ -22,7 +22,7 @@ use Rattle.prepared.proofs.Told.{told-some, told_none, tells-some}
 use Rattle.compact.specs.Compact.{in_set, how_many, read_compact}
 use Rattle.compact.specs.CompactFormed.{CompactFormed}
 use Rattle.compact.proofs.ReadBack.{beyond_bytes}
-use Rattle.compact.proofs.Looking.{look-far, look_none, look-inside, look-some}
+use Rattle.compact.proofs.Looking.{look_far, look_none, look_inside, look_some}
 use Rattle.compact_search.specs.FewStates.{FirstTargets, FewStates, Column}
 
 -- ── One entry ──────────────────────────────────────────────────────────────
@@ -30,16 +30,16 @@ use Rattle.compact_search.specs.FewStates.{FirstTargets, FewStates, Column}
 module _ {Z L : List ℕ} {m : ℕ} (F : CompactFormed Z L m) (x : State) (c : Letter) where
   target-inside : {y : State} → read_compact m Z L x c ≡ some y → y ≤ m
   target-inside {y} e = by_cases (dec_lt c 256)
-      (λ b. by_cases (dec_le m x) (λ h. never (look-far F x c b h) e) (λ h. by b (omega arith) (in_set Z x c) refl))
+      (λ b. by_cases (dec_le m x) (λ h. never (look_far F x c b h) e) (λ h. by b (omega arith) (in_set Z x c) refl))
       (λ b. never (beyond_bytes m Z L x c (omega arith)) e)
     where
       by : c < 256 → x < m → (member : Bool) → in_set Z x c ≡ member → y ≤ m
       by b h false q = never (look_none F x c b h q) e
       by b h true q =
           let place = at L (4 * (m + 1) + 4 * x) + how_many (in_set Z x) c in
-          let same = sym (look-some F x c b h q refl) ∙ e in
+          let same = sym (look_some F x c b h q refl) ∙ e in
           let leads : at L (8 * (m + 1) + place) ≡ y = cc in
-          omega (arith, leads, F.targets place (look-inside F x c b h q))
+          omega (arith, leads, F.targets place (look_inside F x c b h q))
 
   -- the target of an arrow
   pub target-tells : {y : State} → read_compact m Z L x c ≡ some y → told y ≡ read_compact m Z L x c

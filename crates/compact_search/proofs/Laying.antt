@@ -94,8 +94,8 @@ module _ {δ : Delta} {rows : ℕ} {C D : List ℕ} where
       new : (x : State) → x < rows → at written (next + x) ≡ at E x
       new x h = at-behind (take next D) _ next x start-long ∙ get_or-append E _ 0 x (omega (arith, long))
 
-      other-letter : (c : Letter) → c ≢ i → at (set C i next) c ≡ at C c
-      other-letter c f = get_or-set_other C i c next 0 f
+      other_letter : (c : Letter) → c ≢ i → at (set C i next) c ≡ at C c
+      other_letter c f = get_or-set_other C i c next 0 f
 
       this_letter : at (set C i next) i ≡ next
       this_letter = get_or-set_same C i next 0 (omega (arith, Y.letters))
@@ -108,12 +108,12 @@ module _ {δ : Delta} {rows : ℕ} {C D : List ℕ} where
         most = fits;
         before = λ c. by_cases (ℕ_discrete c i)
             (λ q. rw q (omega (arith, this_letter)))
-            (λ f. omega (arith, other-letter c f, Y.before c));
-        ahead = λ c h. other-letter c (λ q. omega arith) ∙ Y.ahead c (omega arith);
+            (λ f. omega (arith, other_letter c f, Y.before c));
+        ahead = λ c h. other_letter c (λ q. omega arith) ∙ Y.ahead c (omega arith);
         empty = λ x h. kept x (omega (arith, Y.behind)) ∙ Y.empty x h;
         arrows = below_more _ i
             (λ c h x l.
-            let here = other-letter c (λ q. omega arith) in
+            let here = other_letter c (λ q. omega arith) in
             rw here (ap told (kept (at C c + x) (omega (arith, Y.before c))) ∙ Y.arrows c h x l))
             (λ x l. rw this_letter (ap told (new x l) ∙ column.arrows x (omega (arith, long))));
       }

@@ -5,9 +5,9 @@
 --   shifts k r          k times that
 --   fed r u             the register r after the bits u: each is exclusive-ored into the lowest place, and one shift follows
 --   digits k b          the k lowest bits of b, lowest first
---   bits_of l            the bits of the bytes l, in the order in which they are fed
+--   bits_of l           the bits of the bytes l, in the order in which they are fed
 --   check l             the check of l
---   half_bytes           the table: entry n is what four shifts make of n
+--   half_bytes          the table: entry n is what four shifts make of n
 --   xored x y           exclusive-or, entry by entry
 --   low c, high c       the two bytes of a check
 --   sealed l            l with its check behind it, low byte first

@@ -59,7 +59,7 @@ module _ (p : Word) where
   four-words x k d h = word-letter Z x k d h
 
   pub of_64_bits : (i : ℕ) → at Z i < 2 ^ 64
-  of_64_bits = Compact.compact_words-small p
+  of_64_bits = Compact.compact_words_small p
 
   -- ── 'and all targets in one row;' ────────────────────────────────────────
 
@@ -110,11 +110,11 @@ module _ (word text : Word) (Y T : List ℕ) (F : List Place) where
   k = length word
 
   -- as `search`, whatever table entries that is lent
-  pub same-finds-and-letters : (U : List ℕ) → 1 ≤ k → k ≤ longest_word → length text ≤ longest_text → sets_room k ≤ length Y
+  pub same_finds_and_letters : (U : List ℕ) → 1 ≤ k → k ≤ longest_word → length text ≤ longest_text → sets_room k ≤ length Y
       → compact_room k ≤ length T → room k ≤ length U
       → ((compact_search_says word text Y T F).answer ≡ (search_says word text U F).answer)
       × ((compact_search_says word text Y T F).finds ≡ (search_says word text U F).finds)
-  same-finds-and-letters U h l s y t u =
+  same_finds_and_letters U h l s y t u =
       let here = Search.given word text Y T F (CompactSearchCase.accepted h l s y t) in
       let there = BaseSearch.says-done word text U F h l s u in
       (ap (λ o. o.answer) here ∙ sym (ap (λ o. o.answer) there), ap (λ o. o.finds) here ∙ sym (ap (λ o. o.finds) there))
@@ -155,7 +155,7 @@ pub room_needed : (p : Word) → (length (compact_sets p) ≡ 4 * (length p + 1)
 room_needed p = (Compact.compact_sets-size p, Compact.compact_table-size p)
 
 pub of_16_bits : (p : Word) → length p ≤ longest_word → ((i : ℕ) → letter p i < 256) → (i : ℕ) → at (compact_table p) i < 65536
-of_16_bits p h bytes = Compact.compact_entries-small p (omega (arith, h, words_fit)) bytes
+of_16_bits p h bytes = Compact.compact_entries_small p (omega (arith, h, words_fit)) bytes
 
 -- any two outcomes that a promise allows are equal
 pub build_fixed : (word : Word) (Y T : List ℕ) (r s : SizeAnswer) (A B C D : List ℕ)

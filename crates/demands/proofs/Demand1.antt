@@ -66,8 +66,8 @@ module _ (word text : Word) (file R T O : List ℕ) (F : List Place) where
   pub search-numbers : refuses_only (1 ∷ 2 ∷ 4 ∷ 3 ∷ []) (search_says word text T F).answer ≡ true
   search-numbers = WordNumbers.search-numbers word text T F
 
-  pub load-numbers : refuses_with (3 ∷ []) (5 ∷ 6 ∷ 7 ∷ 8 ∷ 9 ∷ 10 ∷ 11 ∷ 13 ∷ []) (load_says file R T).answer ≡ true
-  load-numbers = FileNumbers.load-numbers file R T
+  pub load_numbers : refuses_with (3 ∷ []) (5 ∷ 6 ∷ 7 ∷ 8 ∷ 9 ∷ 10 ∷ 11 ∷ 13 ∷ []) (load_says file R T).answer ≡ true
+  load_numbers = FileNumbers.load_numbers file R T
 
   pub search-file-numbers : refuses_with (4 ∷ 3 ∷ []) (5 ∷ 6 ∷ 7 ∷ 8 ∷ 9 ∷ 10 ∷ 11 ∷ 13 ∷ []) (search_file_says file text R T F).answer ≡ true
   search-file-numbers = FileNumbers.search-file-numbers file text R T F
@@ -86,16 +86,16 @@ module _ (word text : Word) (file R T O : List ℕ) (F : List Place) where
   pub search-exactly : (o : Search.Outcome) → (search_says word text T F ≡ o) ↔ SearchCase word text T F o
   search-exactly = SearchSays.search_is word text T F
 
-  pub load-exactly : (o : Load.Outcome) → (load_says file R T ≡ o) ↔ LoadCase file R T o
-  load-exactly = LoadSays.load_is file R T
+  pub load_exactly : (o : Load.Outcome) → (load_says file R T ≡ o) ↔ LoadCase file R T o
+  load_exactly = LoadSays.load_is file R T
 
   pub search-file-exactly : (o : SearchFile.Outcome) → (search_file_says file text R T F ≡ o) ↔ SearchFileCase file text R T F o
-  search-file-exactly = SearchFileSays.search-file_is file text R T F
+  search-file-exactly = SearchFileSays.search_file_is file text R T F
 
   -- each number of loading by itself, with its place where it has one: the cases that have it, and only they, give it
-  pub load-number-exactly : (a : Answer ℕ) → ((load_says file R T).answer ≡ a)
+  pub load_number_exactly : (a : Answer ℕ) → ((load_says file R T).answer ≡ a)
       ↔ ((R' : List ℕ) × (T' : List ℕ) × LoadCase file R T (Load.outcome a R' T'))
-  load-number-exactly = LoadSays.load-answers file R T
+  load_number_exactly = LoadSays.load_answers file R T
 
   -- ── 'What a refusal leaves in every lent buffer is fixed,' ───────────────
 
@@ -118,10 +118,10 @@ module _ (word text : Word) (file R T O : List ℕ) (F : List Place) where
   pub load_refusal : (Succeeds (load_says file R T).answer → ⊥) → AfterRefusal R T (load_says file R T).word (load_says file R T).tables
   load_refusal = LoadSays.refusal_leaves file R T
 
-  pub search-file_refusal : (Succeeds (search_file_says file text R T F).answer → ⊥)
+  pub search_file_refusal : (Succeeds (search_file_says file text R T F).answer → ⊥)
       → ((search_file_says file text R T F).finds ≡ F)
       × AfterRefusal R T (search_file_says file text R T F).word (search_file_says file text R T F).tables
-  search-file_refusal = SearchFileSays.refusal_leaves file text R T F
+  search_file_refusal = SearchFileSays.refusal_leaves file text R T F
 
   -- and any two outcomes that an entry's promise allows are equal: the code's answers r and r', and all that is left
   pub build_fixed : (r r' : SizeAnswer) (T₁ T₂ : List ℕ) → built r T₁ ≡ build_says word T → built r' T₂ ≡ build_says word T
@@ -140,10 +140,10 @@ module _ (word text : Word) (file R T O : List ℕ) (F : List Place) where
       → (r ≡ r') × (R₁ ≡ R₂) × (T₁ ≡ T₂)
   load_fixed = LoadSays.load_one file R T
 
-  pub search-file_fixed : (r r' : TallyAnswer) (R₁ R₂ T₁ T₂ : List ℕ) (F₁ F₂ : List Place)
+  pub search_file_fixed : (r r' : TallyAnswer) (R₁ R₂ T₁ T₂ : List ℕ) (F₁ F₂ : List Place)
       → file_searched r R₁ T₁ F₁ ≡ search_file_says file text R T F → file_searched r' R₂ T₂ F₂ ≡ search_file_says file text R T F
       → (r ≡ r') × (R₁ ≡ R₂) × (T₁ ≡ T₂) × (F₁ ≡ F₂)
-  search-file_fixed = SearchFileSays.search-file-one file text R T F
+  search_file_fixed = SearchFileSays.search-file-one file text R T F
 
   -- ── 'and no declared count is acted on before it has been checked.' ──────
 
@@ -152,36 +152,36 @@ module _ (word text : Word) (file R T O : List ℕ) (F : List Place) where
   -- load_room_unchecked of crates/mark_files show.
 
   -- Shut out: a loader that clears before 8. A declared length that no saved word has is refused with every lent buffer as it was
-  pub bad-length_touches_nothing : {i m j : ℕ} → EditionRead file i → Reads file i m j → BadLength m
+  pub bad_length_touches_nothing : {i m j : ℕ} → EditionRead file i → Reads file i m j → BadLength m
       → load_says file R T ≡ Load.outcome (refused_at 8 i) R T
-  bad-length_touches_nothing = LoadTheorems.bad-length-one R T file
+  bad_length_touches_nothing = LoadTheorems.bad-length-one R T file
 
   -- two files that declare such a length
   module _ (file' : List ℕ) {i m j i' m' j' : ℕ}
       (edition-read : EditionRead file i) (length_read : Reads file i m j) (bad : BadLength m)
       (edition-read' : EditionRead file' i') (length-read' : Reads file' i' m' j') (bad' : BadLength m') where
     pub bad-length-loads : load_says file R T ≡ load_says file' R T
-    bad-length-loads = LoadTheorems.any_two-bad-lengths R T file file' edition-read length_read bad edition-read' length-read' bad'
+    bad-length-loads = LoadTheorems.any_two_bad_lengths R T file file' edition-read length_read bad edition-read' length-read' bad'
 
-    pub bad-length_searches : search_file_says file text R T F ≡ search_file_says file' text R T F
-    bad-length_searches = SearchFileSays.same-load-same-search file text R T F file' bad-length-loads
+    pub bad_length_searches : search_file_says file text R T F ≡ search_file_says file' text R T F
+    bad_length_searches = SearchFileSays.same_load_same_search file text R T F file' bad-length-loads
 
   -- two files that have m letters, and declare more than m - 1 arrows
   module _ (file' : List ℕ) {m i n j i' n' j' : ℕ}
       (there : FrontEither file 0 (letters m i)) (count_read : Reads file (i + m) n j) (bad : m - 1 < n)
       (there' : FrontEither file' 0 (letters m i')) (count-read' : Reads file' (i' + m) n' j') (bad' : m - 1 < n') where
     pub bad-count-loads : load_says file R T ≡ load_says file' R T
-    bad-count-loads = LoadTheorems.any_two-bad-counts R T file file' there count_read bad there' count-read' bad'
+    bad-count-loads = LoadTheorems.any_two_bad_counts R T file file' there count_read bad there' count-read' bad'
 
-    pub bad-count_searches : search_file_says file text R T F ≡ search_file_says file' text R T F
-    bad-count_searches = SearchFileSays.same-load-same-search file text R T F file' bad-count-loads
+    pub bad_count_searches : search_file_says file text R T F ≡ search_file_says file' text R T F
+    bad_count_searches = SearchFileSays.same_load_same_search file text R T F file' bad-count-loads
 
   -- ── Shut out: refusals in another order ──────────────────────────────────
 
   -- letters that are missing are refused with 5, however short the rooms are: 3 comes behind them
-  pub letters-before_rooms : {i m j : ℕ} → EditionRead file i → Reads file i m j → least_saved ≤ m → m ≤ longest_word
+  pub letters_before_rooms : {i m j : ℕ} → EditionRead file i → Reads file i m j → least_saved ≤ m → m ≤ longest_word
       → length file < j + m → load_says file R T ≡ Load.outcome (refused_at 5 (length file)) R T
-  letters-before_rooms = LoadTheorems.letters-missing-one R T file
+  letters_before_rooms = LoadTheorems.letters-missing-one R T file
 
   -- ── Shut out: an entry that refuses everything ───────────────────────────
 
@@ -196,9 +196,9 @@ module _ (word text : Word) (file R T O : List ℕ) (F : List Place) where
     pub save_answers : least_saved ≤ length word → length (spell word) ≤ length O → (save_says word T O).answer ≡ done (length (spell word))
     save_answers least out = ap (λ o. o.answer) (SaveSays.says-done plain word T O least most enough out)
 
-    pub load-answers : (e : Edition) → least_saved ≤ length word → length word ≤ length R
+    pub load_answers : (e : Edition) → least_saved ≤ length word → length word ≤ length R
         → (load_says (spell_in e word) R T).answer ≡ done (length word)
-    load-answers e least fits = ap (λ o. o.answer) (LoadTheorems.file-loads R T e word least most fits enough)
+    load_answers e least fits = ap (λ o. o.answer) (LoadTheorems.file-loads R T e word least most fits enough)
 
     pub search-file-answers : (e : Edition) → least_saved ≤ length word → length text ≤ longest_text → length word ≤ length R
         → (search_file_says (spell_in e word) text R T F).answer ≡ done (found (mirror word) text)

@@ -51,8 +51,8 @@ module _ (word text : Word) (T : List ℕ) (least : 1 ≤ length word) (most : l
   rules_agree x c = sym (Theorems.same-arrows word x c)
 
   -- and an arrow is in the one rule's list exactly if it is in the other's
-  pub rules-lists_agree : (a : Arrow) → Memᴰ a (suffix_rule word) ↔ Memᴰ a (letter_rule word).arrows
-  rules-lists_agree = Theorems.same-arrow-lists word
+  pub rules_lists_agree : (a : Arrow) → Memᴰ a (suffix_rule word) ↔ Memᴰ a (letter_rule word).arrows
+  rules_lists_agree = Theorems.same-arrow-lists word
 
   -- the arrows that are read from what build leaves are these
   pub built-arrows : (x : State) (c : Letter) → read_arrow m left x c ≡ oracle word x c
@@ -101,8 +101,8 @@ module _ (word text : Word) (T : List ℕ) (least : 1 ≤ length word) (most : l
     pub letters_of_the_steps : (f : Tally) → (search_says word text T F).answer ≡ done f → f.letters ≡ (backward word text).letters
     letters_of_the_steps f e = ap (λ f. f.letters) (found_is f e)
 
-    pub letters_at-most : m ≤ length text → (backward word text).letters ≤ m * (length text - m + 1)
-    letters_at-most = SearchSays.letters-most word text T F least most short enough
+    pub letters_at_most : m ≤ length text → (backward word text).letters ≤ m * (length text - m + 1)
+    letters_at_most = SearchSays.letters_most word text T F least most short enough
 
     -- all this of a search with a word's file of either edition too: it is the search for the word's mirror
     pub file-search : (e : Edition) (R : List ℕ) → least_saved ≤ m → m ≤ length R → search_file_says (spell_in e word) text R T F
@@ -137,6 +137,6 @@ pub freedom : (p : Word) (E : List Arrow) (S : State → State) → ExtraSet p E
 freedom = Freedom.freedom
 
 -- so two tables that hold one word, ab, may be read with different arrows and different supplies
-pub one-word-two-tables : (L : List ℕ) × (L' : List ℕ) × (read_word 2 L ≡ 97 ∷ 98 ∷ []) × (read_word 2 L' ≡ 97 ∷ 98 ∷ [])
+pub one_word_two_tables : (L : List ℕ) × (L' : List ℕ) × (read_word 2 L ≡ 97 ∷ 98 ∷ []) × (read_word 2 L' ≡ 97 ∷ 98 ∷ [])
     × (read_arrow 2 L 0 98 ≡ some 2) × (read_arrow 2 L' 0 98 ≡ none) × (read_supply 2 L 2 ≡ some 0) × (read_supply 2 L' 2 ≡ some 1)
-one-word-two-tables = TwoTables.two-tables
+one_word_two_tables = TwoTables.two_tables

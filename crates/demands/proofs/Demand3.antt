@@ -19,10 +19,10 @@ use Rattle.oracle.proofs.Theorems
 use Rattle.table.specs.Table.{room, table_of, read_arrow}
 use Rattle.number.specs.Number.{Bytes}
 use Rattle.finds.specs.declared.Tally.{Tally}
-use Rattle.saved.proofs.Theorems.{size-least}
+use Rattle.saved.proofs.Theorems.{size_least}
 use Rattle.editions.specs.Editions.{Edition, plain, checked, spell_in, SavedIn, most_bytes}
 use Rattle.editions.specs.Either.{edition_at}
-use Rattle.editions.proofs.Theorems.{plain-saved, edition-told, word-told, most_bytes_lem, least-bytes}
+use Rattle.editions.proofs.Theorems.{plain-saved, edition-told, word-told, most_bytes_lem, least_bytes}
 use Rattle.answers.specs.Answers.{done, refused_at}
 use Rattle.answers.proofs.Answers.{done_not_refused}
 use Rattle.mark_files.specs.Save
@@ -58,8 +58,8 @@ file-sizes e s f =
     (least e f, rw f.file (most_bytes_lem e f.word some f.savable.most))
   where
     least : (e : Edition) → SavedIn e s → least_saved + 3 ≤ length s
-    least plain g = size-least s ((plain-saved s).0 g)
-    least checked g = omega (arith, least-bytes s g)
+    least plain g = size_least s ((plain-saved s).0 g)
+    least checked g = omega (arith, least_bytes s g)
 
 -- for every word within the limits, in either edition, and rooms R and T that are large enough for it
 module _ (e : Edition) (word : Word) (R T : List ℕ) (least : least_saved ≤ length word) (most : length word ≤ longest_word)
@@ -72,7 +72,7 @@ module _ (e : Edition) (word : Word) (R T : List ℕ) (least : least_saved ≤ l
   cut-file-refused = LoadTheorems.cut-refused R T e word least most fits enough
 
   pub longer-file-refused : (b : ℕ) (l : List ℕ) → (load_says (spell_in e word ++ b ∷ l) R T).answer ≡ refused_at 11 (length (spell_in e word))
-  longer-file-refused = LoadTheorems.longer-refused_11 R T e word least most fits enough
+  longer-file-refused = LoadTheorems.longer_refused_11 R T e word least most fits enough
 
   -- ── 'that word and oracle are handed over,' ──────────────────────────────
 
@@ -108,12 +108,12 @@ saves_files_only e word T O bytes {n} = by ((SaveSays.save_is e word T O _).0 re
 -- ── 'and no two words share one.' ──────────────────────────────────────────
 
 -- whichever editions they are saved in; and no file is of both
-pub no_two-words_share : (e e' : Edition) (w w' : Word) → least_saved ≤ length w → length w ≤ longest_word
+pub no_two_words_share : (e e' : Edition) (w w' : Word) → least_saved ≤ length w → length w ≤ longest_word
     → least_saved ≤ length w' → length w' ≤ longest_word → spell_in e w ≡ spell_in e' w' → w ≡ w'
-no_two-words_share = word-told
+no_two_words_share = word-told
 
-pub no_file_of-both : (e e' : Edition) (w w' : Word) → spell_in e w ≡ spell_in e' w' → e ≡ e'
-no_file_of-both = edition-told
+pub no_file_of_both : (e e' : Edition) (w w' : Word) → spell_in e w ≡ spell_in e' w' → e ≡ e'
+no_file_of_both = edition-told
 
 -- ── 'This set of files is defined without the loader.' ─────────────────────
 
@@ -144,11 +144,11 @@ module _ (s R T : List ℕ) (bytes : Bytes s) {m : ℕ} (accepted : (load_says s
   pub word-walked : walk arrows 0 handed ≡ some m
   word-walked = rw H.arrows (Theorems.word-walked handed ∙ ap some H.size)
 
-  pub only-walk : (v : Word) (y : State) → walk arrows 0 v ≡ some y → length v ≡ m → v ≡ handed
-  only-walk v y e n = Theorems.only-walk handed v y (rw H.arrows at e) (n ∙ sym H.size)
+  pub only_walk : (v : Word) (y : State) → walk arrows 0 v ≡ some y → length v ≡ m → v ≡ handed
+  only_walk v y e n = Theorems.only_walk handed v y (rw H.arrows at e) (n ∙ sym H.size)
 
-  pub no_longer-walk : (v : Word) (y : State) → walk arrows 0 v ≡ some y → length v ≤ m
-  no_longer-walk v y e = rw H.size at (Theorems.no_longer-walk handed v y (rw H.arrows at e))
+  pub no_longer_walk : (v : Word) (y : State) → walk arrows 0 v ≡ some y → length v ≤ m
+  no_longer_walk v y e = rw H.size at (Theorems.no_longer_walk handed v y (rw H.arrows at e))
 
   -- ── 'and there are m to 2m-1 arrows.' ────────────────────────────────────
 
@@ -167,8 +167,8 @@ module _ (s R T : List ℕ) (bytes : Bytes s) {m : ℕ} (accepted : (load_says s
   -- ── Shut out: a loader that accepts rightly and hands over another word ──
 
   -- the file is the one of the word that is left in the room
-  pub hands_over-its-word : s ≡ spell_in (edition_at s 0) handed
-  hands_over-its-word = H.file
+  pub hands_over_its_word : s ≡ spell_in (edition_at s 0) handed
+  hands_over_its_word = H.file
 
 -- for two different words within the limits, saved in any two editions
 module _ (e e' : Edition) (w w' : Word) (least : least_saved ≤ length w) (most : length w ≤ longest_word)

@@ -40,7 +40,7 @@ use Rattle.mark_files.proofs.Numbers as FileNumbers
 use Rattle.mark_files.proofs.SaveSays
 use Rattle.mark_files.proofs.LoadSays
 use Rattle.mark_files.proofs.LoadTheorems
-use Rattle.mark_files.proofs.SamePlace.{two-first}
+use Rattle.mark_files.proofs.SamePlace.{two_first}
 use Rattle.mark_files.proofs.SearchFileSays
 use Rattle.faults.specs.Faults.{ArrowsAt, FaultAt, number_cut, letters_cut, byte_refused, other_edition, bad_length, bad_count, other_arrow}
 use Rattle.faults.specs.Faults.{no_arrow_left, arrows_missing, bytes_left}
@@ -156,8 +156,8 @@ module _ (file R T : List ℕ) where
 
 -- ── 'The greatest file grows by 2.' ────────────────────────────────────────
 
-pub two-more : (p : Word) → length (spell_in checked p) ≡ length (spell_in plain p) + 2
-two-more = Editions.checked-length
+pub two_more : (p : Word) → length (spell_in checked p) ≡ length (spell_in plain p) + 2
+two_more = Editions.checked-length
 
 pub greatest_grows : most_bytes checked ≡ most_bytes plain + 2
 greatest_grows = refl
@@ -167,21 +167,21 @@ never_more s f = omega (arith, (Demand3.file-sizes checked s f).1, greatest_file
 
 -- and the least has 7
 pub never_fewer : (s : List ℕ) → SavedIn checked s → 7 ≤ length s
-never_fewer s f = omega (arith, Editions.least-bytes s f, least_saved_lem)
+never_fewer s f = omega (arith, Editions.least_bytes s f, least_saved_lem)
 
 pub seven_reached : (s : List ℕ) × SavedIn checked s × (length s ≡ 7)
-seven_reached = let f = Editions.least-checked in (f.0, f.1, omega (arith, f.2, least_saved_lem))
+seven_reached = let f = Editions.least_checked in (f.0, f.1, omega (arith, f.2, least_saved_lem))
 
 -- ── 'Saving has one entry for each edition.' ───────────────────────────────
 
 -- `save` writes edition 1, as it did (`save_says`, of which demands 1 and 3 speak); `save_checked` of crates/checked_files writes edition 2,
 -- and all that demand 1 says of an entry holds of it
 module _ (word : Word) (T O : List ℕ) where
-  pub save_checked-numbers : refuses_only (1 ∷ 2 ∷ 17 ∷ 3 ∷ 12 ∷ []) (save_checked_says word T O).answer ≡ true
-  save_checked-numbers = FileNumbers.save_numbers checked word T O
+  pub save_checked_numbers : refuses_only (1 ∷ 2 ∷ 17 ∷ 3 ∷ 12 ∷ []) (save_checked_says word T O).answer ≡ true
+  save_checked_numbers = FileNumbers.save_numbers checked word T O
 
-  pub save_checked-exactly : (o : Save.Outcome) → (save_checked_says word T O ≡ o) ↔ SaveCase checked word T O o
-  save_checked-exactly = SaveSays.save_is checked word T O
+  pub save_checked_exactly : (o : Save.Outcome) → (save_checked_says word T O ≡ o) ↔ SaveCase checked word T O o
+  save_checked_exactly = SaveSays.save_is checked word T O
 
   pub save_checked_refusal : {n : ℕ} → (save_checked_says word T O).answer ≡ refused n
       → ((save_checked_says word T O).output ≡ O)
@@ -193,9 +193,9 @@ module _ (word : Word) (T O : List ℕ) where
       → saved_as r' T₂ O₂ ≡ save_checked_says word T O → (r ≡ r') × (T₁ ≡ T₂) × (O₁ ≡ O₂)
   save_checked_fixed = SaveSays.save_one checked word T O
 
-  pub save_checked-answers : least_saved ≤ length word → length word ≤ longest_word → room (length word) ≤ length T
+  pub save_checked_answers : least_saved ≤ length word → length word ≤ longest_word → room (length word) ≤ length T
       → length (spell_in checked word) ≤ length O → (save_checked_says word T O).answer ≡ done (length (spell_in checked word))
-  save_checked-answers least most enough out = ap (λ o. o.answer) (SaveSays.says-done checked word T O least most enough out)
+  save_checked_answers least most enough out = ap (λ o. o.answer) (SaveSays.says-done checked word T O least most enough out)
 
   pub save_checked_never_short : most_bytes checked ≤ length O → (save_checked_says word T O).answer ≡ refused 12 → ⊥
   save_checked_never_short = SaveSays.enough-output checked word T O
@@ -207,7 +207,7 @@ module _ (file : List ℕ) (text : Word) (R T : List ℕ) (F : List Place) where
   -- whatever a file says but 2, the whole outcome is the one that it had
   module _ (other : (j : Place) → Reads file 0 2 j → ⊥) where
     not_two : at file 0 ≡ 2 → ⊥
-    not_two e = other 1 (Editions.two-read file 0 e)
+    not_two e = other 1 (Editions.two_read file 0 e)
 
     pub load_kept : load_says file R T ≡ plain_load_says file R T
     load_kept = LoadTheorems.load_kept R T file not_two
@@ -219,13 +219,13 @@ module _ (file : List ℕ) (text : Word) (R T : List ℕ) (F : List Place) where
   pub plain-file-kept : (w : Word) → file ≡ spell_in plain w → load_says file R T ≡ plain_load_says file R T
   plain-file-kept w e = LoadTheorems.load_kept R T file (λ two. omega (arith, two, first_byte_lem file 0 (e ∙ spell_is w)))
 
-  pub reader_from-before : {j : Place} → Reads file 0 2 j → plain_load_says file R T ≡ Load.outcome (refused_at 7 0) R T
-  reader_from-before two = LoadTheorems.two-refused R T file (two-first file two)
+  pub reader_from_before : {j : Place} → Reads file 0 2 j → plain_load_says file R T ≡ Load.outcome (refused_at 7 0) R T
+  reader_from_before two = LoadTheorems.two_refused R T file (two_first file two)
 
-  pub searcher-from-before : {j : Place} → Reads file 0 2 j → length text ≤ longest_text
+  pub searcher_from_before : {j : Place} → Reads file 0 2 j → length text ≤ longest_text
       → plain_search_file_says file text R T F ≡ SearchFile.outcome (refused_at 7 0) R T F
   unfolding plain_search_file_says
-  searcher-from-before two short = rw (le-ltb longest_text (length text) short, reader_from-before two)
+  searcher_from_before two short = rw (le-ltb longest_text (length text) short, reader_from_before two)
 
 -- ── 'Demand 3 holds per edition: one file for a word in each,' ─────────────
 
@@ -250,8 +250,8 @@ accepted_in e s R T bytes = (there, back)
         (r.0, r.1, Editions.edition_of e a.0)
 
 -- a file has one edition and one word
-pub one-edition-and-word : {e e' : Edition} {s : List ℕ} (f : SavedIn e s) (f' : SavedIn e' s) → (e ≡ e') × (f.word ≡ f'.word)
-one-edition-and-word = Editions.saved_once
+pub one_edition_and_word : {e e' : Edition} {s : List ℕ} (f : SavedIn e s) (f' : SavedIn e' s) → (e ≡ e') × (f.word ≡ f'.word)
+one_edition_and_word = Editions.saved_once
 
 -- ── 'and 7 is now for editions other than 1 and 2.' ────────────────────────
 
@@ -276,7 +276,7 @@ seven_exactly file R T p = (λ e. there (load_fault file R T e).1 refl, back)
         → (k ≡ 0) × (n : ℕ) × (j : Place) × Reads file 0 n j × (n ≡ 1 → ⊥) × (n ≡ 2 → ⊥)
     there (in_edition_1 {q = q} d F) e =
         let b = edition_at_fault F e in
-        (b.0, b.1, q, b.2, λ one. b.3 (one ∙ sym edition-number), λ two. d (two-first file (rw two at b.2)))
+        (b.0, b.1, q, b.2, λ one. b.3 (one ∙ sym edition-number), λ two. d (two_first file (rw two at b.2)))
     there (up_to_arrows two F last) e =
         let b = edition_at_fault F e in
         let same = sym b.2 ∙ one-read file 0 two in
@@ -287,7 +287,7 @@ seven_exactly file R T p = (λ e. there (load_fault file R T e).1 refl, back)
 
     back : (p ≡ 0) × (n : ℕ) × (j : Place) × Reads file 0 n j × (n ≡ 1 → ⊥) × (n ≡ 2 → ⊥) → (load_says file R T).answer ≡ refused_at 7 p
     back a =
-        let not_two : at file 0 ≡ 2 → ⊥ = λ two. let same = sym a.3 ∙ Editions.two-read file 0 two in a.5 cc in
+        let not_two : at file 0 ≡ 2 → ⊥ = λ two. let same = sym a.3 ∙ Editions.two_read file 0 two in a.5 cc in
         let other = edition_other a.3 (λ e. a.4 (e ∙ edition-number)) in
         rw a.0 (ap (λ o. o.answer) ((LoadSays.load_is file R T _).1 (LoadCase.head_refused (rw (as_other file 0 not_two) other))))
 
@@ -316,5 +316,5 @@ module _ (s t R T : List ℕ) (bytes : Bytes s) (bytes' : Bytes t) (saved : Save
       f = (Demand3.accepted-exactly t R T bytes').0 a
 
       by : (e : Edition) → SavedIn e t → ⊥
-      by plain g = Editions.one_bit_keeps-two s t near (Editions.says_two saved) (Editions.says-one g)
+      by plain g = Editions.one_bit_keeps_two s t near (Editions.says_two saved) (Editions.says-one g)
       by checked g = differ (Editions.damage_told s t bytes bytes' saved g (Checks.wider s t near))

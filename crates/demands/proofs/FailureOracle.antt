@@ -20,7 +20,7 @@ use Rattle.failure.specs.FailureRule.{failure_of, OneFailure, here, further, ask
 use Rattle.failure.specs.FailureRule.{with_failure, with_symbol, repair, after_suffix, failure_rule, failure_walk}
 use Rattle.failure.specs.FailureSteps.{FailureReading, read_both, read_window_both, FailureSweep, no_window, failure_windows, failure_steps_with}
 use Rattle.failure.specs.FailureSteps.{failure_steps}
-use Rattle.failure.proofs.Windows.{both-fails, both-goes, windows-past, windows-one, windows-enough}
+use Rattle.failure.proofs.Windows.{both_fails, both_goes, windows-past, windows-one, windows-enough}
 use Rattle.failure.proofs.Theorems as Theorems
 use Rattle.table.specs.Table.{read_word}
 use Rattle.failure_table.specs.FailureTable.{failure_room, failure_table, read_symbol, read_failure}
@@ -125,15 +125,15 @@ module _ (p : Word) where
   in_all = length (symbols p (failure_rule p)) + length (failure_rule p).failures
 
   pub m_to_2m_1 : 1 ≤ m → (m ≤ in_all) × (in_all ≤ 2 * m - 1)
-  m_to_2m_1 h = (Theorems.arrows-least p, Theorems.arrows-most p h)
+  m_to_2m_1 h = (Theorems.arrows_least p, Theorems.arrows_most p h)
 
   -- one symbol arrow at most leaves a state on a letter
-  pub one-symbol_each : OneEach (symbols p (failure_rule p))
-  one-symbol_each = Theorems.one_symbol p
+  pub one_symbol_each : OneEach (symbols p (failure_rule p))
+  one_symbol_each = Theorems.one_symbol p
 
   -- beside the spine they lead to their own state or to a lower one
-  pub extra-symbols_fall : (a : Arrow) → Memᴰ a (failure_rule p).extra → a.to ≤ a.source
-  extra-symbols_fall = Theorems.extra-falls p
+  pub extra_symbols_fall : (a : Arrow) → Memᴰ a (failure_rule p).extra → a.to ≤ a.source
+  extra_symbols_fall = Theorems.extra-falls p
 
 -- ── 'It may have symbol cycles, so reading m letters isn't a find by itself:' ──
 
@@ -163,10 +163,10 @@ round_and_round zero = refl
 round_and_round (suc n) = walk_step cycles 98 (replicate n 98) 13 13 symbol_cycle_lem ∙ round_and_round n
 
 -- and where it is the mirrored word, a text as long as the word is read whole that is another one
-pub read-whole_no_find : ((read_window_both (ask_in cycling (failure_rule cycling)) mirrored unlike 0).failed ≡ none)
+pub read_whole_no_find : ((read_window_both (ask_in cycling (failure_rule cycling)) mirrored unlike 0).failed ≡ none)
     × (mirror mirrored ≡ cycling) × (length unlike ≡ length mirrored) × (stands mirrored unlike 0 ≡ false)
 unfolding from same stands target spine far failure_of ask path_end ask_in repair after_suffix failure_rule read_both
-read-whole_no_find = (refl, refl, refl, refl)
+read_whole_no_find = (refl, refl, refl, refl)
 
 module _ (w t : Word) where
   abbrev reading : Asking
@@ -211,9 +211,9 @@ module _ (w t : Word) where
         → failure_windows reading w t (suc k) s ≡ and_then (λ l. s ∷ l) (s + (length w - longest_border w))
     moves_after_a_find h e d = rw (e, d, after_is w h) at (windows-one reading w t k s inside)
 
-    pub moves_one-place : read.failed ≡ none → stands w t s ≡ false
+    pub moves_one_place : read.failed ≡ none → stands w t s ≡ false
         → failure_windows reading w t (suc k) s ≡ and_then (λ l. l) (s + 1)
-    moves_one-place e d = rw (e, d) at (windows-one reading w t k s inside)
+    moves_one_place e d = rw (e, d) at (windows-one reading w t k s inside)
 
     pub moves_behind : (f : Place) → read.failed ≡ some f → failure_windows reading w t (suc k) s ≡ and_then (λ l. l) (f + 1)
     moves_behind f e = rw e at (windows-one reading w t k s inside)
@@ -226,25 +226,25 @@ module _ (w t : Word) where
       ((read_both reading t s (suc k) x).letters ≡ suc r.letters)
       × ((read_both reading t s (suc k) x).failures ≡ (reading x (letter t (s + k))).taken + r.failures)
   letter-counts s k x y e =
-      let q = both-goes reading t s k x y e in
+      let q = both_goes reading t s k x y e in
       (ap (λ r. r.letters) q, ap (λ r. r.failures) q)
 
   pub failing-letter-counts : (s : Place) (k : ℕ) (x : State) → leads reading x (letter t (s + k)) ≡ none
       → ((read_both reading t s (suc k) x).letters ≡ 1) × ((read_both reading t s (suc k) x).failures ≡ (reading x (letter t (s + k))).taken)
   failing-letter-counts s k x e =
-      let q = both-fails reading t s k x e in
+      let q = both_fails reading t s k x e in
       (ap (λ r. r.letters) q, ap (λ r. r.failures) q)
 
   -- in all at most m (n - m + 1) letters, and none of a text shorter than the word
-  pub letters-most : length w ≤ length t → (failure_steps w t).letters ≤ length w * (length t - length w + 1)
-  letters-most = Theorems.search-letters-most w t
+  pub letters_most : length w ≤ length t → (failure_steps w t).letters ≤ length w * (length t - length w + 1)
+  letters_most = Theorems.search_letters_most w t
 
   -- and at most m failure arrows for each of them
-  pub failures-most : (failure_steps w t).failures ≤ length w * (failure_steps w t).letters
-  failures-most = Theorems.search-failures-most w t
+  pub failures_most : (failure_steps w t).failures ≤ length w * (failure_steps w t).letters
+  failures_most = Theorems.search_failures_most w t
 
-  pub short-text_unread : length t < length w → failure_steps w t ≡ no_window
-  short-text_unread = Theorems.search-short w t
+  pub short_text_unread : length t < length w → failure_steps w t ≡ no_window
+  short_text_unread = Theorems.search-short w t
 
 -- ── 'It needs 10(m+1) entries (3); 01's room rules read that size here.' ────
 
@@ -280,13 +280,13 @@ module _ (word : Word) (T : List ℕ) where
     all_read = let L = Build.done-leaves word T some-letter few enough in (L.reads_word, L.reads_symbols, L.reads_failures)
 
 -- and the rule by which they are read does not work them out of the word: any such arrows are read from some table
-pub any_arrows-read : (p : Word) (A : FailureArrows) → FailureSet p A → (L : List ℕ) × ReadAsFailure p A L
-any_arrows-read = failure_freedom
+pub any_arrows_read : (p : Word) (A : FailureArrows) → FailureSet p A → (L : List ℕ) × ReadAsFailure p A L
+any_arrows_read = failure_freedom
 
 -- searching: 1, 2, 4, 3 in this order; a refusal changes nothing
 module _ (word text : Word) (T : List ℕ) (F : List Place) where
-  pub search-exactly_when : (o : FailureOutcome) → (failure_search_says word text T F ≡ o) ↔ FailureSearchCase word text T F o
-  search-exactly_when = Search.failure_search_is word text T F
+  pub search_exactly_when : (o : FailureOutcome) → (failure_search_says word text T F ≡ o) ↔ FailureSearchCase word text T F o
+  search_exactly_when = Search.failure_search_is word text T F
 
   pub search_refusal_leaves : {n : ℕ} → (failure_search_says word text T F).answer ≡ refused n
       → ((failure_search_says word text T F).tables ≡ T) × ((failure_search_says word text T F).finds ≡ F)
@@ -299,4 +299,4 @@ module _ (word text : Word) (T : List ℕ) (F : List Place) where
         letters = (failure_steps word text).letters;
         failures = (failure_steps word text).failures;
       })
-  search-answers h l k s = ap (λ (o : FailureOutcome). o.answer) ((search-exactly_when _).1 (FailureSearchCase.accepted h l k s))
+  search-answers h l k s = ap (λ (o : FailureOutcome). o.answer) ((search_exactly_when _).1 (FailureSearchCase.accepted h l k s))

@@ -22,7 +22,7 @@ use Rattle.turbo_steps.specs.Turbo.{turbo_windows, turbo}
 use Rattle.turbo_steps.proofs.Between.{kept-short, kept-past, kept_fresh, kept-ends, kept_is_longest}
 use Rattle.turbo_steps.proofs.Forward.{forward-counts, forward_why, forward_while}
 use Rattle.turbo_steps.proofs.Windows as Windows
-use Rattle.turbo_steps.proofs.Theorems.{turbo-lists-occurrences, turbo_rises, turbo-letters-most, turbo-after_find, turbo-short}
+use Rattle.turbo_steps.proofs.Theorems.{turbo-lists-occurrences, turbo_rises, turbo_letters_most, turbo-after_find, turbo-short}
 use Rattle.marks.specs.Search.{Outcome, search_says}
 use Rattle.linear.specs.Turbo.{turbo_says}
 use Rattle.linear.specs.Cases.{TurboCase}
@@ -129,8 +129,8 @@ module _ (w t : Word) (some-letter : 1 ≤ length w) where
       + ((read_forth δ w t low c).letters + (turbo_windows δ w t k (next_low δ w t low c) (read_forth δ w t low c).place).letters)
   window_letters δ k low c h = ap (λ (r : Sweep). r.letters) (Windows.windows-one δ w t low c k h)
 
-  pub at-most_2n : (turbo w t).letters ≤ 2 * n
-  at-most_2n = turbo-letters-most w t some-letter
+  pub at_most_2n : (turbo w t).letters ≤ 2 * n
+  at_most_2n = turbo_letters_most w t some-letter
 
 -- ── The entry ──────────────────────────────────────────────────────────────
 
@@ -156,5 +156,5 @@ module _ (w t : Word) (T : List ℕ) (F : List Place) where
   answers h l k s = ap (λ (o : Outcome). o.answer) ((turbo_is w t T F _).1 (TurboCase.accepted h l k s))
 
 -- a text shorter than the word is not read at all
-pub short-text_unread : (w t : Word) → length t < length w → turbo w t ≡ nothing
-short-text_unread = turbo-short
+pub short_text_unread : (w t : Word) → length t < length w → turbo w t ≡ nothing
+short_text_unread = turbo-short

@@ -21,7 +21,7 @@ use Rattle.editions.proofs.Theorems.{plain-saved}
 use Rattle.editions.specs.Either.{as_plain}
 use Rattle.editions.specs.EitherCases.{EditionRead}
 use Rattle.editions.proofs.AsPlain.{plain-number}
-use Rattle.mark_files.proofs.SamePlace.{edition-one_byte, edition-plain, plain-edition}
+use Rattle.mark_files.proofs.SamePlace.{edition_one_byte, edition-plain, plain-edition}
 use Rattle.answers.specs.Answers.{refused, refused_at, long_word}
 use Rattle.marks.specs.Build
 use Rattle.marks.specs.Build.{build_within, build_says}
@@ -95,11 +95,11 @@ module _ (low : ℕ) (rises : low ≤ longest_word) where
             → (m ≤ low) ⊎ (longest_word < m)
         agree_too i m j first second =
             let one = plain-edition file first in
-            agree i m j one (sym (plain-number file 0 i (omega (arith, edition-one_byte file one))) ∙ second)
+            agree i m j one (sym (plain-number file 0 i (omega (arith, edition_one_byte file one))) ∙ second)
 
-    pub search-file_stays : (text : Word) (F : List Place) → search_file_within low file text R T F ≡ search_file_says file text R T F
+    pub search_file_stays : (text : Word) (F : List Place) → search_file_within low file text R T F ≡ search_file_says file text R T F
     unfolding search_file_says
-    search-file_stays text F = rw load_stays
+    search_file_stays text F = rw load_stays
 
 -- and it is indeed the outcome under that limit: what is longer was refused with 2, or 8, and nothing was changed
 module _ (low : ℕ) where
@@ -124,7 +124,7 @@ module _ (low : ℕ) where
     pub load_refused_lem : load_within low file R T ≡ Load.outcome (refused_at 8 i) R T
     unfolding load_within
     load_refused_lem =
-        let after : 0 < i = omega (arith, edition-one_byte file first) in
+        let after : 0 < i = omega (arith, edition_one_byte file first) in
         rw (front-refused low least (as_plain file 0) 0 (edition-plain file first) (plain-number file 0 i after ∙ second) longer)
 
     pub search-file-refused : (text : Word) (F : List Place) → length text ≤ longest_text

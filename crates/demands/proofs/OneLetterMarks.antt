@@ -14,13 +14,13 @@ use Rattle.number.specs.Number.{Bytes, spell_number}
 use Rattle.number.proofs.Theorems.{spelling-single}
 use Rattle.saved.specs.File.{edition, own_steps, spell_steps, body, spell, Saved}
 use Rattle.saved.proofs.Spelled.{edition-number}
-use Rattle.saved.proofs.Theorems.{size-least, least_reached}
+use Rattle.saved.proofs.Theorems.{size_least, least_reached}
 use Rattle.loaded.specs.Cases.{Reads, BadLength}
 use Rattle.loaded.proofs.Fields.{reads-spelled}
 use Rattle.editions.specs.Editions.{Edition, plain}
 use Rattle.editions.specs.EitherCases.{EditionRead}
 use Rattle.editions.proofs.AsPlain.{plain-number}
-use Rattle.mark_files.proofs.SamePlace.{first-edition, edition-one_byte, plain-edition}
+use Rattle.mark_files.proofs.SamePlace.{first-edition, edition_one_byte, plain-edition}
 use Rattle.answers.specs.Answers.{done, refused, refused_at, empty_word, long_word}
 use Rattle.answers.proofs.Answers.{done_not_refused, done_not_placed}
 use Rattle.marks.specs.Build.{build_says}
@@ -52,12 +52,12 @@ use Rattle.demands.proofs.LongerMarks
 
 -- m letters are declared, in the field that starts at i; nothing is changed, and a search with the file says the same
 module _ (file R T : List ℕ) {i m j : ℕ} (edition-read : EditionRead file i) (length_read : Reads file i m j) (below : m < 2) where
-  pub load-refuses : load_says file R T ≡ Load.outcome (refused_at 8 i) R T
-  load-refuses = bad-length-one R T file edition-read length_read (inl (omega (arith, least_saved_lem, below)))
+  pub load_refuses : load_says file R T ≡ Load.outcome (refused_at 8 i) R T
+  load_refuses = bad-length-one R T file edition-read length_read (inl (omega (arith, least_saved_lem, below)))
 
   pub search-file-refuses : (text : Word) (F : List Place) → length text ≤ longest_text
       → search_file_says file text R T F ≡ SearchFile.outcome (refused_at 8 i) R T F
-  search-file-refuses text F short = says-after file text R T F short load-refuses
+  search-file-refuses text F short = says-after file text R T F short load_refuses
 
 -- and for no other length up to the limit: a length of 2 is not refused with it
 module _ (file R T : List ℕ) where
@@ -82,7 +82,7 @@ module _ (file R T : List ℕ) where
   length-refused (up_to_arrows {p = p} two F last) e =
       let b = length_at_fault F e in
       let read = plain-edition file b.1 in
-      (b.0, read, sym (plain-number file 0 p (omega (arith, edition-one_byte file read))) ∙ b.2, b.3)
+      (b.0, read, sym (plain-number file 0 p (omega (arith, edition_one_byte file read))) ∙ b.2, b.3)
   length-refused (check_cut A h) e = absurd (omega arith)
   length-refused (check_differs A h d) e = absurd (omega arith)
   length-refused (bytes_behind A q h) e = absurd (omega arith)
@@ -109,7 +109,7 @@ module _ (word : Word) (one : length word ≡ 1) (R T : List ℕ) where
       let second = reads-spelled (spell word) first.next (length word) rest [] (omega (arith, one)) first.rest in
       let short = ap {B = ℕ} length (spelling-single edition (omega (arith, edition-number))) in
       let place : first.next ≡ 1 = omega (arith, first.size, short) in
-      rw place at (load-refuses (spell word) R T (first-edition (spell word) first.read) second.read (omega (arith, one)))
+      rw place at (load_refuses (spell word) R T (first-edition (spell word) first.read) second.read (omega (arith, one)))
 
 -- ── 'Saving refuses such a word with a new 17, between 2 and 3.' ───────────
 
@@ -184,7 +184,7 @@ no_file word one f =
 -- ── 'the least file is 5 bytes,' ───────────────────────────────────────────
 
 pub never_fewer : (s : List ℕ) → Saved s → 5 ≤ length s
-never_fewer s f = omega (arith, size-least s f, least_saved_lem)
+never_fewer s f = omega (arith, size_least s f, least_saved_lem)
 
 pub five_reached : (s : List ℕ) × Saved s × (length s ≡ 5)
 five_reached = (least_reached.0, least_reached.1, omega (arith, least_reached.2, least_saved_lem))

@@ -68,8 +68,8 @@ module _ (t : Word) (s : Place) where
 
   -- ── 'data and a two-byte check follow.' ──────────────────────────────────
 
-  pub data_and-check-follow : ride_end t s ≡ s + letter t s + data_size t s + 2
-  data_and-check-follow = refl
+  pub data_and_check_follow : ride_end t s ≡ s + letter t s + data_size t s + 2
+  data_and_check_follow = refl
 
 module _ (t : Word) where
   -- ── 'For each `.FIT` at q of at least 8, with byte q-8 equal to 12 or 14 and the header wholly inside the text, list q-8 and one
@@ -119,13 +119,13 @@ module _ (t : Word) where
 -- first 12, so that they are a size and nothing else
 module _ {t u : Word} {s : Place} (same : SameBut t u s) (T : List ℕ) (S : List Place) (K : List ℕ) where
   -- the answer, the tables and the starts are the same, whatever it says
-  pub size-tells-nothing_else : ((salvage_says t T S K).answer ≡ (salvage_says u T S K).answer)
+  pub size_tells_nothing_else : ((salvage_says t T S K).answer ≡ (salvage_says u T S K).answer)
       × ((salvage_says t T S K).tables ≡ (salvage_says u T S K).tables) × ((salvage_says t T S K).starts ≡ (salvage_says u T S K).starts)
-  size-tells-nothing_else = Salvage.starts_decide t u T S K same.lengths (starts-same same)
+  size_tells_nothing_else = Salvage.starts_decide t u T S K same.lengths (starts-same same)
 
   -- and so is the kind that the rule gives to every other ride
-  pub other-kinds_stay : (r : Place) → r ≢ s → HeaderAt t r → kind_of t r ≡ kind_of u r
-  other-kinds_stay = kind-kept same
+  pub other_kinds_stay : (r : Place) → r ≢ s → HeaderAt t r → kind_of t r ≡ kind_of u r
+  other_kinds_stay = kind-kept same
 
   -- where it passes the text's end in both, the outcome is one
   pub beyond_is_beyond : length t < ride_end t s → length u < ride_end u s → salvage_says t T S K ≡ salvage_says u T S K

@@ -17,7 +17,7 @@ use Rattle.backward.specs.Steps.{read_window, after_find, next_window, windows, 
 use Rattle.backward.proofs.AfterFind.{after_is, after_safe, after_reached}
 use Rattle.backward.proofs.Windows.{windows-one, whole-stands}
 use Rattle.backward.proofs.Reading.{whole-letters}
-use Rattle.backward.proofs.Theorems.{oracle_walker, search-lists-occurrences, search-letters-most}
+use Rattle.backward.proofs.Theorems.{oracle_walker, search-lists-occurrences, search_letters_most}
 
 module _ (w : Word) (some-letter : 1 ≤ length w) where
   abbrev m : ℕ
@@ -63,8 +63,8 @@ module _ (w : Word) (some-letter : 1 ≤ length w) where
       omega (arith, after_safe w t s j (whole-stands (oracle_walker w t) t s h e) (part-stands w t j g) after)
 
 -- a search with a file knows the mirror of what it looks for: its border is the same
-pub mirror-has_the_same : (w : Word) → longest_border w ≡ longest_border (mirror w)
-mirror-has_the_same = Border.border_mirror
+pub mirror_has_the_same : (w : Word) → longest_border w ≡ longest_border (mirror w)
+mirror_has_the_same = Border.border_mirror
 
 -- ── 'Lists stay the same;' ─────────────────────────────────────────────────
 
@@ -75,5 +75,5 @@ list_stays = search-lists-occurrences
 -- ── 'letters read change, and aba in ababa becomes 6.' ─────────────────────
 
 -- the example is computed in `examples`; the bound of 01 stays
-pub letters_at-most : (w t : Word) → length w ≤ length t → (backward w t).letters ≤ length w * (length t - length w + 1)
-letters_at-most = search-letters-most
+pub letters_at_most : (w t : Word) → length w ≤ length t → (backward w t).letters ≤ length w * (length t - length w + 1)
+letters_at_most = search_letters_most

@@ -45,9 +45,9 @@ module _ (p : Word) where
 
   -- the one behind i + 1 letters, over the arrows of those before
   module _ (i : ℕ) where
-    pub a_suffix-more : storacle_after p (suc i) ≡ until_walked m p (suc i) (storacle_after p i)
+    pub a_suffix_more : storacle_after p (suc i) ≡ until_walked m p (suc i) (storacle_after p i)
     unfolding storacle_after
-    a_suffix-more = refl
+    a_suffix_more = refl
 
     -- ── 'while suffix i isn't fully walked, add from j an arrow on p(k+1) .., then walk again.' ──
 
@@ -65,13 +65,13 @@ module _ (p : Word) where
       pub fully_walked : k ≡ m → until_walked (suc g) p (suc i) A ≡ A
       fully_walked = Suffixes.until_done p (suc g) A (suc i)
 
-      pub add-and-walk_again : k ≢ m
+      pub add_and_walk_again : k ≢ m
           → until_walked (suc g) p (suc i) A ≡ until_walked g p (suc i) (arrow j (letter p k) (first_later p j (letter p k)) ∷ A)
-      add-and-walk_again = Suffixes.until_more p g A (suc i)
+      add_and_walk_again = Suffixes.until_more p g A (suc i)
 
     -- m are enough: then it is walked to its end, and a higher bound adds no more
-    pub walked_to_its-end : suc i ≤ m → (far (target (storacle_after p (suc i))) 0 (suc i) (drop (suc i) p)).up_to ≡ m
-    walked_to_its-end = Theorems.suffix-walked p i
+    pub walked_to_its_end : suc i ≤ m → (far (target (storacle_after p (suc i))) 0 (suc i) (drop (suc i) p)).up_to ≡ m
+    walked_to_its_end = Theorems.suffix-walked p i
 
     pub any_bound : (g : ℕ) → suc i ≤ m → m ≤ g → until_walked g p (suc i) (storacle_after p i) ≡ storacle_after p (suc i)
     any_bound g = Theorems.any_bound p g i
@@ -85,8 +85,8 @@ module _ (p : Word) where
   -- ── 'Promise the rule's arrows,' ─────────────────────────────────────────
 
   -- one at most leaves a state on a letter
-  pub one-arrow_each : OneEach (storacle_rule p)
-  one-arrow_each = Theorems.one_each p
+  pub one_arrow_each : OneEach (storacle_rule p)
+  one_arrow_each = Theorems.one_each p
 
   -- what they are without the rule: x has one on c exactly if a factor that is walked to x goes on with c, to the first later state
   pub a_storacle : IsStoracle p (storacle p)
@@ -106,17 +106,17 @@ module _ (p : Word) where
   pub word-walked : walk (storacle p) 0 p ≡ some m
   word-walked = Theorems.word-walked p
 
-  pub only-walk : (v : Word) (y : State) → walk (storacle p) 0 v ≡ some y → length v ≡ m → v ≡ p
-  only-walk = Theorems.only-walk p
+  pub only_walk : (v : Word) (y : State) → walk (storacle p) 0 v ≡ some y → length v ≡ m → v ≡ p
+  only_walk = Theorems.only_walk p
 
   -- and none is longer
-  pub no_longer-walk : (v : Word) (y : State) → walk (storacle p) 0 v ≡ some y → length v ≤ m
-  no_longer-walk = Theorems.no_longer-walk p
+  pub no_longer_walk : (v : Word) (y : State) → walk (storacle p) 0 v ≡ some y → length v ≤ m
+  no_longer_walk = Theorems.no_longer_walk p
 
   -- ── '.. for up to m(m+1)/2 arrows' ───────────────────────────────────────
 
   pub m_to_half_of_m_m+1 : (m ≤ length (storacle_rule p)) × (length (storacle_rule p) ≤ most_arrows m)
-  m_to_half_of_m_m+1 = (Theorems.arrows-least p, Theorems.arrows-most p)
+  m_to_half_of_m_m+1 = (Theorems.arrows_least p, Theorems.arrows_most p)
 
 pub most_arrows_lem : (m : ℕ) → most_arrows m ≡ (m * (m + 1)) / 2
 unfolding most_arrows
@@ -149,8 +149,8 @@ no_such_bound bound = omega (arith, bound witness, more_than_3m.0, more_than_3m.
 
 -- ── 'its room (3) is (m+1)(m+6) entries, ..; limit m to 128 here, refused with 2.' ──
 
-pub its-room : (m : ℕ) → storacle_room m ≡ (m + 1) * (m + 6)
-its-room m = refl
+pub its_room : (m : ℕ) → storacle_room m ≡ (m + 1) * (m + 6)
+its_room m = refl
 
 pub its_limit : longest_storacle ≡ 128
 its_limit = storacle_limit
@@ -191,5 +191,5 @@ pub build_fixed : (word : Word) (T : List ℕ) (r s : SizeAnswer) (A B : List �
 build_fixed = Build.storacle_build_one
 
 -- and the rule by which they are read does not work them out of the word: any such arrows are read from some table
-pub any_arrows-read : (p : Word) (A : List Arrow) → StoracleSet p A → (L : List ℕ) × ReadAsStoracle p A L
-any_arrows-read = storacle_freedom
+pub any_arrows_read : (p : Word) (A : List Arrow) → StoracleSet p A → (L : List ℕ) × ReadAsStoracle p A L
+any_arrows_read = storacle_freedom

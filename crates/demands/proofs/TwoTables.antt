@@ -45,10 +45,10 @@ one = freedom ab (leap ∷ []) (λ x. 0) with_leap (λ x h b. h)
 two : (L : List ℕ) × ReadAs ab [] pred L
 two = freedom ab [] pred without (λ x h b. omega arith)
 
-pub two-tables : (L : List ℕ) × (L' : List ℕ) × (read_word 2 L ≡ ab) × (read_word 2 L' ≡ ab)
+pub two_tables : (L : List ℕ) × (L' : List ℕ) × (read_word 2 L ≡ ab) × (read_word 2 L' ≡ ab)
     × (read_arrow 2 L 0 98 ≡ some 2) × (read_arrow 2 L' 0 98 ≡ none) × (read_supply 2 L 2 ≡ some 0) × (read_supply 2 L' 2 ≡ some 1)
 unfolding from target spine
-two-tables = (
+two_tables = (
   one.0,
   two.0,
   one.1.word,

@@ -97,12 +97,12 @@ pub opens_empty : (w : Word) → 1 ≤ length w → (searcher_of w []).keep ≡ 
 opens_empty w h = holds_kept w [] ∙ kept-nothing w h
 
 -- every searcher that can be made is that of a word that has taken a text, and each of these can be made
-pub made-has : {s : Searcher} → Made s → (w : Word) × (t : Word) × (1 ≤ length w) × (length w ≤ longest_streamed) × (length t ≤ longest_text)
+pub made_has : {s : Searcher} → Made s → (w : Word) × (t : Word) × (1 ≤ length w) × (length w ≤ longest_streamed) × (length t ≤ longest_text)
     × (s ≡ searcher_of w t)
-made-has made = let K = made-took made in (K.word, K.text, K.some-letter, K.few, K.inside, K.is)
+made_has made = let K = made-took made in (K.word, K.text, K.some-letter, K.few, K.inside, K.is)
 
-pub has-made : (w t : Word) → Bytes w → Bytes t → 1 ≤ length w → length w ≤ longest_streamed → length t ≤ longest_text → Made (searcher_of w t)
-has-made w t word_bytes text-bytes some few inside = took-made (record {
+pub has_made : (w t : Word) → Bytes w → Bytes t → 1 ≤ length w → length w ≤ longest_streamed → length t ≤ longest_text → Made (searcher_of w t)
+has_made w t word_bytes text-bytes some few inside = took-made (record {
   word = w;
   text = t;
   word_bytes = word_bytes;
@@ -124,8 +124,8 @@ pub piece_taken : (w t : Word) → 1 ≤ length w → length w ≤ longest_strea
 piece_taken = Streams.piece_taken
 
 -- a list as long as the piece has room for all of them: each byte ends one find at most
-pub finds-at-most : {s : Searcher} → Made s → (v : Word) → length (finds s v) ≤ length v
-finds-at-most made v = finds-few (took_sound (made-took made)) v
+pub finds_at_most : {s : Searcher} → Made s → (v : Word) → length (finds s v) ≤ length v
+finds_at_most made v = finds-few (took_sound (made-took made)) v
 
 -- ── 'Cut anywhere, empty pieces included, the finds together are those of demand 2 on the whole.' ──
 
@@ -136,9 +136,9 @@ cut_anywhere w some few l fits =
     rw (ap (λ (o : Opening.Outcome). o.searcher) (Open.says-opened w some few)) (Streams.cut_anywhere w some few l fits)
 
 -- a piece, then another, is both at once: whatever lists are lent, they find the same and leave the same searcher
-pub both-at_once : {s : Searcher} (a b : Word) → Made s → s.taken + length (a ++ b) ≤ longest_text
+pub both_at_once : {s : Searcher} (a b : Word) → Made s → s.taken + length (a ++ b) ≤ longest_text
     → InTurn s (a ∷ b ∷ []) (finds s (a ++ b)) (after s (a ++ b)) × InTurn s ((a ++ b) ∷ []) (finds s (a ++ b)) (after s (a ++ b))
-both-at_once a b made fits = (Streams.both_in_turn a b made fits, Streams.both-at_once a b made fits)
+both_at_once a b made fits = (Streams.both_in_turn a b made fits, Streams.both_at_once a b made fits)
 
 -- ── 'A piece that would pass 16,777,216 bytes in all is refused with 4, searcher and list unchanged.' ──
 
@@ -155,9 +155,9 @@ module _ {s : Searcher} (made : Made s) (v : Word) (F : List Place) where
   up_to_the_limit l = Take.says-taken s v F (took_sound (made-took made)) l
 
 -- at the limit an empty piece is taken
-pub empty-on-top : {s : Searcher} → Made s → (F : List Place) → s.taken ≡ longest_text
+pub empty_on_top : {s : Searcher} → Made s → (F : List Place) → s.taken ≡ longest_text
     → take_says s [] F ≡ Taking.outcome (done (length (finds s []))) (after s []) (filled (finds s []) F)
-empty-on-top made F e = up_to_the_limit made [] F (omega arith)
+empty_on_top made F e = up_to_the_limit made [] F (omega arith)
 
 -- ── 'A searcher that opening and taking bytes could never have made is refused with a new 16, checked before 4 and with the same
 --    effect.' ──
@@ -194,8 +194,8 @@ one-taking = Take.take-one
 -- ── The same over lent bytes, as C has it ──────────────────────────────────
 
 -- opening: 1, 2, and 3 for fewer bytes than a searcher has
-pub open_bytes-exactly : (w : Word) (B : List ℕ) (o : OpenBytes.Outcome) → (open_bytes_says w B ≡ o) ↔ InBytes.OpenCase w B o
-open_bytes-exactly w B o = OpenBytesTheorems.open_is w B o
+pub open_bytes_exactly : (w : Word) (B : List ℕ) (o : OpenBytes.Outcome) → (open_bytes_says w B ≡ o) ↔ InBytes.OpenCase w B o
+open_bytes_exactly w B o = OpenBytesTheorems.open_is w B o
 
 pub one_opening_in_bytes : (w : Word) (B : List ℕ) (r s : SizeAnswer) (P Q : List ℕ) → OpenBytes.opened r P ≡ open_bytes_says w B
     → OpenBytes.opened s Q ≡ open_bytes_says w B → (r ≡ s) × (P ≡ Q)
@@ -204,11 +204,11 @@ one_opening_in_bytes = OpenBytesTheorems.open_one
 -- taking: 16 exactly where no searcher that can be made has the first of the bytes, or they are too few; then 4
 pub take-bytes-exactly : (B : List ℕ) → Bytes B → (v : Word) (F : List Place) (o : TakeBytes.Outcome)
     → (take_bytes_says B v F ≡ o) ↔ InBytes.TakeCase B v F o
-take-bytes-exactly B bytes v F o = TakeBytesTheorems.take-bytes_is B v F bytes o
+take-bytes-exactly B bytes v F o = TakeBytesTheorems.take_bytes_is B v F bytes o
 
-pub one-taking_in_bytes : (B : List ℕ) (v : Word) (F : List Place) (q r : SizeAnswer) (P Q : List ℕ) (G H : List Place)
+pub one_taking_in_bytes : (B : List ℕ) (v : Word) (F : List Place) (q r : SizeAnswer) (P Q : List ℕ) (G H : List Place)
     → TakeBytes.took q P G ≡ take_bytes_says B v F → TakeBytes.took r Q H ≡ take_bytes_says B v F → (q ≡ r) × (P ≡ Q) × (G ≡ H)
-one-taking_in_bytes = TakeBytesTheorems.take-one
+one_taking_in_bytes = TakeBytesTheorems.take-one
 
 -- no two searchers that can be made share their bytes
 pub bytes_tell : (s r : Searcher) → Made s → Made r → packed s ≡ packed r → s ≡ r

@@ -33,7 +33,7 @@ use Rattle.mark_files.specs.Cases.{LoadCase}
 use Rattle.faults.specs.Faults.{FaultAt, CountAt, ArrowsAt, none_read, arrows_missing}
 use Rattle.faults.specs.Beginnings.{Begins, Declares}
 use Rattle.faults.specs.EitherFaults.{FaultEither, BeginsEither}
-use Rattle.faults.proofs.Shown.{search-load}
+use Rattle.faults.proofs.Shown.{search_load}
 use Rattle.faults.proofs.EitherTold
 use Rattle.faults.proofs.EitherTheorems
 use Rattle.faults.proofs.Theorems
@@ -69,14 +69,14 @@ module _ (file : List ℕ) (text : Word) (R T : List ℕ) (F : List Place) where
 
   -- and 3, as 4 of a search with a file, has none, which is a case of its own
   pub load_carries : refuses_with (3 ∷ []) (5 ∷ 6 ∷ 7 ∷ 8 ∷ 9 ∷ 10 ∷ 11 ∷ 13 ∷ []) (load_says file R T).answer ≡ true
-  load_carries = Demand1.load-numbers [] [] file R T [] []
+  load_carries = Demand1.load_numbers [] [] file R T [] []
 
-  pub search-file_carries : refuses_with (4 ∷ 3 ∷ []) (5 ∷ 6 ∷ 7 ∷ 8 ∷ 9 ∷ 10 ∷ 11 ∷ 13 ∷ []) (search_file_says file text R T F).answer ≡ true
-  search-file_carries = Demand1.search-file-numbers [] text file R T [] F
+  pub search_file_carries : refuses_with (4 ∷ 3 ∷ []) (5 ∷ 6 ∷ 7 ∷ 8 ∷ 9 ∷ 10 ∷ 11 ∷ 13 ∷ []) (search_file_says file text R T F).answer ≡ true
+  search_file_carries = Demand1.search-file-numbers [] text file R T [] F
 
   -- a search with a file carries the one of loading
   pub same-offset : {r : ℕ} {p : Place} → (search_file_says file text R T F).answer ≡ refused_at r p → (load_says file R T).answer ≡ refused_at r p
-  same-offset = search-load file text R T F
+  same-offset = search_load file text R T F
 
   -- ── 'of the faulty field's first byte (an arrow's two numbers are one field), or of that byte for 5 and 6; for 10 with missing arrows
   --    and for 11 it's the first byte after the arrows.' ──
@@ -96,7 +96,7 @@ module _ (file : List ℕ) (text : Word) (R T : List ℕ) (F : List Place) where
   -- the number and its offset are given exactly when a case that has both applies
   pub offset-exactly : (r : ℕ) (p : Place) → ((load_says file R T).answer ≡ refused_at r p)
       ↔ ((R' : List ℕ) × (T' : List ℕ) × LoadCase file R T (Load.outcome (refused_at r p) R' T'))
-  offset-exactly r p = Demand1.load-number-exactly [] [] file R T [] [] (refused_at r p)
+  offset-exactly r p = Demand1.load_number_exactly [] [] file R T [] [] (refused_at r p)
 
   -- ── 'Numbers and their order stay.' ──────────────────────────────────────
 
@@ -137,7 +137,7 @@ module _ (file : List ℕ) (text : Word) (R T : List ℕ) (F : List Place) where
     pub right-before : Bytes file → one_of r (7 ∷ 8 ∷ 9 ∷ 11 ∷ 13 ∷ []) ≡ true → BeginsEither file p
     unfolding one_of
     right-before bytes one =
-        EitherTheorems.either_right-before file bytes (offset_of refused).1
+        EitherTheorems.either_right_before file bytes (offset_of refused).1
         (other_than 5 (7 ∷ 8 ∷ 9 ∷ 11 ∷ 13 ∷ []) refl one)
         (other_than 6 (7 ∷ 8 ∷ 9 ∷ 11 ∷ 13 ∷ []) refl one)
         (other_than 10 (7 ∷ 8 ∷ 9 ∷ 11 ∷ 13 ∷ []) refl one)
@@ -145,16 +145,16 @@ module _ (file : List ℕ) (text : Word) (R T : List ℕ) (F : List Place) where
     -- those before the offset of 10 are exactly if the file declares as many arrows as its word has
     pub arrow-right-before : Bytes file → r ≡ 10
         → (w : Word) × (n : ℕ) × Declares (as_plain file 0) w n × (BeginsEither file p ↔ (n ≡ length (own_steps w)))
-    arrow-right-before bytes = EitherTheorems.either_arrow-right file bytes (offset_of refused).1
+    arrow-right-before bytes = EitherTheorems.either_arrow_right file bytes (offset_of refused).1
 
     -- and with what is at fault, up to its end q, the bytes are those of none, whatever follows: the file has stopped being right. Of 5
     -- that cannot be said, as a file that is cut is the beginning of one
     pub wrong-behind : Bytes file → (r ≡ 5 → ⊥) → (q : Place) × FaultEither file r p q × (BeginsEither file q → ⊥)
-    wrong-behind bytes other = let f = offset_of refused in (f.0, f.1, EitherTheorems.either_wrong-behind file bytes f.1 other)
+    wrong-behind bytes other = let f = offset_of refused in (f.0, f.1, EitherTheorems.either_wrong_behind file bytes f.1 other)
 
   -- whatever number of arrows is declared, up to it the bytes are those of the word's file
-  pub right-up_to_the_count : Bytes file → {w : Word} {n : ℕ} → (d : Declares (as_plain file 0) w n) → BeginsEither file d.place
-  right-up_to_the_count bytes d = EitherTheorems.either_letters-right file bytes d.count_at
+  pub right_up_to_the_count : Bytes file → {w : Word} {n : ℕ} → (d : Declares (as_plain file 0) w n) → BeginsEither file d.place
+  right_up_to_the_count bytes d = EitherTheorems.either_letters_right file bytes d.count_at
 
 -- An example of 10 whose bytes before the offset begin no file: 01 02 61 62 00 is refused at 5, behind a count that no check refuses and
 -- that is not the word's, for the file of ab is 01 02 61 62 01 00 00.

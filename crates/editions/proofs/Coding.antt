@@ -36,8 +36,8 @@ module _ (s : List ℕ) (o : Place) where
   checked-front t =
       rw (one-read (eqb-true (at s o) 2 t), eq-eqb edition edition refl, plain-number s o (o + 1) (omega arith), plain-length s o)
 
-  pub other-front : checked_at s o ≡ false → front_at s o ≡ front_either longest_word s o
-  other-front t = ap (λ l. front_within longest_word l o) (sym (as_other s o (eqb-false (at s o) 2 t)))
+  pub other_front : checked_at s o ≡ false → front_at s o ≡ front_either longest_word s o
+  other_front t = ap (λ l. front_within longest_word l o) (sym (as_other s o (eqb-false (at s o) 2 t)))
 
   -- ── Behind them ──────────────────────────────────────────────────────────
 
@@ -46,9 +46,9 @@ module _ (s : List ℕ) (o : Place) where
     unfolding ending_either
     checked-ending t q = rw (t, q)
 
-    pub other-ending : {e : Ending} → checked_at s o ≡ false → e ≡ ending s i w → e ≡ ending_either s o i w
+    pub other_ending : {e : Ending} → checked_at s o ≡ false → e ≡ ending s i w → e ≡ ending_either s o i w
     unfolding ending_either
-    other-ending t q = rw (t, q)
+    other_ending t q = rw (t, q)
 
     pub broken-ending : {r p : ℕ} → broken r p ≡ ending s i w → broken r p ≡ ending_either s o i w
     unfolding ending_either

@@ -57,8 +57,8 @@ module _ (s : List ℕ) (o : Place) where
       by (yes l) = l
       by (no l) = absurd (omega (arith, e, get_or-eq_default s 0 {n = o} (omega arith)))
 
-  pub from-there : {b : ℕ} → at s o ≡ b → 0 < b → drop o s ≡ b ∷ drop (suc o) s
-  from-there e h = drop-cons s o 0 (there e h) ∙ ap (λ b. b ∷ drop (suc o) s) e
+  pub from_there : {b : ℕ} → at s o ≡ b → 0 < b → drop o s ≡ b ∷ drop (suc o) s
+  from_there e h = drop-cons s o 0 (there e h) ∙ ap (λ b. b ∷ drop (suc o) s) e
 
   -- what stands from place o on begins with it
   pub first_byte_lem : {b : ℕ} {l : List ℕ} → drop o s ≡ b ∷ l → at s o ≡ b
@@ -70,7 +70,7 @@ module _ (s : List ℕ) (o : Place) where
       ap (drop o) (as_checked s o e)
       ∙ ap (λ i. drop o (set s i 1)) (sym (add-zero o))
       ∙ drop-set-add o s 0 1
-      ∙ ap (λ l. set l 0 1) (from-there e (omega arith))
+      ∙ ap (λ l. set l 0 1) (from_there e (omega arith))
 
   -- the letters stand behind it
   pub letters-behind : {m j : ℕ} → front_either longest_word s o ≡ letters m j → o < j
@@ -96,8 +96,8 @@ pair_at_lem s o n =
     rw e (ap₂ (λ a b. a + b * 256) (sym (get_or-drop o s n 0)) (sym (get_or-drop o s (n + 1) 0)))
 
 -- two bytes that are there
-pub two-there : (s : List ℕ) (k : Place) → k + 2 ≤ length s → drop k s ≡ at s k ∷ at s (k + 1) ∷ drop (k + 2) s
-two-there s k h =
+pub two_there : (s : List ℕ) (k : Place) → k + 2 ≤ length s → drop k s ≡ at s k ∷ at s (k + 1) ∷ drop (k + 2) s
+two_there s k h =
     let next : suc (suc k) ≡ k + 2 = omega arith in
     drop-cons s k 0 (omega arith)
     ∙ ap (λ l. at s k ∷ l) (drop-cons s (suc k) 0 (omega arith) ∙ ap₂ (λ i j. at s i ∷ drop j s) (sym (add-one k)) next)
@@ -131,7 +131,7 @@ module _ (w : Word) (least : least_saved ≤ length w) (most : length w ≤ long
   unsealed-shown s o r d e way =
       let two = d ∙ ap (λ x. x ++ r) (unsealed_is w) in
       let first : at s o ≡ 2 = first_byte_lem s o two in
-      let rest : drop (suc o) s ≡ body w ++ r = ap (drop 1) (sym (from-there s o first (omega arith)) ∙ two) in
+      let rest : drop (suc o) s ≡ body w ++ r = ap (drop 1) (sym (from_there s o first (omega arith)) ∙ two) in
       let one : drop o (as_plain s o) ≡ spell w ++ r =
       as_plain-drop s o first ∙ ap (λ l. 1 ∷ l) rest ∙ ap (λ x. x ++ r) (sym (spell_is w)) in
       shown_too s o e (file-shown-at (as_plain s o) o w r least most one) way
@@ -219,12 +219,12 @@ module _ (s : List ℕ) (bytes : Bytes s) (o : Place) {w : Word} {p : Place} (A 
           let rest : drop (suc o) s ≡ body w ++ drop k s =
           ap (drop 1) (sym (as_plain-drop s o c) ∙ r.1 ∙ ap₂ ◌++◌ (spell_is w) (plain-drop s o k after)) in
           let whole : drop o s ≡ x ++ drop k s =
-          from-there s o c (omega arith) ∙ ap (λ l. 2 ∷ l) rest ∙ ap (λ x. x ++ drop k s) (sym (unsealed_is w)) in
+          from_there s o c (omega arith) ∙ ap (λ l. 2 ∷ l) rest ∙ ap (λ x. x ++ drop k s) (sym (unsealed_is w)) in
           let some : k - o ≡ n = omega (arith, r.2) in
           let own : part s o (k - o) ≡ x = rw some (ap (take n) whole ∙ take_at x (drop k s) n (sym size)) in
           let two = check_of_pair (at s k) (at s (k + 1)) (check x) (bytes k) (q ∙ ap check own) in
           let tail : drop k s ≡ low (check x) ∷ high (check x) ∷ drop (k + 2) s =
-          two-there s k h ∙ ap₂ (λ a b. a ∷ b ∷ drop (k + 2) s) two.0 two.1 in
+          two_there s k h ∙ ap₂ (λ a b. a ∷ b ∷ drop (k + 2) s) two.0 two.1 in
           record {
             savable = r.0;
             there = whole ∙ ap (λ l. x ++ l) tail ∙ sym (sealed-append x (drop (k + 2) s));

@@ -18,7 +18,7 @@ use Rattle.number.specs.Number.{Bytes}
 use Rattle.number.proofs.Theorems.{spelling-single, number_at-spelled, number_at_stood}
 use Rattle.saved.specs.File.{body, spell, Saved}
 use Rattle.saved.proofs.Spelled.{edition-number}
-use Rattle.saved.proofs.Theorems.{size-most, size-least, least_reached}
+use Rattle.saved.proofs.Theorems.{size_most, size_least, least_reached}
 use Rattle.loaded.specs.Load.{letters, stop, front_within, front, behind, broken, ending, Verdict, right, wrong, verdict}
 use Rattle.loaded.specs.Accepts.{Judged}
 use Rattle.loaded.specs.Cases.{Reads, edition_other, EndingCase, VerdictCase, arrows_wrong, leftovers, all_read}
@@ -32,16 +32,16 @@ use Rattle.editions.specs.EitherCases.{EndingEither, arrows_broken, check_cut}
 use Rattle.editions.specs.EitherCases.{VerdictEither, ending_wrong, bytes_follow, nothing_follows}
 use Rattle.editions.proofs.AsPlain.{as_checked, as_other, by_edition, plain-length, plain-part, plain-ending}
 use Rattle.editions.proofs.Ways.{verdict_either_is, ending_either_is}
-use Rattle.editions.proofs.Files.{unsealed, unsealed_is, unsealed-length, spell_is, from-there, first_byte_lem, letters-behind}
+use Rattle.editions.proofs.Files.{unsealed, unsealed_is, unsealed-length, spell_is, from_there, first_byte_lem, letters-behind}
 use Rattle.editions.proofs.Files.{unsealed-shown, spelled_either, StandsIn, stands_plain, stands-checked}
 
 -- ── 1. The number of the edition ───────────────────────────────────────────
 
 -- a file says 2 exactly if the number 2 is read where it begins
-pub two-read : (s : List ℕ) (o : Place) → at s o ≡ 2 → Reads s o 2 (o + 1)
-two-read s o e =
+pub two_read : (s : List ℕ) (o : Place) → at s o ≡ 2 → Reads s o 2 (o + 1)
+two_read s o e =
     let single = spelling-single 2 (omega arith) in
-    let stands = from-there s o e (omega arith) ∙ ap (λ l. l ++ drop (suc o) s) (sym single) in
+    let stands = from_there s o e (omega arith) ∙ ap (λ l. l ++ drop (suc o) s) (sym single) in
     rw single at (number_at-spelled s o 2 (drop (suc o) s) (omega arith) stands)
 
 pub read-two : (s : List ℕ) (o : Place) {j : Place} → Bytes s → Reads s o 2 j → at s o ≡ 2
@@ -58,7 +58,7 @@ module _ (s : List ℕ) (other : at s 0 ≡ 2 → ⊥) where
 
 -- one that says 2 showed 7
 pub two_was_7 : (s : List ℕ) → at s 0 ≡ 2 → front s ≡ stop 7 0
-two_was_7 s e = (front_is s (stop 7 0)).1 (edition_other (two-read s 0 e) (λ q. omega (arith, q, edition-number)))
+two_was_7 s e = (front_is s (stop 7 0)).1 (edition_other (two_read s 0 e) (λ q. omega (arith, q, edition-number)))
 
 -- ── 2. Exactly the words' files are accepted ───────────────────────────────
 
@@ -286,18 +286,18 @@ pub checked-length : (w : Word) → length (spell_in checked w) ≡ length (spel
 checked-length w = sealed-length (unsealed w) ∙ ap (λ n. n + 2) (unsealed-length w)
 
 pub most_bytes_lem : (e : Edition) (w : Word) → 1 ≤ length w → length w ≤ longest_word → length (spell_in e w) ≤ most_bytes e
-most_bytes_lem plain w some most = size-most w some most
-most_bytes_lem checked w some most = omega (arith, size-most w some most, checked-length w)
+most_bytes_lem plain w some most = size_most w some most
+most_bytes_lem checked w some most = omega (arith, size_most w some most, checked-length w)
 
 -- three numbers beside the letters, and two bytes more for the check
-pub least-bytes : (s : List ℕ) → SavedIn checked s → least_saved + 5 ≤ length s
-least-bytes s f =
+pub least_bytes : (s : List ℕ) → SavedIn checked s → least_saved + 5 ≤ length s
+least_bytes s f =
     let p = f.word in
-    let size = size-least (spell p) (record { word = p; savable = f.savable; file = refl }) in
+    let size = size_least (spell p) (record { word = p; savable = f.savable; file = refl }) in
     rw f.file (omega (arith, checked-length p, size))
 
-pub least-checked : (s : List ℕ) × SavedIn checked s × (length s ≡ least_saved + 5)
-least-checked =
+pub least_checked : (s : List ℕ) × SavedIn checked s × (length s ≡ least_saved + 5)
+least_checked =
     let f = least_reached.1 in
     let p = f.word in
     let size : length (spell p) ≡ least_saved + 3 = sym (ap {B = ℕ} length f.file) ∙ least_reached.2 in
@@ -326,11 +326,11 @@ two_bits_apart [] (a ∷ []) (c ∷ k ∷ v) after x y e d size few = omega arit
 two_bits_apart [] (a ∷ b ∷ u) (c ∷ v) after x y e d size few = omega arith
 
 -- so one bit does not make a 1 of the 2 that edition 2 begins with
-pub one_bit_keeps-two : (s t : List ℕ) → Near s t 1 → at s 0 ≡ 2 → at t 0 ≡ 1 → ⊥
+pub one_bit_keeps_two : (s t : List ℕ) → Near s t 1 → at s 0 ≡ 2 → at t 0 ≡ 1 → ⊥
 unfolding bits_of digits
-one_bit_keeps-two s t near two one =
+one_bit_keeps_two s t near two one =
     two_bits_apart near.before near.u near.v near.after _ _
-    (sym (ap bits_of (from-there s 0 two (omega arith))) ∙ near.first)
-    (sym (ap bits_of (from-there t 0 one (omega arith))) ∙ near.second)
+    (sym (ap bits_of (from_there s 0 two (omega arith))) ∙ near.first)
+    (sym (ap bits_of (from_there t 0 one (omega arith))) ∙ near.second)
     near.size
     near.narrow

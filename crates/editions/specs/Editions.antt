@@ -2,10 +2,10 @@
 -- before it, low byte first. No loader is asked.
 --
 --   Edition           the two editions
---   spell_in e p       the file of p in the edition e
+--   spell_in e p      the file of p in the edition e
 --   FileIn e s p      s is that file, and p a word of bytes within the limits
 --   SavedIn e s       s is the file of such a word
---   most_bytes e       so many bytes are always room enough for a file
+--   most_bytes e      so many bytes are always room enough for a file
 --
 -- 02, 'Edition 2 with a check'; demand 3.
 use Rattle.std.specs.Prelude.{◌≡◌, List, ◌++◌, ℕ, ◌+◌}

@@ -2,14 +2,15 @@
 -- arrows a file of edition 2 shows what the same bytes show with 1 for that number. Behind them edition 2 has its check: fewer than two
 -- bytes is 5, a differing check 13. What follows a file is judged last.
 --
---   checked_at s o        whether the file that stands in s from place o on says that it is of edition 2
---   edition_at s o        its edition; 1 where it says something else, which `front_either` refuses
---   as_plain s o          the same bytes with 1 for the number of edition 2
---   front_either n s o    what it shows up to its letters, if a word may have n letters
---   pair_at s i           the number of the two bytes from place i on, low byte first
---   past_check s o e      what the end e of its arrows comes to, where its check stands behind them
---   ending_either s o i w what it shows from place i on, where the number of arrows stands, for the word w
---   verdict_either s i w  the same of a file that is all of s, where nothing may follow
+--   checked_at s o       whether the file that stands in s from place o on says that it is of edition 2
+--   edition_at s o       its edition; 1 where it says something else, which `front_either` refuses
+--   as_plain s o         the same bytes with 1 for the number of edition 2
+--   front_either n s o   what it shows up to its letters, if a word may have n letters
+--   pair_at s i          the number of the two bytes from place i on, low byte first
+--   past_check s o e     what the end e of its arrows comes to, where its check stands behind them
+--   ending_either s o i w
+--                        what it shows from place i on, where the number of arrows stands, for the word w
+--   verdict_either s i w the same of a file that is all of s, where nothing may follow
 --   ShownEither s o w e  the file that stands in s from place o on shows the word w, and then e behind its letters
 --   JudgedEither s w v   loading the file s shows the word w, and then v behind its letters
 --

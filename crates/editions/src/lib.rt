@@ -48,7 +48,8 @@ fn read_check(file: &[u8], start: usize, at: usize) -> Ended
     let low = file[at];
     let high = file[at + 1];
     let found = (low as u16) + (high as u16) * 256;
-    if found != right {
+    let asked = right;
+    if found != asked {
         return Ended::Broken(13, at);
     }
     Ended::Behind(at + 2)

@@ -6,7 +6,7 @@
 --   word s          a word, written in its letters
 --   bytes s         a file, written in hexadecimal digits
 --   table           the lines
---   all_hold l       whether every one of them holds
+--   all_hold l      whether every one of them holds
 --
 -- 01, 'Examples to hold against the rules'; 02.
 use Rattle.std.specs.Prelude.{Bool, true, false, ◌&&◌, cond, List, [], ◌∷◌, ◌++◌, ℕ, suc, pred, ◌+◌, ◌*◌, ◌-◌, length, replicate, eqb, ltb}

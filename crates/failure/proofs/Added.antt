@@ -195,32 +195,32 @@ module _ (p : Word) where
 
   module _ {A : FailureArrows} {n : ℕ} (G : OneByOne p A n) where
     -- where a letter leads, it goes
-    pub both-goes : (x : State) (c : Letter) (y : State) → both_to p A x c ≡ some y → Goes (symbol_to p A) (failure_to A) c y x
+    pub both_goes : (x : State) (c : Letter) (y : State) → both_to p A x c ≡ some y → Goes (symbol_to p A) (failure_to A) c y x
     unfolding ask_in
-    both-goes x c y e = (ask-says (added-climbs G) (symbol_to p A) (length p) x c (omega arith)).goes y e
+    both_goes x c y e = (ask-says (added-climbs G) (symbol_to p A) (length p) x c (omega arith)).goes y e
 
     -- where it goes, it leads
-    pub goes-both : (x : State) (c : Letter) (y : State) → Goes (symbol_to p A) (failure_to A) c y x → both_to p A x c ≡ some y
+    pub goes_both : (x : State) (c : Letter) (y : State) → Goes (symbol_to p A) (failure_to A) c y x → both_to p A x c ≡ some y
     unfolding ask_in
-    goes-both x c y r = goes-ask (added-climbs G) (symbol_to p A) (length p) (omega arith) r
+    goes_both x c y r = goes-ask (added-climbs G) (symbol_to p A) (length p) (omega arith) r
 
     -- where it leads nowhere, it is stuck
-    pub both-stuck : (x : State) (c : Letter) → both_to p A x c ≡ none
+    pub both_stuck : (x : State) (c : Letter) → both_to p A x c ≡ none
         → Stuck (symbol_to p A) (failure_to A) c (path_end (failure_to A) (length p) x) x
     unfolding ask_in
-    both-stuck x c e =
+    both_stuck x c e =
         let s = (ask-says (added-climbs G) (symbol_to p A) (length p) x c (omega arith)).stuck e in
         rw (← stuck-path (added-climbs G) (symbol_to p A) (length p) (omega arith) s) s
 
     -- letters lead to states
-    pub both-state : (x : State) (c : Letter) (y : State) → both_to p A x c ≡ some y → y ≤ length p
-    both-state x c y e = goes-state G (both-goes x c y e)
+    pub both_state : (x : State) (c : Letter) (y : State) → both_to p A x c ≡ some y → y ≤ length p
+    both_state x c y e = goes-state G (both_goes x c y e)
 
     -- the spine's letters lead along the spine
-    pub both-spine : (x : State) → x < length p → both_to p A x (letter p x) ≡ some (suc x)
-    both-spine x h = goes-both x (letter p x) (suc x) (hit (added-spine G x h))
+    pub both_spine : (x : State) → x < length p → both_to p A x (letter p x) ≡ some (suc x)
+    both_spine x h = goes_both x (letter p x) (suc x) (hit (added-spine G x h))
 
   -- letters that lead somewhere lead there with more arrows too
-  pub both-kept : {A A' : FailureArrows} {n n' : ℕ} → OneByOne p A n → OneByOne p A' n' → Grows p A A'
+  pub both_kept : {A A' : FailureArrows} {n n' : ℕ} → OneByOne p A n → OneByOne p A' n' → Grows p A A'
       → Keeps (both_to p A) (both_to p A')
-  both-kept G G' E x c y e = goes-both G' x c y (goes_kept E (both-goes G x c y e))
+  both_kept G G' E x c y e = goes_both G' x c y (goes_kept E (both_goes G x c y e))

@@ -78,34 +78,34 @@ module _ {m : ℕ} {φ : Fails} (C : Climbing m φ) where
       (λ z f. rw (f, path_end) (path-ends g z (omega (arith, C x z f))))
 
   -- one more does not change it
-  path-more : (g : ℕ) (x : State) → m ≤ g + x → path_end φ g x ≡ path_end φ (suc g) x
+  path_more : (g : ℕ) (x : State) → m ≤ g + x → path_end φ g x ≡ path_end φ (suc g) x
   unfolding path_end
-  path-more zero x h = rw (none_above x (omega arith), path_end)
-  path-more (suc g) x h = option_cases (φ x)
+  path_more zero x h = rw (none_above x (omega arith), path_end)
+  path_more (suc g) x h = option_cases (φ x)
       (λ f. rw (f, path_end))
-      (λ z f. rw (f, path_end) (path-more g z (omega (arith, C x z f))))
+      (λ z f. rw (f, path_end) (path_more g z (omega (arith, C x z f))))
 
   -- so a failure arrow is a step on the path
-  pub path-via : (x z : State) → φ x ≡ some z → path_end φ m x ≡ path_end φ m z
+  pub path_via : (x z : State) → φ x ≡ some z → path_end φ m x ≡ path_end φ m z
   unfolding path_end
-  path-via x z f = path-more m x (omega arith) ∙ rw (f, path_end)
+  path_via x z f = path_more m x (omega arith) ∙ rw (f, path_end)
 
   module _ (δ : Delta) where
     -- nor does it change what becomes of a letter
-    ask-more : (g : ℕ) (x : State) (c : Letter) → m ≤ g + x → ask δ φ g x c ≡ ask δ φ (suc g) x c
+    ask_more : (g : ℕ) (x : State) (c : Letter) → m ≤ g + x → ask δ φ g x c ≡ ask δ φ (suc g) x c
     unfolding ask
-    ask-more zero x c h = option_cases (δ x c) (λ d. rw (d, none_above x (omega arith), ask)) (λ y d. rw (d, ask))
-    ask-more (suc g) x c h = option_cases (δ x c)
+    ask_more zero x c h = option_cases (δ x c) (λ d. rw (d, none_above x (omega arith), ask)) (λ y d. rw (d, ask))
+    ask_more (suc g) x c h = option_cases (δ x c)
         (λ d. option_cases (φ x)
         (λ f. ask-stop δ φ (suc g) x c d f ∙ sym (ask-stop δ φ (suc (suc g)) x c d f))
         (λ z f.
-        let rest = ask-more g z c (omega (arith, C x z f)) in
+        let rest = ask_more g z c (omega (arith, C x z f)) in
         ask_fail δ φ g x z c d f ∙ ap further rest ∙ sym (ask_fail δ φ (suc g) x z c d f)))
         (λ y d. ask-hit δ φ (suc g) x y c d ∙ sym (ask-hit δ φ (suc (suc g)) x y c d))
 
     -- so a state that has only a failure arrow hands the letter on
-    pub ask-via : (x z : State) (c : Letter) → δ x c ≡ none → φ x ≡ some z → ask δ φ m x c ≡ further (ask δ φ m z c)
-    ask-via x z c d f = ask-more m x c (omega arith) ∙ ask_fail δ φ m x z c d f
+    pub ask_via : (x z : State) (c : Letter) → δ x c ≡ none → φ x ≡ some z → ask δ φ m x c ≡ further (ask δ φ m z c)
+    ask_via x z c d f = ask_more m x c (omega arith) ∙ ask_fail δ φ m x z c d f
 
     -- what was asked is so: the letter leads to the state that is named, or the path ends in the state that was asked last
     pub record Says (x : State) (c : Letter) (s : Asked) : Type 0 where

@@ -23,7 +23,7 @@ use Rattle.failure.proofs.Halts.{walk_kept, HaltedAt, far_halted}
 use Rattle.failure.proofs.Paths.{Goes, hit, goes_via, Stuck, stuck-end, stuck-goes}
 use Rattle.failure.proofs.Added.{symbol_to, failure_to, both_to, failure-hit, OneByOne, bare, skip, by_failure, by_symbol, Grows}
 use Rattle.failure.proofs.Added.{failure_grows, symbol_grows, added-climbs, added-spine, stuck-state}
-use Rattle.failure.proofs.Added.{goes-both, both-stuck, both-state, both-spine, both-kept}
+use Rattle.failure.proofs.Added.{goes_both, both_stuck, both_state, both_spine, both_kept}
 
 -- suffix j is walked from 0
 abbrev pub SuffixWalked : Word → FailureArrows → ℕ → Type 0
@@ -42,7 +42,7 @@ module _ (p : Word) where
   rest-walked G zero k e = let q : k ≡ length p = omega arith in rw (q, drop-length p, walk)
   rest-walked G (suc n) k e =
       rw (drop-cons p k 0 (omega arith))
-      (walk_step _ (letter p k) (drop (suc k) p) k (suc k) (both-spine p G k (omega arith)) ∙ rest-walked G n (suc k) (omega arith))
+      (walk_step _ (letter p k) (drop (suc k) p) k (suc k) (both_spine p G k (omega arith)) ∙ rest-walked G n (suc k) (omega arith))
 
   -- ── One suffix ───────────────────────────────────────────────────────────
 
@@ -63,7 +63,7 @@ module _ (p : Word) where
       one_by_one = G';
       walked = λ s b. by_cases (ℕ_discrete s (suc i))
           (λ e. rw e w)
-          (λ e. let r = P.walked s (omega arith) in (r.0, walk_kept (both-kept p G G' E) (drop s p) 0 r.0 r.1));
+          (λ e. let r = P.walked s (omega arith) in (r.0, walk_kept (both_kept p G G' E) (drop s p) 0 r.0 r.1));
     }
 
     -- where the walk went to the word's end, none is needed
@@ -76,16 +76,16 @@ module _ (p : Word) where
     module _ (b : k < length p) where
       -- else no state of the path has the next letter
       stuck : Stuck (symbol_to p A) (failure_to A) (letter p k) j h.state
-      stuck = both-stuck p G h.state (letter p k) (H.lacks b)
+      stuck = both_stuck p G h.state (letter p k) (H.lacks b)
 
       -- arrows by which that letter leads from the path's end to k + 1 are enough
       arrow-added : {A' : FailureArrows} → OneByOne p A' (suc i) → Grows p A A' → Goes (symbol_to p A') (failure_to A') (letter p k) (suc k) j
           → SuffixesWalked p A' (suc i)
       arrow-added {A'} G' E g =
-          let onto_spine = goes-both p G' h.state (letter p k) (suc k) (stuck-goes E stuck g) in
+          let onto_spine = goes_both p G' h.state (letter p k) (suc k) (stuck-goes E stuck g) in
           let rest = rest-walked G' (length p - suc k) (suc k) (omega arith) in
           let behind = walk_step _ (letter p k) (drop (suc k) p) h.state (suc k) onto_spine ∙ rest in
-          suffix-added G' E (length p, H.resumes (both-kept p G G' E) ∙ rw (drop-cons p k 0 b) behind)
+          suffix-added G' E (length p, H.resumes (both_kept p G G' E) ∙ rw (drop-cons p k 0 b) behind)
 
       -- such is the rule's failure arrow
       failure-added : j < k → SuffixesWalked p (with_failure j k A) (suc i)
@@ -124,5 +124,5 @@ module _ (p : Word) where
   }
   suffixes_walked (suc i) h =
       let P = suffixes_walked i (omega arith) in
-      let states = both-state p P.one_by_one in
+      let states = both_state p P.one_by_one in
       repaired P _ (far_halted p (both_to p (after_suffix p i)) states (length p - suc i) (suc i) 0 (omega arith) (omega arith))

@@ -20,10 +20,10 @@ use Rattle.failure.specs.FailureRule.{Fails, failure_of, OneFailure, Asking, her
 use Rattle.failure.specs.FailureRule.{FailureArrows, symbols, ask_in, with_failure, with_symbol, repair, after_suffix, failure_rule}
 use Rattle.failure.specs.FailureRule.{failure_walk}
 use Rattle.failure.specs.FailureSteps.{no_window, failure_steps}
-use Rattle.failure.proofs.Paths.{Climbing, ask-hit, ask-stop, ask-taken, path-ends, path-via, ask-via}
+use Rattle.failure.proofs.Paths.{Climbing, ask-hit, ask-stop, ask-taken, path-ends, path_via, ask_via}
 use Rattle.failure.proofs.Added.{added-climbs, added-letter, added-falls, added-one_each, added-one, added-count}
 use Rattle.failure.proofs.Rule.{SuffixesWalked, suffixes_walked}
-use Rattle.failure.proofs.Windows.{steps-list, steps-letters-most, steps-failures-most, steps-short}
+use Rattle.failure.proofs.Windows.{steps-list, steps_letters_most, steps_failures_most, steps-short}
 
 -- where a counted walk ends is where a walk by both kinds ends
 pub counted-walk : (σ : Asking) (v : Word) (x : State) → (failure_walk σ x v).to ≡ walk (leads σ) x v
@@ -88,8 +88,8 @@ module _ (p : Word) where
   failure-paths-end x = path-ends failures-climb (length p) x (omega arith)
 
   -- and a failure arrow is a step on the path
-  pub failure-path-via : (x z : State) → fails x ≡ some z → path_end fails (length p) x ≡ path_end fails (length p) z
-  failure-path-via = path-via failures-climb
+  pub failure_path_via : (x z : State) → fails x ≡ some z → path_end fails (length p) x ≡ path_end fails (length p) z
+  failure_path_via = path_via failures-climb
 
   -- a symbol arrow that fits is taken, and no failure arrow
   pub symbol-taken : (x y : State) (c : Letter) → target (symbols p (failure_rule p)) x c ≡ some y → asking x c ≡ here x (some y)
@@ -100,7 +100,7 @@ module _ (p : Word) where
   pub failure-taken : (x z : State) (c : Letter) → target (symbols p (failure_rule p)) x c ≡ none → fails x ≡ some z
       → asking x c ≡ further (asking z c)
   unfolding ask_in
-  failure-taken x z c d f = ask-via failures-climb (target (symbols p (failure_rule p))) x z c d f
+  failure-taken x z c d f = ask_via failures-climb (target (symbols p (failure_rule p))) x z c d f
 
   -- where there is no failure arrow either, it leads nowhere
   pub neither-taken : (x : State) (c : Letter) → target (symbols p (failure_rule p)) x c ≡ none → fails x ≡ none → asking x c ≡ here x none
@@ -125,12 +125,12 @@ module _ (p : Word) where
   extra-falls a i = added-falls p all-walked.one_by_one i
 
   -- there are at least m arrows in all
-  pub arrows-least : length p ≤ length (symbols p (failure_rule p)) + length (failure_rule p).failures
-  arrows-least = omega (arith, length-append (failure_rule p).extra (spine p), spine-length p)
+  pub arrows_least : length p ≤ length (symbols p (failure_rule p)) + length (failure_rule p).failures
+  arrows_least = omega (arith, length-append (failure_rule p).extra (spine p), spine-length p)
 
   -- and at most 2m - 1
-  pub arrows-most : 1 ≤ length p → length (symbols p (failure_rule p)) + length (failure_rule p).failures ≤ 2 * length p - 1
-  arrows-most h =
+  pub arrows_most : 1 ≤ length p → length (symbols p (failure_rule p)) + length (failure_rule p).failures ≤ 2 * length p - 1
+  arrows_most h =
       omega (arith, length-append (failure_rule p).extra (spine p), spine-length p, added-count p all-walked.one_by_one)
 
   -- a letter takes at most m failure arrows
@@ -175,12 +175,12 @@ module _ (w t : Word) where
   search-short h = steps-short asking_mirror w t h
 
   -- it takes at most m failure arrows for each letter that it reads
-  pub search-failures-most : (failure_steps w t).failures ≤ length w * (failure_steps w t).letters
+  pub search_failures_most : (failure_steps w t).failures ≤ length w * (failure_steps w t).letters
   unfolding failure_steps
-  search-failures-most =
-      steps-failures-most asking_mirror (length w) (λ x c. omega (arith, letter-takes (mirror w) x c, length-reverse w)) t w
+  search_failures_most =
+      steps_failures_most asking_mirror (length w) (λ x c. omega (arith, letter-takes (mirror w) x c, length-reverse w)) t w
 
   -- it reads at most m (n - m + 1) letters
-  pub search-letters-most : length w ≤ length t → (failure_steps w t).letters ≤ length w * (length t - length w + 1)
+  pub search_letters_most : length w ≤ length t → (failure_steps w t).letters ≤ length w * (length t - length w + 1)
   unfolding failure_steps
-  search-letters-most h = steps-letters-most asking_mirror w t h
+  search_letters_most h = steps_letters_most asking_mirror w t h

@@ -17,7 +17,7 @@ use Rattle.words.proofs.Lists.{option_cases, test_cases}
 use Rattle.words.proofs.Occurrences.{since, since-start, since-past, since-here, since-later}
 use Rattle.oracle.specs.Arrows.{State}
 use Rattle.backward.specs.Steps.{after_find, read_down}
-use Rattle.backward.proofs.Reading.{FailedAt, failed-place, reading-letters-most}
+use Rattle.backward.proofs.Reading.{FailedAt, failed-place, reading_letters_most}
 use Rattle.backward.proofs.AfterFind.{after_moves, after_safe}
 use Rattle.backward.proofs.Windows.{WalksParts, reading_loses_none}
 use Rattle.failure.specs.FailureRule.{Asking, leads}
@@ -28,21 +28,21 @@ use Rattle.failure.specs.FailureSteps.{FailureReading, FailureSweep, no_window, 
 
 module _ (σ : Asking) (t : Word) (s : Place) where
   -- no letter is left
-  pub both-done : (x : State) → read_both σ t s 0 x ≡ none_left
+  pub both_done : (x : State) → read_both σ t s 0 x ≡ none_left
   unfolding read_both
-  both-done x = refl
+  both_done x = refl
 
   -- the last one fails
-  pub both-fails : (k : ℕ) (x : State) → (σ x (letter t (s + k))).to ≡ none
+  pub both_fails : (k : ℕ) (x : State) → (σ x (letter t (s + k))).to ≡ none
       → read_both σ t s (suc k) x ≡ fails_asked (s + k) (σ x (letter t (s + k)))
   unfolding read_both
-  both-fails k x e = rw (e, read_both)
+  both_fails k x e = rw (e, read_both)
 
   -- it leads on
-  pub both-goes : (k : ℕ) (x y : State) → (σ x (letter t (s + k))).to ≡ some y
+  pub both_goes : (k : ℕ) (x y : State) → (σ x (letter t (s + k))).to ≡ some y
       → read_both σ t s (suc k) x ≡ one_asked (σ x (letter t (s + k))) (read_both σ t s k y)
   unfolding read_both
-  both-goes k x y e = rw (e, read_both)
+  both_goes k x y e = rw (e, read_both)
 
   -- a reading by both kinds, but for the failure arrows, is one with the arrows along which letters lead
   abbrev AsReadDown : ℕ → State → FailureReading → Type 0
@@ -56,13 +56,13 @@ module _ (σ : Asking) (t : Word) (s : Place) where
       (λ y e. let r = as_read_down k y in rw (e, read_both, read_down) (r.0, ap suc r.1))
 
   -- where it failed
-  pub both-failed-place : (k : ℕ) (x : State) (f : Place) → (read_both σ t s k x).failed ≡ some f
+  pub both_failed_place : (k : ℕ) (x : State) (f : Place) → (read_both σ t s k x).failed ≡ some f
       → FailedAt s k f (read_both σ t s k x).letters
-  both-failed-place k x f e = let r = as_read_down k x in rw r.1 (failed-place (leads σ) t s k x f (sym r.0 ∙ e))
+  both_failed_place k x f e = let r = as_read_down k x in rw r.1 (failed-place (leads σ) t s k x f (sym r.0 ∙ e))
 
   -- it reads no more letters than there are
-  both-letters-most : (k : ℕ) (x : State) → (read_both σ t s k x).letters ≤ k
-  both-letters-most k x = rw (as_read_down k x).1 (reading-letters-most (leads σ) t s k x)
+  both_letters_most : (k : ℕ) (x : State) → (read_both σ t s k x).letters ≤ k
+  both_letters_most k x = rw (as_read_down k x).1 (reading_letters_most (leads σ) t s k x)
 
 -- ── All windows ────────────────────────────────────────────────────────────
 
@@ -85,7 +85,7 @@ module _ (σ : Asking) (w t : Word) where
   pub next_moves : (s : Place) → s < next s
   next_moves s = option_cases (read_window_both σ w t s).failed
       (λ e. test_cases (stands w t s) (λ d. rw (e, d) (omega (arith, after_moves w))) (λ d. rw (e, d) (omega arith)))
-      (λ f e. let p = both-failed-place σ t s (length w) 0 f e in rw e (omega arith))
+      (λ f e. let p = both_failed_place σ t s (length w) 0 f e in rw e (omega arith))
 
   -- a window that ends behind the text is none
   pub windows-past : (k : ℕ) (s : Place) → length t < s + length w → failure_windows σ w t k s ≡ no_window
@@ -138,7 +138,7 @@ module _ (σ : Asking) (w t : Word) where
       one : (s : Place) (later : FailureSweep) → s + length w ≤ length t → Few (next s) later → Few s (with_window s later)
       one s later l h =
           let u : suc (ahead (next s)) ≤ ahead s = omega (arith, next_moves s) in
-          omega (arith, mul-le-mul_left (length w) u, both-letters-most σ t s (length w) 0)
+          omega (arith, mul-le-mul_left (length w) u, both_letters_most σ t s (length w) 0)
 
   -- all windows: at each of the places from 0 to n - m
   pub steps-letters : (failure_steps_with σ w t).letters ≤ length w * (suc (length t) - length w)
@@ -146,8 +146,8 @@ module _ (σ : Asking) (w t : Word) where
   steps-letters = rw (zero-add (length w)) at (windows-letters (suc (length t)) 0 (omega arith))
 
   -- so at most m (n - m + 1) letters are read
-  pub steps-letters-most : length w ≤ length t → (failure_steps_with σ w t).letters ≤ length w * (length t - length w + 1)
-  steps-letters-most h = let e : suc (length t) - length w ≡ length t - length w + 1 = omega arith in rw e at steps-letters
+  pub steps_letters_most : length w ≤ length t → (failure_steps_with σ w t).letters ≤ length w * (length t - length w + 1)
+  steps_letters_most h = let e : suc (length t) - length w ≡ length t - length w + 1 = omega arith in rw e at steps-letters
 
   -- in a text shorter than the word nothing is read and nothing found
   pub steps-short : length t < length w → failure_steps_with σ w t ≡ no_window
@@ -159,26 +159,26 @@ module _ (σ : Asking) (w t : Word) where
 -- where a letter takes at most b failure arrows
 module _ (σ : Asking) (b : ℕ) (few : (x : State) (c : Letter) → (σ x c).taken ≤ b) (t : Word) where
   -- a reading takes at most b for each letter that it reads
-  both-failures-most : (s : Place) (k : ℕ) (x : State) → (read_both σ t s k x).failures ≤ b * (read_both σ t s k x).letters
-  both-failures-most s zero x = rw (both-done σ t s x) (omega arith)
-  both-failures-most s (suc k) x =
+  both_failures_most : (s : Place) (k : ℕ) (x : State) → (read_both σ t s k x).failures ≤ b * (read_both σ t s k x).letters
+  both_failures_most s zero x = rw (both_done σ t s x) (omega arith)
+  both_failures_most s (suc k) x =
       let here = few x (letter t (s + k)) in
       option_cases (σ x (letter t (s + k))).to
-      (λ e. rw (both-fails σ t s k x e) (omega (arith, mul-one b)))
+      (λ e. rw (both_fails σ t s k x e) (omega (arith, mul-one b)))
       (λ y e.
       let rest = read_both σ t s k y in
-      rw (both-goes σ t s k x y e) (omega (arith, both-failures-most s k y, mul-suc b rest.letters)))
+      rw (both_goes σ t s k x y e) (omega (arith, both_failures_most s k y, mul-suc b rest.letters)))
 
   -- and so do all windows
-  pub steps-failures-most : (w : Word) → (failure_steps_with σ w t).failures ≤ b * (failure_steps_with σ w t).letters
+  pub steps_failures_most : (w : Word) → (failure_steps_with σ w t).failures ≤ b * (failure_steps_with σ w t).letters
   unfolding failure_steps_with
-  steps-failures-most w =
+  steps_failures_most w =
       windows-induction σ w t (λ s r. r.failures ≤ b * r.letters) (λ s l. omega arith) one (suc (length t)) 0 (omega arith)
     where
       one : (s : Place) (later : FailureSweep) → s + length w ≤ length t → later.failures ≤ b * later.letters
           → (with_window σ w t s later).failures ≤ b * (with_window σ w t s later).letters
       one s later l h =
-          omega (arith, both-failures-most s (length w) 0, mul-add b (read_window_both σ w t s).letters later.letters)
+          omega (arith, both_failures_most s (length w) 0, mul-add b (read_window_both σ w t s).letters later.letters)
 
 -- ── The list ───────────────────────────────────────────────────────────────
 
@@ -195,7 +195,7 @@ module _ (σ : Asking) {w : Word} (parts : WalksParts w (leads σ)) (t : Word) w
           → (b : Bool) → stands w t s ≡ b
           → (later : List Place) → later ≡ since w t (failure_next w t s o) → failure_listed w t s o later ≡ since w t s
       one s l (some f) e b d later rec =
-          let place = both-failed-place σ t s (length w) 0 f e in
+          let place = both_failed_place σ t s (length w) 0 f e in
           let failed = sym (as_read_down σ t s (length w) 0).0 ∙ e in
           let lost = reading_loses_none parts t s (length w) l f failed in
           rec ∙ sym (since-later w t s (f + 1) (omega arith) (λ j h u. lost j (omega arith) (omega arith)))

@@ -3,21 +3,21 @@
 --
 --   Failure              a failure arrow, from a state to a state
 --   Fails                where the failure arrow of a state leads, if it has one
---   failure_of F          the Fails of a list of failure arrows
+--   failure_of F         the Fails of a list of failure arrows
 --   OneFailure F         one failure arrow at most leaves a state
 --   Asked                what becomes of one letter: where it leads, the last state that was asked for it, the failure arrows taken
 --   Asking               the Asked of a letter in a state
 --   ask δ φ g            with the symbol arrows δ and the failure arrows φ, along at most g of these
 --   leads σ              where letters lead, by both kinds of arrow
---   path_end φ g x        the end of the failure path from x, of at most g arrows
+--   path_end φ g x       the end of the failure path from x, of at most g arrows
 --   FailureArrows        what the rule adds to the spine: extra symbol arrows and failure arrows, the last one first
 --   symbols p A          all symbol arrows: the extra ones and the spine
---   ask_in p A            the Asking of all arrows
+--   ask_in p A           the Asking of all arrows
 --   repair p A h         the arrows A with the one that a walk halted at h lacks
---   after_suffix p i      the arrows added for the suffixes 1 to i
---   failure_rule p        those of all suffixes
+--   after_suffix p i     the arrows added for the suffixes 1 to i
+--   failure_rule p       those of all suffixes
 --   Walked               where a walk by both kinds ends, if every letter has its arrow, and the failure arrows that it takes
---   failure_walk σ x v    the walk of v from x
+--   failure_walk σ x v   the walk of v from x
 --
 -- Failure arrows climb and stay below m (a theorem), so no failure path has more than m of them.
 --

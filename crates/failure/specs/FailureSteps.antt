@@ -3,15 +3,18 @@
 -- find by itself: the word is compared.
 --
 --   FailureReading          where a window's reading failed, if it did, the letters that it read and the failure arrows that it took
---   read_both σ t s k x      reads the letters at s + k - 1 down to s, from state x
---   read_window_both σ w t s  reads the window of w's length that starts at s, from state 0
---   failure_next w t s f     where the window goes from s, f the place of the failing letter if there is one
---   failure_listed w t s f l the starts l with s before them, where no letter failed and the word stands at s
+--   read_both σ t s k x     reads the letters at s + k - 1 down to s, from state x
+--   read_window_both σ w t s
+--                           reads the window of w's length that starts at s, from state 0
+--   failure_next w t s f    where the window goes from s, f the place of the failing letter if there is one
+--   failure_listed w t s f l
+--                           the starts l with s before them, where no letter failed and the word stands at s
 --   FailureSweep            the starts of the occurrences, rising, all letters read and all failure arrows taken
 --   failure_windows σ w t k s
 --                           the windows from s on; k bounds how many there are
---   failure_steps_with σ w t  all windows, where letters lead as σ says
---   failure_steps w t        the search: with the failure oracle of the mirrored word
+--   failure_steps_with σ w t
+--                           all windows, where letters lead as σ says
+--   failure_steps w t       the search: with the failure oracle of the mirrored word
 --
 -- 02, 'Failure oracle' and 'The step after a find'; 01, 'The backward search'.
 use Rattle.std.specs.Prelude.{cond, List, [], ◌∷◌, ℕ, zero, suc, ◌+◌, length, leb}

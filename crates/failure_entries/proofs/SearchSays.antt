@@ -92,12 +92,12 @@ module _ (word text : Word) (T : List ℕ) (F : List Place) where
   -- ── What the code's scan comes to ────────────────────────────────────────
 
   -- the room that was filled with P, R being what stands behind it
-  module _ {P : List ℕ} (R : List ℕ) (Filled-in : P ≡ failure_table (mirror word)) (some-letter : 1 ≤ m) where
+  module _ {P : List ℕ} (R : List ℕ) (filled_in : P ≡ failure_table (mirror word)) (some-letter : 1 ≤ m) where
     lent-table : take (failure_room m) (P ++ R) ≡ failure_table (mirror word)
     lent-table =
         let mirrored : 1 ≤ length (mirror word) = omega (arith, length-reverse word) in
-        let size = ap length Filled-in ∙ table-size (mirror word) mirrored ∙ ap failure_room (length-reverse word) in
-        take_at P R (failure_room m) size ∙ Filled-in
+        let size = ap length filled_in ∙ table-size (mirror word) mirrored ∙ ap failure_room (length-reverse word) in
+        take_at P R (failure_room m) size ∙ filled_in
 
     pub lent-formed : m < 65535 → FailureFormed (take (failure_room m) (P ++ R)) m
     lent-formed h = rw lent-table (mirror-formed word some-letter h)
@@ -108,7 +108,7 @@ module _ (word text : Word) (T : List ℕ) (F : List Place) where
         → R ≡ drop (failure_room m) T
         → failure_outcome (done t) (P ++ R) F'
         ≡ failure_outcome (done (found word text)) (failure_table (mirror word) ++ drop (failure_room m) T) (filled (occurrences word text) F)
-    scan_counts t f r = rw (t, f, lent-table, scan_steps word some-letter text, search-lists word text, Filled-in, r)
+    scan_counts t f r = rw (t, f, lent-table, scan_steps word some-letter text, search-lists word text, filled_in, r)
 
 -- ── Scratch ────────────────────────────────────────────────────────────────
 

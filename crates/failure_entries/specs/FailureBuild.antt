@@ -1,6 +1,6 @@
 -- WHAT THE BUILD OF A FAILURE ORACLE SAYS: the whole outcome as a function of what is lent.
 --
---   failure_build_says word T   1, 2, 3 in that order, where 3 asks for the failure table's room; else the word's table, and the rest of the
+--   failure_build_says word T 1, 2, 3 in that order, where 3 asks for the failure table's room; else the word's table, and the rest of the
 --                             room as it was
 --
 -- 02, 'Failure oracle'; 01, 'When the library says no'.

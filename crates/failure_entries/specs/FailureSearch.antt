@@ -2,8 +2,8 @@
 --
 --   found word text            how often the word stands in the text, and the letters and the failure arrows of the published steps
 --   FailureOutcome             the answer, and the room and the list as they are left
---   failure_answer r            what the code's answer r means
---   failure_searched r T F      the outcome of code that answers r and leaves T and F
+--   failure_answer r           what the code's answer r means
+--   failure_searched r T F     the outcome of code that answers r and leaves T and F
 --   failure_search_says word text T F
 --                              what it must be: 1, 2, 4, 3 in that order, where 3 asks for the failure table's room; else every occurrence
 --                              is counted and the first of them are listed, as many as fit, both counts are those of the published steps,

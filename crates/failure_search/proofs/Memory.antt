@@ -19,7 +19,7 @@ use Rattle.search.specs.declared.WindowRead.TheVariants.{Failed}
 use Rattle.prepared.proofs.Told.{told-some, told_none, tells_none, tells-some}
 use Rattle.failure.specs.FailureRule.{Asking}
 use Rattle.failure.specs.FailureSteps.{FailureReading, read_both}
-use Rattle.failure.proofs.Windows.{both-fails, both-goes}
+use Rattle.failure.proofs.Windows.{both_fails, both_goes}
 use Rattle.failure_table.specs.declared.Answered.{Answered}
 use Rattle.failure_table.specs.Building.{answered_as}
 use Rattle.failure_table.specs.FailureTable.{read_ask}
@@ -83,13 +83,13 @@ module _ {σ : Asking} (t : Word) (s m : ℕ) {v k : ℕ} (some-letter : 1 ≤ m
   -- it leads nowhere
   pub first-fails : v ≡ 65535 → record { how = Failed (record { 0 = s + (m - 1) }); failures = k } ≡ counted_read_of (read_both σ t s m 0)
   first-fails e =
-      let fails = ap (λ (n : ℕ). read_both σ t s n 0) one ∙ both-fails σ t s (m - 1) 0 (tells_none T.target e) in
+      let fails = ap (λ (n : ℕ). read_both σ t s n 0) one ∙ both_fails σ t s (m - 1) 0 (tells_none T.target e) in
       rw (fails, T.failures)
 
   -- it leads on
   pub first_goes : v ≢ 65535 → FewTaken σ → StillToRead σ t s m (m - 1) v k
   first_goes f few =
-      let goes = ap (λ (n : ℕ). read_both σ t s n 0) one ∙ both-goes σ t s (m - 1) 0 v (tells-some T.target f) in
+      let goes = ap (λ (n : ℕ). read_both σ t s n 0) one ∙ both_goes σ t s (m - 1) 0 v (tells-some T.target f) in
       record {
         within = omega arith;
         few = omega (arith, T.failures, few 0 (letter t (s + (m - 1))));

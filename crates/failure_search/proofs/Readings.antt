@@ -16,7 +16,7 @@ use Rattle.oracle.specs.Arrows.{State}
 use Rattle.search.specs.declared.WindowRead.TheVariants.{Failed, Whole}
 use Rattle.failure.specs.FailureRule.{Asked, Asking}
 use Rattle.failure.specs.FailureSteps.{FailureReading, read_both}
-use Rattle.failure.proofs.Windows.{both-done, both-fails, both-goes}
+use Rattle.failure.proofs.Windows.{both_done, both_fails, both_goes}
 use Rattle.failure_table.specs.declared.Answered.{Answered}
 use Rattle.failure_table.specs.Building.{answered_as}
 use Rattle.failure_search.specs.Tallies.{counted_read_of}
@@ -40,8 +40,8 @@ module _ {σ : Asking} {t : Word} {s m : ℕ} where
     -- no letter is left
     pub none_to_read : left ≡ 0 → record { how = Whole; failures = k } ≡ counted_read_of whole
     none_to_read e =
-        let failed = rw (e, both-done σ t s x) at R.fails in
-        let taken : whole.failures ≡ k = omega (arith, rw (e, both-done σ t s x) at R.takes) in
+        let failed = rw (e, both_done σ t s x) at R.fails in
+        let taken : whole.failures ≡ k = omega (arith, rw (e, both_done σ t s x) at R.takes) in
         rw (failed, taken)
 
     -- one is left, and is asked
@@ -67,7 +67,7 @@ module _ {σ : Asking} {t : Word} {s m : ℕ} where
         pub letter-fails : r.leads ≡ Missing
             → record { how = Failed (record { 0 = s + (left - 1) }); failures = k + r.taken } ≡ counted_read_of whole
         letter-fails e =
-            let here = both-fails σ t s (left - 1) x (arrow-untold _ r.leads leads_is e) in
+            let here = both_fails σ t s (left - 1) x (arrow-untold _ r.leads leads_is e) in
             let failed = rw (one, here) at R.fails in
             let taken : whole.failures ≡ k + r.taken = rw taken_is (rw (one, here) at R.takes) in
             rw (failed, taken)
@@ -75,7 +75,7 @@ module _ {σ : Asking} {t : Word} {s m : ℕ} where
         -- it leads on
         pub letter-goes : (y : Stated) → r.leads ≡ To y → StillToRead σ t s m (left - 1) y.0 (k + r.taken)
         letter-goes y e =
-            let on = both-goes σ t s (left - 1) x y.0 (arrow-told _ r.leads y leads_is e) in
+            let on = both_goes σ t s (left - 1) x y.0 (arrow-told _ r.leads y leads_is e) in
             record {
               within = omega arith;
               few = letter-taken;

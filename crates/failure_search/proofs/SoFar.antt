@@ -13,7 +13,7 @@ use Rattle.words.specs.Words.{Word, Place, stands}
 use Rattle.words.specs.declared.Place.{Place as Placed}
 use Rattle.backward.specs.Steps.{after_find}
 use Rattle.backward.proofs.Reading.{FailedAt, whole-letters}
-use Rattle.backward.proofs.AfterFind.{after_moves, after-most}
+use Rattle.backward.proofs.AfterFind.{after_moves, after_most}
 use Rattle.search.specs.declared.WindowRead.TheVariants.{Failed, Whole}
 use Rattle.search.specs.Answers.{failed_at}
 use Rattle.search.proofs.Readings.{failed-told, whole-told}
@@ -21,8 +21,8 @@ use Rattle.finds.specs.Finds.{filled}
 use Rattle.finds.proofs.Filling.{filled-nil, filled-length}
 use Rattle.failure.specs.FailureRule.{Asking, leads}
 use Rattle.failure.specs.FailureSteps.{FailureSweep, read_window_both, failure_windows, failure_steps_with}
-use Rattle.failure.proofs.Windows.{as_read_down, both-failed-place, next, with_window, next_moves}
-use Rattle.failure.proofs.Windows.{windows-past, windows-one, windows-enough, steps-letters, steps-failures-most}
+use Rattle.failure.proofs.Windows.{as_read_down, both_failed_place, next, with_window, next_moves}
+use Rattle.failure.proofs.Windows.{windows-past, windows-one, windows-enough, steps-letters, steps_failures_most}
 use Rattle.failure_search.specs.declared.CountedRead.{CountedRead}
 use Rattle.failure_search.specs.Tallies.{counted_read_of, failure_tally_of}
 use Rattle.failure_search.proofs.States.{FewTaken}
@@ -66,7 +66,7 @@ module _ (σ : Asking) (w t : Word) where
   ahead-failed : (s f : Place) → s + length w ≤ length t → (read_window_both σ w t s).failed ≡ some f
       → ahead s ≡ adding [] (s + length w - f) (taking s) (ahead (f + 1))
   ahead-failed s f h e =
-      let place = both-failed-place σ t s (length w) 0 f e in
+      let place = both_failed_place σ t s (length w) 0 f e in
       let read : (read_window_both σ w t s).letters ≡ s + length w - f = omega arith in
       rw (e, read) at (ahead-one s h)
 
@@ -84,9 +84,9 @@ pub record SoFar (σ : Asking) (w t : Word) (F₀ F : List ℕ) (s : Place) (cou
   pub inside : s ≤ length t
 
 -- nothing is read
-pub so_far-start : {σ : Asking} {w t : Word} {F : List ℕ} → SoFar σ w t F F 0 0 0 0
+pub so_far_start : {σ : Asking} {w t : Word} {F : List ℕ} → SoFar σ w t F F 0 0 0 0
 unfolding failure_steps_with
-so_far-start {F = F} = record {
+so_far_start {F = F} = record {
   found = [];
   number = refl;
   list = filled-nil F;
@@ -102,13 +102,13 @@ module _ {σ : Asking} {w t : Word} {F₀ F : List ℕ} {s count letters failure
   all = failure_steps_with σ w t
 
   -- the list has kept its length
-  pub so_far-length : length F ≡ length F₀
-  so_far-length = ap length I.list ∙ filled-length I.found F₀
+  pub so_far_length : length F ≡ length F₀
+  so_far_length = ap length I.list ∙ filled-length I.found F₀
 
   -- no window is left
-  pub so_far-end : length t < s + length w
+  pub so_far_end : length t < s + length w
       → (record { count = count; letters = letters; failures = failures } ≡ failure_tally_of all) × (F ≡ filled all.starts F₀)
-  so_far-end h =
+  so_far_end h =
       let past = windows-past σ w t (suc (length t)) s h in
       let all_found : I.found ≡ all.starts = sym (append-nil I.found) ∙ (rw past at I.all-starts) in
       let all_read : letters ≡ all.letters = omega (arith, rw past at I.all_letters) in
@@ -125,7 +125,7 @@ module _ {σ : Asking} {w t : Word} {F₀ F : List ℕ} {s count letters failure
 
   -- and the failure arrows fewer than 2^64
   failures_fit : length w < 65535 → length t < 4294967295 → FewTaken σ → failures + (ahead σ w t s).failures < 18446744073709551616
-  failures_fit m n f = omega (arith, steps-failures-most σ 65535 f t w, letters_fit m n)
+  failures_fit m n f = omega (arith, steps_failures_most σ 65535 f t w, letters_fit m n)
 
   -- ── One window more ──────────────────────────────────────────────────────
 
@@ -178,11 +178,11 @@ module _ {σ : Asking} {w t : Word} {F₀ F : List ℕ} {s count letters failure
           let step-moves = after_moves w in
           let list = noted I.found F₀ I.number I.list in
           rw moves (so-far-on (s ∷ []) (length w) (ahead-found σ w t s h whole (sym d)) counted list
-          (omega arith) (omega (arith, after-most w some-letter)))
+          (omega arith) (omega (arith, after_most w some-letter)))
 
       -- it does not
-      pub so_far-unlike : false ≡ stands w t s → 1 ≤ length w → SoFar σ w t F₀ F (s + 1) count (letters + length w) (failures + r.failures)
-      so_far-unlike d some-letter =
+      pub so_far_unlike : false ≡ stands w t s → 1 ≤ length w → SoFar σ w t F₀ F (s + 1) count (letters + length w) (failures + r.failures)
+      so_far_unlike d some-letter =
           so-far-on [] (length w) (ahead-unlike σ w t s h whole (sym d)) (omega arith) same-list (omega arith) (omega arith)
 
     -- it failed
@@ -192,7 +192,7 @@ module _ {σ : Asking} {w t : Word} {F₀ F : List ℕ} {s count letters failure
 
       -- inside the window
       pub fails-inside : FailedAt s (length w) f.0 (read_window_both σ w t s).letters
-      fails-inside = both-failed-place σ t s (length w) 0 f.0 failed
+      fails-inside = both_failed_place σ t s (length w) 0 f.0 failed
 
       -- and the next one starts behind the failing letter
       pub so_far_miss : SoFar σ w t F₀ F (f.0 + 1) count (letters + (s + length w - f.0)) (failures + r.failures)

@@ -1,7 +1,7 @@
 -- What the answers of the search with the failure oracle mean.
 --
---   counted_read_of r    how a window was read, and the failure arrows taken in it
---   failure_tally_of R   what a search counts
+--   counted_read_of r  how a window was read, and the failure arrows taken in it
+--   failure_tally_of R what a search counts
 --
 -- 02, 'Failure oracle'.
 use Rattle.std.specs.Prelude.{length}

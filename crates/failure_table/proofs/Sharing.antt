@@ -38,8 +38,8 @@ module _ {a b : List ℕ} where
     }
 
     -- it is another
-    pub counted-other : {n' : ℕ} → at a i ≢ at b i → n' ≡ n → Counted a b n' (i + 1)
-    counted-other f q = record {
+    pub counted_other : {n' : ℕ} → at a i ≢ at b i → n' ≡ n → Counted a b n' (i + 1)
+    counted_other f q = record {
       few = omega (arith, C.few);
       all = λ r. absurd (omega (arith, C.few));
       others = λ l. (not-eq-not {b = false}).0 (λ e. f (ap (λ (l : List ℕ). at l i) (same_true a b e)));

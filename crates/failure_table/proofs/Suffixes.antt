@@ -25,7 +25,7 @@ use Rattle.oracle.specs.SuffixRule.{Halt, far}
 use Rattle.failure.specs.FailureRule.{path_end, FailureArrows, ask_in, with_failure, with_symbol, repair, after_suffix, failure_rule}
 use Rattle.failure.proofs.Paths.{ask-says, stuck-path}
 use Rattle.failure.proofs.Added.{symbol_to, failure_to, both_to, OneByOne, added-climbs, added-count}
-use Rattle.failure.proofs.Added.{stuck-state, both-stuck, both-state, both-spine}
+use Rattle.failure.proofs.Added.{stuck-state, both_stuck, both_state, both_spine}
 use Rattle.failure.proofs.Rule.{suffixes_walked}
 use Rattle.table.specs.Table.{read_word}
 use Rattle.failure_table.specs.declared.Answered.{Answered}
@@ -158,7 +158,7 @@ module _ {p : Word} {m : ℕ} {L : List ℕ} {u i : ℕ} (S : Stage p m L u i) w
       let b : k + 1 + n ≡ k + n + 1 = omega arith in
       let one : letter p (x + n) ≡ letter p (k + n) =
       sym (stage_entry (x + n) (omega arith)) ∙ (rw (a, b) at (alike n (omega arith))) ∙ stage_entry (k + n) (omega arith) in
-      let there = rw one at (both-spine p one_by_one (x + n) (omega arith)) in
+      let there = rw one at (both_spine p one_by_one (x + n) (omega arith)) in
       let c : k + suc n ≡ suc (k + n) = omega arith in
       let d : x + suc n ≡ suc (x + n) = omega arith in
       record {
@@ -185,7 +185,7 @@ module _ {p : Word} {m : ℕ} {L : List ℕ} {u i : ℕ} (S : Stage p m L u i) w
         let one : k + 1 ≡ suc k = omega arith in
         record {
           within = omega arith;
-          state = both-state p one_by_one x (letter p k) y.0 there;
+          state = both_state p one_by_one x (letter p k) y.0 there;
           same = rw one (W.same ∙ far-goes δ p x y.0 k (omega arith) there);
         }
 
@@ -203,7 +203,7 @@ module _ {p : Word} {m : ℕ} {L : List ℕ} {u i : ℕ} (S : Stage p m L u i) w
       -- the state that was asked last is a state
       pub last-state : r.last.0 ≤ m
       last-state =
-          let state = stuck-state p (added-climbs p one_by_one) W.state (both-stuck p one_by_one x (letter p k) lacks) in
+          let state = stuck-state p (added-climbs p one_by_one) W.state (both_stuck p one_by_one x (letter p k) lacks) in
           omega (arith, last_is, state)
 
       after_is : after_suffix p (suc i) ≡ cond (ltb j k) (with_failure j k A) (with_symbol p j k A)
@@ -244,7 +244,7 @@ module _ {p : Word} {m : ℕ} {L : List ℕ} {u i : ℕ} (S : Stage p m L u i) w
   walking_spine {k} {x} W h e l =
       let m' = length p in
       let q : k + (m' - k) ≡ m' = omega arith in
-      let along = far-spine δ p (both-spine p one_by_one) (m' - k) k q in
+      let along = far-spine δ p (both_spine p one_by_one) (m' - k) k q in
       let ends = W.same ∙ rw e along ∙ sym (far-ends δ p m' m' refl) in
       walking_done (record { within = le_refl m'; state = le_refl m'; same = ends }) (omega arith) l
 

@@ -1,9 +1,9 @@
 -- BUILDING the table, suffix by suffix. But for `answered_as`, nothing here is of interest once it is filled.
 --
---   answered_as s         what became of a letter, as code answers it
---   word_in L m           the word of m letters that stands in row 0
---   with_arrow L n u x k  L with the arrow that a walk lacks which is stuck at x with the letters up to k spelled, u slots being used
---   slots_with u x k      how many slots are used then
+--   answered_as s        what became of a letter, as code answers it
+--   word_in L m          the word of m letters that stands in row 0
+--   with_arrow L n u x k L with the arrow that a walk lacks which is stuck at x with the letters up to k spelled, u slots being used
+--   slots_with u x k     how many slots are used then
 --   Shared a b n         the first n entries of a and b are the same
 --   AlongSpine L m x k n the n letters behind the first k are those of the spine from state x on, all below the word's last
 --   Stage p m L u i      L is the table of the arrows of the suffixes 1 to i over p, which has m letters; u of them are in slots

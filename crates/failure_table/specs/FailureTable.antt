@@ -10,17 +10,18 @@
 --
 -- Slots count from 1, in the order in which the rule adds the arrows.
 --
---   failure_room m         how many entries
---   word_alone p           the table with the word alone
+--   failure_room m        how many entries
+--   word_alone p          the table with the word alone
 --   slotted L n u x y     an arrow from x to y in slot u + 1, before the others of x
---   lay_failures n F L     the failure arrows F in their row
---   lay_arrows n E L       the symbol arrows E in slots
---   failure_table_from p A  the table of the arrows A over p
---   failure_table p        the table of a word: the failure rule's arrows
---   read_failure m L x     where the failure arrow of x leads
+--   lay_failures n F L    the failure arrows F in their row
+--   lay_arrows n E L      the symbol arrows E in slots
+--   failure_table_from p A
+--                         the table of the arrows A over p
+--   failure_table p       the table of a word: the failure rule's arrows
+--   read_failure m L x    where the failure arrow of x leads
 --   seek m L c g s        the first target with the letter c in the slots from s on, at most g of them
---   read_symbol m L x c    where the symbol arrow from x on c leads
---   read_ask m L           what becomes of a letter, by the table
+--   read_symbol m L x c   where the symbol arrow from x on c leads
+--   read_ask m L          what becomes of a letter, by the table
 --
 -- 02, 'Failure oracle'; 01, 'When the library says no', its last part.
 use Rattle.std.specs.Prelude.{cond, ◌&&◌, List, [], ◌∷◌, ◌++◌, ℕ, zero, suc, ◌+◌, ◌*◌, length, set, replicate, eqb, ltb, leb}

@@ -20,7 +20,7 @@ use Rattle.faults.specs.Faults.{ArrowsAt, NumberPlace, on_edition_at, length_at,
 use Rattle.faults.specs.Beginnings.{Begins}
 use Rattle.faults.proofs.Through.{Through, start, on, small, through-edition, through-letters, through-arrows}
 use Rattle.faults.proofs.Spelled.{SmallStep, arrows_of, own-small, edition_begins, letters_begin}
-use Rattle.faults.proofs.GoingOn.{its, its-most, its-file, counted, bytes_read, goes_on}
+use Rattle.faults.proofs.GoingOn.{its, its_most, its_file, counted, bytes_read, goes_on}
 
 module _ (s : List ℕ) (bytes : Bytes s) {i p : Place} (b : BadByte s i p) (B : Begins s (p + 1)) where
   abbrev f : List ℕ
@@ -55,7 +55,7 @@ module _ (s : List ℕ) (bytes : Bytes s) {i p : Place} (b : BadByte s i p) (B :
 
   -- the file begins with what stands before the number
   goes : {x : List ℕ} → Through s i x → spell (its B) ≡ x ++ drop i f
-  goes t = its-file B i t (omega (arith, before))
+  goes t = its_file B i t (omega (arith, before))
 
   -- the arrows that are left of a word's own are small enough to be spelled
   left-small : {w : Word} {d : ℕ} {t : Step} {l : List Step} {j : Place} → ArrowsAt s w d (t ∷ l) j → SmallStep t
@@ -81,22 +81,22 @@ module _ (s : List ℕ) (bytes : Bytes s) {i p : Place} (b : BadByte s i p) (B :
   no_number (length_at h) q =
       let w = its B in
       let t = through-edition s bytes (rw q at h) in
-      none-stands (length w) (w ++ arrows_of w) (omega (arith, its-most B, words_fit))
-      (edition_begins w (its-most B) edition (drop i f) (omega (arith, edition-number)) (goes t)).1
+      none-stands (length w) (w ++ arrows_of w) (omega (arith, its_most B, words_fit))
+      (edition_begins w (its_most B) edition (drop i f) (omega (arith, edition-number)) (goes t)).1
   no_number (count_at {w = v} C) q =
       let w = its B in
       let t = rw q at (through-letters s bytes C) in
-      none-stands (length (own_steps w)) (spell_steps (own_steps w)) (omega (arith, own-few w, its-most B, words_fit))
-      (letters_begin w (its-most B) v (drop i f) C.most (goes t)).1
+      none-stands (length (own_steps w)) (spell_steps (own_steps w)) (omega (arith, own-few w, its_most B, words_fit))
+      (letters_begin w (its_most B) v (drop i f) C.most (goes t)).1
   no_number (first-at {w = v} {d = d} {l = l} A) q =
       let here : ArrowsAt s v (suc d) l i = rw q at A in
       let t = (through-arrows s bytes here).through in
-      no_first l here (goes_on s bytes here (its B) (its-most B) (drop i f) (goes t)).2
+      no_first l here (goes_on s bytes here (its B) (its_most B) (drop i f) (goes t)).2
   no_number (second_at {l = l} {i = j} {a = a} A h) q =
       let x = bytes_read s bytes A in
       let t = rw q at (on s bytes (through-arrows s bytes A).through h) in
       let e = goes t ∙ append_assoc x (spell_number a) (drop i f) in
-      no_second l A a (small s bytes j h) (goes_on s bytes A (its B) (its-most B) (spell_number a ++ drop i f) e).2
+      no_second l A a (small s bytes j h) (goes_on s bytes A (its B) (its_most B) (spell_number a ++ drop i f) e).2
 
   pub byte_wrong : NumberPlace s i → ⊥
   byte_wrong N = no_number N refl

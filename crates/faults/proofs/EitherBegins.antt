@@ -18,8 +18,8 @@ use Rattle.crc.proofs.Theorems.{sealed-append, sealed-length}
 use Rattle.editions.specs.Editions.{Edition, plain, checked, spell_in, SavedIn}
 use Rattle.editions.specs.Either.{as_plain, pair_at}
 use Rattle.editions.proofs.AsPlain.{plain-drop}
-use Rattle.editions.proofs.Files.{unsealed, unsealed_is, unsealed-length, spell_is, from-there, as_plain-drop, check_of_pair}
-use Rattle.editions.proofs.Files.{two-there, pair_of-check, plain-bytes}
+use Rattle.editions.proofs.Files.{unsealed, unsealed_is, unsealed-length, spell_is, from_there, as_plain-drop, check_of_pair}
+use Rattle.editions.proofs.Files.{two_there, pair_of-check, plain-bytes}
 use Rattle.faults.specs.Faults.{CountAt, ArrowsAt}
 use Rattle.faults.specs.Beginnings.{Begins}
 use Rattle.faults.specs.EitherFaults.{AllRead, BeginsIn, BeginsEither}
@@ -88,15 +88,15 @@ module _ (s : List ℕ) (two : at s 0 ≡ 2) where
   t = as_plain s 0
 
   s_is : s ≡ 2 ∷ drop 1 s
-  s_is = from-there s 0 two (omega arith)
+  s_is = from_there s 0 two (omega arith)
 
   t_is : t ≡ 1 ∷ drop 1 s
   t_is = as_plain-drop s 0 two
 
   -- the first p bytes of both, from those of the other
-  from-body : (p : Place) (v : Word) → take p t ≡ take p (spell v) → take p s ≡ take p (unsealed v)
-  from-body zero v e = refl
-  from-body (suc p) v e =
+  from_body : (p : Place) (v : Word) → take p t ≡ take p (spell v) → take p s ≡ take p (unsealed v)
+  from_body zero v e = refl
+  from_body (suc p) v e =
       let tails : take p (drop 1 s) ≡ take p (body v) =
       ap (drop 1) (sym (ap (take (suc p)) t_is) ∙ e ∙ ap (take (suc p)) (spell_is v)) in
       ap (take (suc p)) s_is ∙ ap (λ l. 2 ∷ l) tails ∙ sym (ap (take (suc p)) (unsealed_is v))
@@ -124,7 +124,7 @@ module _ (s : List ℕ) (two : at s 0 ≡ 2) where
         file = spell_in checked v;
         saved = record { word = v; savable = B.saved.savable; file = refl };
         inside = omega (arith, inside, sealed-length (unsealed v), unsealed-length v);
-        same = from-body p v same ∙ sym (sealed-front p v inside);
+        same = from_body p v same ∙ sym (sealed-front p v inside);
       }
 
   -- lowered to edition 1, as far as the check is not reached
@@ -247,7 +247,7 @@ module _ (s : List ℕ) (bytes : Bytes s) {w : Word} {p : Place} (A : AllRead s 
       let x = unsealed w in
       let pair = check_of_pair (at s p) (at s (p + 1)) (check x) (bytes p) (q ∙ ap check up_to-check) in
       let tail : drop p s ≡ low (check x) ∷ high (check x) ∷ drop (p + 2) s =
-      two-there s p h ∙ ap₂ (λ a b. a ∷ b ∷ drop (p + 2) s) pair.0 pair.1 in
+      two_there s p h ∙ ap₂ (λ a b. a ∷ b ∷ drop (p + 2) s) pair.0 pair.1 in
       let sealing : s ≡ spell_in checked w ++ drop (p + 2) s =
       whole.there ∙ ap (λ l. x ++ l) tail ∙ sym (sealed-append x (drop (p + 2) s)) in
       record {
@@ -260,8 +260,8 @@ module _ (s : List ℕ) (bytes : Bytes s) {w : Word} {p : Place} (A : AllRead s 
       }
 
   -- a file of edition 2 that begins so is that word's
-  only-own : {q : Place} → p ≤ q → (B : BeginsIn checked s q) → B.saved.word ≡ w
-  only-own {q} h B =
+  only_own : {q : Place} → p ≤ q → (B : BeginsIn checked s q) → B.saved.word ≡ w
+  only_own {q} h B =
       let v = B.saved.word in
       let f = spell_in checked v in
       let x = unsealed v in
@@ -278,7 +278,7 @@ module _ (s : List ℕ) (bytes : Bytes s) {w : Word} {p : Place} (A : AllRead s 
   pub check-wrong : (pair_at s p ≡ check (take p s) → ⊥) → BeginsIn checked s (p + 2) → ⊥
   check-wrong d B =
       let f = B.file in
-      let is : f ≡ spell_in checked w = B.saved.file ∙ ap (spell_in checked) (only-own (omega arith) B) in
+      let is : f ≡ spell_in checked w = B.saved.file ∙ ap (spell_in checked) (only_own (omega arith) B) in
       let same : (j : ℕ) → j < p + 2 → at s j ≡ at f j =
       λ j h. sym (get_or-take (p + 2) s j 0 h) ∙ ap (λ l. at l j) B.same ∙ get_or-take (p + 2) f j 0 h in
       let size : length (unsealed w) ≡ p = unsealed-length w ∙ sym whole.size in
@@ -289,5 +289,5 @@ module _ (s : List ℕ) (bytes : Bytes s) {w : Word} {p : Place} (A : AllRead s 
 
   pub left-wrong : BeginsIn checked s (p + 3) → ⊥
   left-wrong B =
-      let same = only-own (omega arith) B in
+      let same = only_own (omega arith) B in
       omega (arith, B.inside, ap {B = ℕ} length (B.saved.file ∙ ap (spell_in checked) same), own-size)

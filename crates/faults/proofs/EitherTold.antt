@@ -29,7 +29,7 @@ use Rattle.answers.specs.Answers.{Answer, refused_at}
 use Rattle.mark_files.specs.Load
 use Rattle.mark_files.specs.Load.{load_says}
 use Rattle.mark_files.specs.Cases.{LoadCase}
-use Rattle.mark_files.proofs.LoadSays.{load_is, load-answers}
+use Rattle.mark_files.proofs.LoadSays.{load_is, load_answers}
 use Rattle.faults.specs.Faults.{CountAt, bytes_left}
 use Rattle.faults.specs.EitherFaults.{AllRead, FaultEither, in_edition_1, up_to_arrows, check_cut, check_differs, bytes_behind}
 use Rattle.faults.proofs.Shown.{Fault, front_fault, count-place, ending_fault, ending-read}
@@ -91,28 +91,28 @@ module _ (s : List ℕ) where
     counted : CountAt t w (i + m)
     counted = count-place f
 
-    on-plain : {e : Ending} → EndingCase s (i + m) w e → EndingCase t (i + m) w e
-    on-plain {e} E = (ending_is t (i + m) w e).0 (plain-ending s 0 (i + m) w after ∙ (ending_is s (i + m) w e).1 E)
+    on_plain : {e : Ending} → EndingCase s (i + m) w e → EndingCase t (i + m) w e
+    on_plain {e} E = (ending_is t (i + m) w e).0 (plain-ending s 0 (i + m) w after ∙ (ending_is s (i + m) w e).1 E)
 
     ending-broken : {r : ℕ} {p : Place} → EndingEither s 0 (i + m) w (broken r p) → Broken s r p
-    ending-broken (arrows_broken E) = let E' = on-plain E in either_way (ending_fault counted E') (ending_not_11 E')
-    ending-broken (Ways.check_cut E two h) = (_, check_cut (two, ending-read counted (on-plain E)) h)
+    ending-broken (arrows_broken E) = let E' = on_plain E in either_way (ending_fault counted E') (ending_not_11 E')
+    ending-broken (Ways.check_cut E two h) = (_, check_cut (two, ending-read counted (on_plain E)) h)
     ending-broken (Ways.check_differs {p = p} E two h d) =
-        (_, check_differs (two, ending-read counted (on-plain E)) h (λ q. d (q ∙ ap check (sym (whole_part p)))))
+        (_, check_differs (two, ending-read counted (on_plain E)) h (λ q. d (q ∙ ap check (sym (whole_part p)))))
 
     left-broken : {e : Place} → EndingEither s 0 (i + m) w (behind e) → e < length s → Broken s 11 e
     left-broken (plain_end {p = p} E d) h =
-        let A = rw (as_other s 0 d) at (ending-read counted (on-plain E)) in
+        let A = rw (as_other s 0 d) at (ending-read counted (on_plain E)) in
         (p + 1, in_edition_1 d (bytes_left A h))
     left-broken (Ways.check_agrees {p = p} E two k q) h =
-        (p + 3, bytes_behind (two, ending-read counted (on-plain E)) (q ∙ ap check (whole_part p)) h)
+        (p + 3, bytes_behind (two, ending-read counted (on_plain E)) (q ∙ ap check (whole_part p)) h)
 
     verdict-broken : {r : ℕ} {p : Place} → VerdictEither s (i + m) w (wrong r p) → Broken s r p
     verdict-broken (ending_wrong E) = ending-broken E
     verdict-broken (bytes_follow E h) = left-broken E h
 
   pub load_fault : (R T : List ℕ) {r : ℕ} {p : Place} → (load_says s R T).answer ≡ refused_at r p → (q : Place) × FaultEither s r p q
-  load_fault R T {r} {p} e = by ((load-answers s R T (refused_at r p)).0 e).2
+  load_fault R T {r} {p} e = by ((load_answers s R T (refused_at r p)).0 e).2
     where
       by : {R' T' : List ℕ} → LoadCase s R T (Load.outcome (refused_at r p) R' T') → Broken s r p
       by (LoadCase.head_refused f) = either_way (front_fault f) (front_not_11 f)
@@ -139,8 +139,8 @@ module _ (s R T : List ℕ) (fits : longest_word ≤ length R) (enough : room lo
     own : w ≡ part s i (length w)
     own = C.letters ∙ plain-part s 0 i (length w) edition-before
 
-    on-file : {e : Ending} → EndingCase u c w e → EndingCase s c w e
-    on-file {e} E =
+    on_file : {e : Ending} → EndingCase u c w e → EndingCase s c w e
+    on_file {e} E =
         let behind-edition : 0 < c = omega (arith, C.place, edition-before) in
         (ending_is s c w e).0 (sym (plain-ending s 0 c w behind-edition) ∙ (ending_is u c w e).1 E)
 
@@ -154,14 +154,14 @@ module _ (s R T : List ℕ) (fits : longest_word ≤ length R) (enough : room lo
   -- as edition 1 shows it, with bytes behind the arrows where there is no check
   plainly_told : {r : ℕ} {p : Place} → (r ≡ 11 → at s 0 ≡ 2 → ⊥) → Tells u r p → (load_says s R T).answer ≡ refused_at r p
   plainly_told other (before_letters f) = ap (λ o. o.answer) ((load_is s R T _).1 (LoadCase.head_refused f))
-  plainly_told other (behind-letters C (arrows_wrong E)) = behind-told C (ending_wrong (arrows_broken (on-file C E)))
+  plainly_told other (behind-letters C (arrows_wrong E)) = behind-told C (ending_wrong (arrows_broken (on_file C E)))
   plainly_told other (behind-letters C (leftovers {p = p} E h)) =
-      behind-told C (bytes_follow (plain_end (on-file C E) (other refl)) (rw (plain-length s 0) at h))
+      behind-told C (bytes_follow (plain_end (on_file C E) (other refl)) (rw (plain-length s 0) at h))
 
   -- all arrows are right, and then the check decides
   check-told : {w : Word} {k : Place} {r : ℕ} {p : Place} → AllRead s w k
       → ((c : Place) → EndingCase s c w (behind k) → VerdictEither s c w (wrong r p)) → (load_says s R T).answer ≡ refused_at r p
-  check-told A way = let E = arrows-ending A.1 all_agree in behind-told E.1 (way E.0 (on-file E.1 E.2))
+  check-told A way = let E = arrows-ending A.1 all_agree in behind-told E.1 (way E.0 (on_file E.1 E.2))
 
   told : {r : ℕ} {p q : Place} → FaultEither s r p q → (load_says s R T).answer ≡ refused_at r p
   told (in_edition_1 d F) = plainly_told (λ e. d) (rw (as_other s 0 d) (fault_tells F))

@@ -22,11 +22,11 @@ module _ {s : List ℕ} {q : Place} (B : Begins s q) where
   abbrev pub its : Word
   its = B.saved.word
 
-  pub its-most : length its ≤ longest_word
-  its-most = B.saved.savable.most
+  pub its_most : length its ≤ longest_word
+  its_most = B.saved.savable.most
 
-  pub its-file : (p : Place) {x : List ℕ} → Through s p x → p ≤ q → spell its ≡ x ++ drop p B.file
-  its-file p t h = sym B.saved.file ∙ begins_with t h B
+  pub its_file : (p : Place) {x : List ℕ} → Through s p x → p ≤ q → spell its ≡ x ++ drop p B.file
+  its_file p t h = sym B.saved.file ∙ begins_with t h B
 
 module _ (s : List ℕ) (bytes : Bytes s) where
   -- ── The word that the file shows ─────────────────────────────────────────

@@ -68,27 +68,27 @@ module _ (s : List ℕ) where
   ten_behind (bytes_left A h) e = absurd (omega arith)
 
   -- 5 shows at the end, and all others before it, but for missing arrows
-  pub cut-at_the_end : {r : ℕ} {p q : Place} → FaultAt s r p q → r ≡ 5 → p ≡ length s
-  cut-at_the_end (number_cut N c) e = refl
-  cut-at_the_end (letters_cut h g l k d) e = refl
-  cut-at_the_end (byte_refused N b) e = absurd (omega arith)
-  cut-at_the_end (other_edition h d) e = absurd (omega arith)
-  cut-at_the_end (bad_length h g d) e = absurd (omega arith)
-  cut-at_the_end (bad_count C h d) e = absurd (omega arith)
-  cut-at_the_end (other_arrow A h g d) e = absurd (omega arith)
-  cut-at_the_end (no_arrow_left A h g) e = absurd (omega arith)
-  cut-at_the_end (arrows_missing A) e = absurd (omega arith)
-  cut-at_the_end (bytes_left A h) e = absurd (omega arith)
+  pub cut_at_the_end : {r : ℕ} {p q : Place} → FaultAt s r p q → r ≡ 5 → p ≡ length s
+  cut_at_the_end (number_cut N c) e = refl
+  cut_at_the_end (letters_cut h g l k d) e = refl
+  cut_at_the_end (byte_refused N b) e = absurd (omega arith)
+  cut_at_the_end (other_edition h d) e = absurd (omega arith)
+  cut_at_the_end (bad_length h g d) e = absurd (omega arith)
+  cut_at_the_end (bad_count C h d) e = absurd (omega arith)
+  cut_at_the_end (other_arrow A h g d) e = absurd (omega arith)
+  cut_at_the_end (no_arrow_left A h g) e = absurd (omega arith)
+  cut_at_the_end (arrows_missing A) e = absurd (omega arith)
+  cut_at_the_end (bytes_left A h) e = absurd (omega arith)
 
-  pub others-before_the_end : {r : ℕ} {p q : Place} → FaultAt s r p q → (r ≡ 5 → ⊥)
+  pub others_before_the_end : {r : ℕ} {p q : Place} → FaultAt s r p q → (r ≡ 5 → ⊥)
       → (p < length s) ⊎ ((w : Word) × (t : Step) × (l : List Step) × ArrowsAt s w 0 (t ∷ l) p)
-  others-before_the_end (number_cut N c) other = absurd (other refl)
-  others-before_the_end (letters_cut h g l k d) other = absurd (other refl)
-  others-before_the_end (byte_refused N b) other = inl b.inside
-  others-before_the_end (other_edition h d) other = inl (before 0 h)
-  others-before_the_end (bad_length {p = p} h g d) other = inl (before p g)
-  others-before_the_end (bad_count {p = p} C h d) other = inl (before p h)
-  others-before_the_end (other_arrow {p = p} {j = j} A h g d) other = inl (omega (arith, before p h, before j g))
-  others-before_the_end (no_arrow_left {p = p} A h g) other = inl (before p h)
-  others-before_the_end (arrows_missing {w = w} {t = t} {l = l} A) other = inr (w, t, l, A)
-  others-before_the_end (bytes_left A h) other = inl h
+  others_before_the_end (number_cut N c) other = absurd (other refl)
+  others_before_the_end (letters_cut h g l k d) other = absurd (other refl)
+  others_before_the_end (byte_refused N b) other = inl b.inside
+  others_before_the_end (other_edition h d) other = inl (before 0 h)
+  others_before_the_end (bad_length {p = p} h g d) other = inl (before p g)
+  others_before_the_end (bad_count {p = p} C h d) other = inl (before p h)
+  others_before_the_end (other_arrow {p = p} {j = j} A h g d) other = inl (omega (arith, before p h, before j g))
+  others_before_the_end (no_arrow_left {p = p} A h g) other = inl (before p h)
+  others_before_the_end (arrows_missing {w = w} {t = t} {l = l} A) other = inr (w, t, l, A)
+  others_before_the_end (bytes_left A h) other = inl h

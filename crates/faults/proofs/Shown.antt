@@ -20,7 +20,7 @@ use Rattle.mark_files.specs.SearchFile
 use Rattle.mark_files.specs.SearchFile.{search_file_says}
 use Rattle.mark_files.specs.Cases.{SearchFileCase}
 use Rattle.mark_files.proofs.LoadSays.{load_is}
-use Rattle.mark_files.proofs.SearchFileSays.{search-file_is}
+use Rattle.mark_files.proofs.SearchFileSays.{search_file_is}
 use Rattle.faults.specs.Faults.{CountAt, ArrowsAt, none_read, one-read}
 use Rattle.faults.specs.Faults.{NumberPlace, on_edition_at, length_at, count_at, first-at, second_at}
 use Rattle.faults.specs.Faults.{FaultAt, number_cut, letters_cut, byte_refused, other_edition, bad_length, bad_count, other_arrow}
@@ -85,9 +85,9 @@ module _ {s : List ℕ} where
 -- ── Searching ──────────────────────────────────────────────────────────────
 
 -- a search with a file tells what loading tells
-pub search-load : (s : List ℕ) (text : Word) (R T : List ℕ) (F : List Place) {r : ℕ} {p : Place}
+pub search_load : (s : List ℕ) (text : Word) (R T : List ℕ) (F : List Place) {r : ℕ} {p : Place}
     → (search_file_says s text R T F).answer ≡ refused_at r p → (load_says s R T).answer ≡ refused_at r p
-search-load s text R T F {r} {p} = by ((search-file_is s text R T F _).0 refl)
+search_load s text R T F {r} {p} = by ((search_file_is s text R T F _).0 refl)
   where
     by : {o : SearchFile.Outcome} → SearchFileCase s text R T F o → o.answer ≡ refused_at r p → (load_says s R T).answer ≡ refused_at r p
     by (SearchFileCase.on_long_text h) e = let z : ◌≡◌ {A = ℕ} 0 1 = cc in absurd (omega arith)

@@ -21,7 +21,7 @@ use Rattle.faults.specs.Beginnings.{Begins, Declares}
 use Rattle.faults.proofs.Through.{Through, up_to_count, start, on, small, through-edition, through-letters, through-arrows}
 use Rattle.faults.proofs.Through.{begins, begins_with}
 use Rattle.faults.proofs.Spelled.{arrows_of, edition_begins, length_begins, spell-parts, arrows_begin, arrow_begins}
-use Rattle.faults.proofs.GoingOn.{its, its-most, its-file, shown-saved, counted, bytes_read, goes_on, begins_so}
+use Rattle.faults.proofs.GoingOn.{its, its_most, its_file, shown-saved, counted, bytes_read, goes_on, begins_so}
 use Rattle.faults.proofs.BadBytes.{byte_wrong}
 
 module _ (s : List ℕ) (bytes : Bytes s) where
@@ -49,7 +49,7 @@ module _ (s : List ℕ) (bytes : Bytes s) where
         R.n,
         R.declared,
         (
-          λ B. (goes_on s bytes A (its B) (its-most B) (drop p B.file) (its-file B p R.through (omega arith))).1,
+          λ B. (goes_on s bytes A (its B) (its_most B) (drop p B.file) (its_file B p R.through (omega arith))).1,
           λ e. begins R.through (spell_steps l) (shown-saved s bytes (counted s bytes A)) (begins_so s bytes A e),
         ),
       )
@@ -93,7 +93,7 @@ module _ (s : List ℕ) (bytes : Bytes s) where
   edition-wrong : {e : ℕ} {q : Place} → Reads s 0 e q → (e ≡ edition → ⊥) → Begins s q → ⊥
   edition-wrong {e} {q} h d B =
       let t : Through s q (spell_number e) = on s bytes (start s bytes) h in
-      d (sym (edition_begins (its B) (its-most B) e (drop q B.file) (small s bytes 0 h) (its-file B q t (omega arith))).0)
+      d (sym (edition_begins (its B) (its_most B) e (drop q B.file) (small s bytes 0 h) (its_file B q t (omega arith))).0)
 
   length-wrong : {p : Place} {m : ℕ} {q : Place} → LengthAt s p → Reads s p m q → BadLength m → Begins s q → ⊥
   length-wrong {p} {m} {q} h g d B =
@@ -102,9 +102,9 @@ module _ (s : List ℕ) (bytes : Bytes s) where
       let y = drop q B.file in
       let E = spell_number edition in
       let M = spell_number m in
-      let first = edition_begins w (its-most B) edition (M ++ y) (small s bytes 0 h) (its-file B q t (omega arith) ∙ append_assoc E M y) in
-      let same : length w ≡ m = (length_begins w (its-most B) m y (small s bytes p g) first.1).0 in
-      clash (rw same at B.saved.savable.least) (rw same at (its-most B)) d
+      let first = edition_begins w (its_most B) edition (M ++ y) (small s bytes 0 h) (its_file B q t (omega arith) ∙ append_assoc E M y) in
+      let same : length w ≡ m = (length_begins w (its_most B) m y (small s bytes p g) first.1).0 in
+      clash (rw same at B.saved.savable.least) (rw same at (its_most B)) d
     where
       clash : least_saved ≤ m → m ≤ longest_word → BadLength m → ⊥
       clash a b (inl c) = omega arith
@@ -118,9 +118,9 @@ module _ (s : List ℕ) (bytes : Bytes s) where
       let y = drop q B.file in
       let N = spell_number n in
       let begun : spell v ≡ ((up_to_count w ++ N) ++ []) ++ y =
-      its-file B q t (omega arith)
+      its_file B q t (omega arith)
       ∙ ap (λ x. x ++ y) (sym (append-nil (up_to_count w ++ N))) in
-      let same = (arrows_begin v (its-most B) w n [] (own_steps w) C.most (small s bytes p h) refl y begun).1 in
+      let same = (arrows_begin v (its_most B) w n [] (own_steps w) C.most (small s bytes p h) refl y begun).1 in
       omega (arith, same, own-few w)
 
   -- two numbers behind the arrows that were read would be the word's next
@@ -134,7 +134,7 @@ module _ (s : List ℕ) (bytes : Bytes s) where
       let split : ((x ++ spell_number a) ++ spell_number b) ++ y ≡ x ++ (spell_number a ++ (spell_number b ++ y)) =
       append_assoc (x ++ spell_number a) (spell_number b) y
       ∙ append_assoc x (spell_number a) (spell_number b ++ y) in
-      (goes_on s bytes A (its B) (its-most B) (spell_number a ++ (spell_number b ++ y)) (its-file B q t (omega arith) ∙ split)).2
+      (goes_on s bytes A (its B) (its_most B) (spell_number a ++ (spell_number b ++ y)) (its_file B q t (omega arith) ∙ split)).2
 
   arrow-wrong : {w : Word} {d : ℕ} {t : Step} {l : List Step} {p : Place} {a : ℕ} {j : Place} {b : ℕ} {q : Place}
       → ArrowsAt s w (suc d) (t ∷ l) p → Reads s p a j → Reads s j b q → (a ≡ t.up → b ≡ t.over → ⊥) → Begins s q → ⊥
@@ -155,7 +155,7 @@ module _ (s : List ℕ) (bytes : Bytes s) where
   missing-wrong : {w : Word} {t : Step} {l : List Step} {p : Place} → ArrowsAt s w 0 (t ∷ l) p → Begins s p → ⊥
   missing-wrong {w} {t} {l} {p} A B =
       let R = through-arrows s bytes A in
-      let same = (goes_on s bytes A (its B) (its-most B) (drop p B.file) (its-file B p R.through (omega arith))).1 in
+      let same = (goes_on s bytes A (its B) (its_most B) (drop p B.file) (its_file B p R.through (omega arith))).1 in
       omega (arith, same, R.count, ap {B = ℕ} length R.own, length-append R.r (t ∷ l))
 
   left-wrong : {w : Word} {p : Place} → ArrowsAt s w 0 [] p → Begins s (p + 1) → ⊥
@@ -163,7 +163,7 @@ module _ (s : List ℕ) (bytes : Bytes s) where
   left-wrong {w} {p} A B =
       let t = (through-arrows s bytes A).through in
       let y = drop p B.file in
-      let none = (goes_on s bytes A (its B) (its-most B) y (its-file B p t (omega arith))).2 in
+      let none = (goes_on s bytes A (its B) (its_most B) y (its_file B p t (omega arith))).2 in
       let size = ap {B = ℕ} length (begins_with t (omega arith) B) in
       omega (arith, B.inside, size, length-append (bytes_read s bytes A) y, ap {B = ℕ} length none, t.size)
 

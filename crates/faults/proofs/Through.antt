@@ -52,8 +52,8 @@ module _ (s : List ℕ) (bytes : Bytes s) where
   pub small : (i : Place) {v : ℕ} {j : Place} → Reads s i v j → v ≤ greatest
   small i h = (number_at_stood s i bytes h).small
 
-  on-letters : {i : Place} {x : List ℕ} (m : ℕ) → Through s i x → i + m ≤ length s → Through s (i + m) (x ++ part s i m)
-  on-letters {i} {x} m t d =
+  on_letters : {i : Place} {x : List ℕ} (m : ℕ) → Through s i x → i + m ≤ length s → Through s (i + m) (x ++ part s i m)
+  on_letters {i} {x} m t d =
       record {
         whole = t.whole
             ∙ ap (λ y. x ++ y) (sym (take-append-drop m (drop i s)) ∙ ap (λ y. part s i m ++ y) (drop-drop m i s))
@@ -70,7 +70,7 @@ module _ (s : List ℕ) (bytes : Bytes s) where
   through-letters {w} {p} C =
       let t = on (on start C.length_at) C.length_read in
       let h : C.letters_place + length w ≤ length s = omega (arith, C.place, C.inside) in
-      rw (← C.place, ← C.letters) at (on-letters (length w) t h)
+      rw (← C.place, ← C.letters) at (on_letters (length w) t h)
 
   -- n arrows are declared; those that were read are r, and stand before p
   pub record ReadBefore (w : Word) (d : ℕ) (l : List Step) (p : Place) : Type 0 where

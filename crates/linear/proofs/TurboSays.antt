@@ -16,7 +16,7 @@ use Rattle.table.proofs.Theorems.{table-size, table-arrow}
 use Rattle.table.proofs.Formed.{table-formed}
 use Rattle.turbo_steps.specs.Turbo.{turbo_steps, turbo}
 use Rattle.turbo_steps.proofs.Windows.{steps-same}
-use Rattle.turbo_steps.proofs.Theorems.{turbo-lists-occurrences, turbo-letters-most}
+use Rattle.turbo_steps.proofs.Theorems.{turbo-lists-occurrences, turbo_letters_most}
 use Rattle.search.specs.Answers.{tally_of}
 use Rattle.finds.specs.declared.Tally.{Tally}
 use Rattle.finds.specs.Finds.{filled}
@@ -101,8 +101,8 @@ module _ (word text : Word) (T : List ℕ) (F : List Place) where
       by (refused_at n p) e = e
 
   -- at most 2n letters are read
-  pub letters-most : 1 ≤ m → (found word text).letters ≤ 2 * length text
-  letters-most h = turbo-letters-most word text h
+  pub letters_most : 1 ≤ m → (found word text).letters ≤ 2 * length text
+  letters_most h = turbo_letters_most word text h
 
   -- ── What the code's scan comes to ────────────────────────────────────────
 
@@ -114,11 +114,11 @@ module _ (word text : Word) (T : List ℕ) (F : List Place) where
       (λ x c. rw (length-reverse word) at (table-arrow (mirror word) x c))
 
   -- the room that was filled with P, R being what stands behind it
-  module _ {P : List ℕ} (R : List ℕ) (Filled-in : P ≡ table_of (mirror word)) where
+  module _ {P : List ℕ} (R : List ℕ) (filled_in : P ≡ table_of (mirror word)) where
     lent-table : take (room m) (P ++ R) ≡ table_of (mirror word)
     lent-table =
-        let size : length P ≡ room m = ap length Filled-in ∙ table-size (mirror word) ∙ ap room (length-reverse word) in
-        take_at P R (room m) size ∙ Filled-in
+        let size : length P ≡ room m = ap length filled_in ∙ table-size (mirror word) ∙ ap room (length-reverse word) in
+        take_at P R (room m) size ∙ filled_in
 
     pub lent-formed : m < 65535 → Formed (take (room m) (P ++ R)) m
     lent-formed h = rw (lent-table, ← length-reverse word) (table-formed (mirror word) (rw (length-reverse word) h))
@@ -128,7 +128,7 @@ module _ (word text : Word) (T : List ℕ) (F : List Place) where
         → F' ≡ filled (turbo_steps (read_arrow m (take (room m) (P ++ R))) word text).starts F
         → outcome (done t) (P ++ drop (room m) T) F'
         ≡ outcome (done (found word text)) (table_of (mirror word) ++ drop (room m) T) (filled (occurrences word text) F)
-    scan_counts h t f = rw (t, f, lent-table, Filled-in, table-steps, turbo-lists-occurrences word text h)
+    scan_counts h t f = rw (t, f, lent-table, filled_in, table-steps, turbo-lists-occurrences word text h)
 
 -- ── One outcome ────────────────────────────────────────────────────────────
 

@@ -3,7 +3,7 @@
 --
 --   found word text          how often the word stands in the text, and the letters that the Turbo steps read
 --   counting f a             the answer a, with f as what was found
---   turbo_says word text T F  the outcome
+--   turbo_says word text T F the outcome
 --
 -- 02, 'Linear on hostile text'; 01, 'When the library says no'.
 use Rattle.std.specs.Prelude.{List, ℕ, length}

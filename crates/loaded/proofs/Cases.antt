@@ -11,8 +11,8 @@ use lib.Dec.{eqb, leb, ltb}
 use borrow.Author.Tests.{eqb-true, eqb-false, leb-true, leb-false, ltb-true, ltb-false, eq-eqb, ne_eqb, le-leb, lt-leb, lt-ltb, le-ltb}
 use Rattle.words.specs.Words.{Word, Place}
 use Rattle.words.specs.Limits.{least_saved, longest_word}
-use Rattle.words.proofs.Lists.{and-true}
-use Rattle.words.proofs.Limits.{least-below-longest}
+use Rattle.words.proofs.Lists.{and_true}
+use Rattle.words.proofs.Limits.{least_below_longest}
 use Rattle.number.specs.declared.Number.{Number}
 use Rattle.number.specs.declared.Number.TheVariants.{Value, Refused}
 use Rattle.number.specs.Number.{number_at}
@@ -104,7 +104,7 @@ module _ (s : List ℕ) where
   case_front (length_unread h u) = rw (h, eq-eqb edition edition refl, unread s _ u)
   case_front (length_bad {m = m} h k (inl z)) = rw (h, eq-eqb edition edition refl, k, lt-leb least_saved m z)
   case_front (length_bad {m = m} h k (inr z)) =
-      rw (h, eq-eqb edition edition refl, k, le-leb least_saved m (omega (arith, least-below-longest)), lt-leb m longest_word z)
+      rw (h, eq-eqb edition edition refl, k, le-leb least_saved m (omega (arith, least_below_longest)), lt-leb m longest_word z)
   case_front (letters_missing {m = m} {j = j} h k a b c) =
       rw (h, eq-eqb edition edition refl, k, le-leb least_saved m a, le-leb m longest_word b, lt-leb (j + m) (length s) c)
   case_front (letters-there {m = m} {j = j} h k a b c) =
@@ -131,7 +131,7 @@ module _ (s : List ℕ) where
       (λ a j b k h g. no_arrow_left h g)
   arrows_case i (suc n) (t ∷ l) =
       two_case (ArrowsCase s i (suc n) (t ∷ l)) i broken _ (λ r p u. up_unread u) (λ a j r p h u. over_unread h u) (λ a j b k h g.
-      test_case (ArrowsCase s i (suc n) (t ∷ l)) (next_is a b (t ∷ l)) (λ e. let q = and-true {a = eqb a t.up} e in
+      test_case (ArrowsCase s i (suc n) (t ∷ l)) (next_is a b (t ∷ l)) (λ e. let q = and_true {a = eqb a t.up} e in
       arrow_agrees (rw (eqb-true a t.up q.0) at h) (rw (eqb-true b t.over q.1) at g) (arrows_case k n l))
       (λ e. arrow_differs h g (next_differs a b t e)))
 

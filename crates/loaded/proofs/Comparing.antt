@@ -84,8 +84,8 @@ module _ {w : Word} {s : List ℕ} {i n j left slot : ℕ} {x : State} (C : Comp
 
       module _ {r : Leap} (L : Leapt w x slot r) where
         -- the word's own is another
-        pub shows-other : eqb a r.up && eqb b r.over ≡ false → Shown (broken 10 j)
-        shows-other off = shown (turn ∙ simp (L.next, off))
+        pub shows_other : eqb a r.up && eqb b r.over ≡ false → Shown (broken 10 j)
+        shows_other off = shown (turn ∙ simp (L.next, off))
 
         -- it is the same
         pub compare_next : eqb a r.up && eqb b r.over ≡ true → Comparing w s i n k (left - 1) (slot + 1) r.source.0

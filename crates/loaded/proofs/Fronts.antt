@@ -9,7 +9,7 @@ use lib.ListN.{length}
 use lib.Dec.{leb}
 use borrow.Author.Tests.{le-leb, lt-leb, leb-true}
 use Rattle.words.specs.Limits.{least_saved, longest_word}
-use Rattle.words.proofs.Lists.{and-true}
+use Rattle.words.proofs.Lists.{and_true}
 use Rattle.words.proofs.Limits.{saved-some}
 use Rattle.number.specs.declared.Cursor.{Cursor}
 use Rattle.number.specs.declared.Number.TheVariants.{Value}
@@ -22,8 +22,8 @@ use Rattle.loaded.specs.Load.{Front, letters, stop, letters_at, front_at, front}
 
 module _ (s : List ℕ) (i : ℕ) {m : ℕ} {c : Cursor} (read : number_at s i ≡ Value m c) where
   -- it is below the least or above the greatest
-  pub shows-other-size : leb least_saved m && leb m longest_word ≡ false → stop 8 i ≡ letters_at s i
-  shows-other-size off = simp (read, off)
+  pub shows_other_size : leb least_saved m && leb m longest_word ≡ false → stop 8 i ≡ letters_at s i
+  shows_other_size off = simp (read, off)
 
   module _ (sized : leb least_saved m && leb m longest_word ≡ true) where
     -- the file ends before the last of the letters
@@ -33,7 +33,7 @@ module _ (s : List ℕ) (i : ℕ) {m : ℕ} {c : Cursor} (read : number_at s i �
     -- the letters are there
     pub shows-letters : m ≤ length s - c.at → letters m c.at ≡ letters_at s i
     shows-letters there =
-        let some : 1 ≤ m = omega (arith, saved-some, leb-true least_saved m (and-true {a = leb least_saved m} sized).0) in
+        let some : 1 ≤ m = omega (arith, saved-some, leb-true least_saved m (and_true {a = leb least_saved m} sized).0) in
         simp (read, sized, le-leb (c.at + m) (length s) (omega arith))
 
 -- ── What a caller has ──────────────────────────────────────────────────────

@@ -1,9 +1,9 @@
 -- What the answers of code mean: for each case of an enum, what a file shows.
 --
---   head_of r       a file up to its letters
---   pair_of r       two numbers
---   ending_of r     where its arrows end, which are the word's own
---   verdict_of r    the same where nothing may follow
+--   head_of r      a file up to its letters
+--   pair_of r      two numbers
+--   ending_of r    where its arrows end, which are the word's own
+--   verdict_of r   the same where nothing may follow
 use Rattle.loaded.specs.Load.{Front, letters, stop, Two, both, neither, Ending, behind, broken, Verdict, right, wrong}
 use Rattle.loaded.specs.declared.Head.{Head}
 use Rattle.loaded.specs.declared.Head.TheVariants.{Letters, Stop}

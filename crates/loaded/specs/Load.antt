@@ -5,19 +5,19 @@
 --   taking n off on      the answer n on a number: `on` its value and the next place, or `off` the refusal and where it shows
 --   field s i off on     the same of the number at place i of the file s
 --   Front                the number of letters and where they stand, or a refusal
---   letters_within n s i  what s shows at place i, where the number of letters stands, if a word may have n letters
---   letters_at s i        the same with the limit that there is
---   front_within n s o    what the file that stands in s from place o on shows up to its letters, if a word may have n letters
---   front_at s o          the same with the limit that there is
+--   letters_within n s i what s shows at place i, where the number of letters stands, if a word may have n letters
+--   letters_at s i       the same with the limit that there is
+--   front_within n s o   what the file that stands in s from place o on shows up to its letters, if a word may have n letters
+--   front_at s o         the same with the limit that there is
 --   front s              the same of a file that is all of s
 --   Two                  two numbers and the next place, or a refusal
---   two_at s i            what s shows at place i
+--   two_at s i           what s shows at place i
 --   Ending               the place behind a file, whose arrows are the word's own, or a refusal; what follows is not judged
---   next_is a b l         whether the numbers a and b are those of the first of the arrows l
+--   next_is a b l        whether the numbers a and b are those of the first of the arrows l
 --   later l              the arrows behind the first
 --   none_left l          whether there are none
---   taking_two t off on   what `taking` is to one number, to two
---   arrows_at s i n l     n declared arrows from place i on, against the word's own that are left, l
+--   taking_two t off on  what `taking` is to one number, to two
+--   arrows_at s i n l    n declared arrows from place i on, against the word's own that are left, l
 --   ending s i w         what s shows from place i on, where the number of arrows stands, for the word w
 --   Verdict              whether a file's arrows are the word's own, and nothing follows
 --   closed s e           what an ending comes to where nothing may follow the file

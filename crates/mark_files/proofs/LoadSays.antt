@@ -120,9 +120,9 @@ module _ (file R T : List ℕ) where
   load_is o = (λ e. rw e at case, given)
 
   -- so each answer, and each number among them, is given exactly when a case that has it applies
-  pub load-answers : (a : Answer ℕ)
+  pub load_answers : (a : Answer ℕ)
       → ((load_says file R T).answer ≡ a) ↔ ((R' : List ℕ) × (T' : List ℕ) × LoadCase file R T (outcome a R' T'))
-  load-answers a = (λ e. (_, _, rw e at ((load_is _).0 refl)), λ c. ap (λ o. o.answer) (given c.2))
+  load_answers a = (λ e. (_, _, rw e at ((load_is _).0 refl)), λ c. ap (λ o. o.answer) (given c.2))
 
   pub refusal_leaves : (Succeeds (load_says file R T).answer → ⊥) → AfterRefusal R T (load_says file R T).word (load_says file R T).tables
   refusal_leaves = by case

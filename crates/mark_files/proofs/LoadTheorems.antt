@@ -31,8 +31,8 @@ use Rattle.mark_files.specs.Load.{Outcome, outcome, judged, letters_read, load_w
 use Rattle.mark_files.specs.Save.{save_in}
 use Rattle.mark_files.specs.Cases.{LoadCase}
 use Rattle.mark_files.proofs.SaveSays.{done-leaves}
-use Rattle.mark_files.proofs.SamePlace.{letters-same-place, edition-one_byte, edition-plain}
-use Rattle.mark_files.proofs.LoadSays.{shown_front, put, says-stop, says-judged, load_is, load-answers}
+use Rattle.mark_files.proofs.SamePlace.{letters-same-place, edition_one_byte, edition-plain}
+use Rattle.mark_files.proofs.LoadSays.{shown_front, put, says-stop, says-judged, load_is, load_answers}
 
 -- what an outcome with m letters hands over of the file s
 pub record Handed (s : List ℕ) (o : Outcome) (m : ℕ) : Type 0 where
@@ -87,13 +87,13 @@ module _ (R T : List ℕ) where
         by (inr q) = ap (λ o. o.answer) (says-shown q h t)
 
     -- one that goes on is refused with 11, which shows where the word's file ends
-    pub longer-refused_11 : (b : ℕ) (l : List ℕ) → (load_says (spell_in e w ++ b ∷ l) R T).answer ≡ refused_at 11 (length (spell_in e w))
-    longer-refused_11 b l = ap (λ o. o.answer) (says-shown (longer-refused w least most e b l) h t)
+    pub longer_refused_11 : (b : ℕ) (l : List ℕ) → (load_says (spell_in e w ++ b ∷ l) R T).answer ≡ refused_at 11 (length (spell_in e w))
+    longer_refused_11 b l = ap (λ o. o.answer) (says-shown (longer-refused w least most e b l) h t)
 
   -- whatever is accepted is the file of a word of m letters, and there was room for it
   pub loaded_files : (s : List ℕ) → Bytes s → {m : ℕ} → (load_says s R T).answer ≡ done m
       → (w : Word) × FileIn (edition_at s 0) s w × (m ≡ length w) × (length w ≤ length R) × (room (length w) ≤ length T)
-  loaded_files s bytes e = by ((load-answers s R T (done _)).0 e).2
+  loaded_files s bytes e = by ((load_answers s R T (done _)).0 e).2
     where
       by : {m : ℕ} {R' T' : List ℕ} → LoadCase s R T (outcome (done m) R' T')
           → (w : Word) × FileIn (edition_at s 0) s w × (m ≡ length w) × (length w ≤ length R) × (room (length w) ≤ length T)
@@ -164,22 +164,22 @@ module _ (R T : List ℕ) where
   pub bad-length-one : (s : List ℕ) {i m j : ℕ} → EditionRead s i → Reads s i m j → BadLength m
       → load_says s R T ≡ outcome (refused_at 8 i) R T
   bad-length-one s {i} a b c =
-      let after : 0 < i = omega (arith, edition-one_byte s a) in
+      let after : 0 < i = omega (arith, edition_one_byte s a) in
       (load_is s R T _).1 (LoadCase.head_refused (length_bad (edition-plain s a) (plain-number s 0 i after ∙ b) c))
 
   -- so any two files that declare one have the same outcome, and it shows at the same place
-  pub any_two-bad-lengths : (s s' : List ℕ) {i m j i' m' j' : ℕ} → EditionRead s i → Reads s i m j → BadLength m
+  pub any_two_bad_lengths : (s s' : List ℕ) {i m j i' m' j' : ℕ} → EditionRead s i → Reads s i m j → BadLength m
       → EditionRead s' i' → Reads s' i' m' j' → BadLength m' → load_says s R T ≡ load_says s' R T
-  any_two-bad-lengths s s' a b c a' b' c' =
+  any_two_bad_lengths s s' a b c a' b' c' =
       bad-length-one s a b c
-      ∙ ap (λ (p : ℕ). outcome (refused_at 8 p) R T) (edition-one_byte s a ∙ sym (edition-one_byte s' a'))
+      ∙ ap (λ (p : ℕ). outcome (refused_at 8 p) R T) (edition_one_byte s a ∙ sym (edition_one_byte s' a'))
       ∙ sym (bad-length-one s' a' b' c')
 
   -- letters that are not all there are refused with 5, however short the rooms are
   pub letters-missing-one : (s : List ℕ) {i m j : ℕ} → EditionRead s i → Reads s i m j → least_saved ≤ m → m ≤ longest_word
       → length s < j + m → load_says s R T ≡ outcome (refused_at 5 (length s)) R T
   letters-missing-one s {i} a b least most c =
-      let after : 0 < i = omega (arith, edition-one_byte s a) in
+      let after : 0 < i = omega (arith, edition_one_byte s a) in
       let size = plain-length s 0 in
       rw size at ((load_is s R T _).1 (LoadCase.head_refused
       (letters_missing (edition-plain s a) (plain-number s 0 i after ∙ b) least most (omega (arith, size, c)))))
@@ -193,9 +193,9 @@ module _ (R T : List ℕ) where
       (load_is s R T _).1 (LoadCase.on_arrows_refused f h t (ending_wrong (arrows_broken (count_too_large a (rw size b)))))
 
   -- so any two files that declare one, and equally many letters, have the same outcome, whatever the rooms
-  pub any_two-bad-counts : (s s' : List ℕ) {m i n j i' n' j' : ℕ} → FrontEither s 0 (letters m i) → Reads s (i + m) n j → m - 1 < n
+  pub any_two_bad_counts : (s s' : List ℕ) {m i n j i' n' j' : ℕ} → FrontEither s 0 (letters m i) → Reads s (i + m) n j → m - 1 < n
       → FrontEither s' 0 (letters m i') → Reads s' (i' + m) n' j' → m - 1 < n' → load_says s R T ≡ load_says s' R T
-  any_two-bad-counts s s' {m} {i} {i' = i'} f a b f' a' b' = by (dec_lt (length R) m) (dec_lt (length T) (room m))
+  any_two_bad_counts s s' {m} {i} {i' = i'} f a b f' a' b' = by (dec_lt (length R) m) (dec_lt (length T) (room m))
     where
       short : (length R < m) ⊎ (length T < room m) → load_says s R T ≡ load_says s' R T
       short r = (load_is s R T _).1 (LoadCase.on_short_room f r) ∙ sym ((load_is s' R T _).1 (LoadCase.on_short_room f' r))
@@ -223,6 +223,6 @@ module _ (R T : List ℕ) where
       by (letters m i) = rw (verdict-kept s other (i + m) (part s i m))
 
   -- and one that does was refused with 7
-  pub two-refused : (s : List ℕ) → at s 0 ≡ 2 → plain_load_says s R T ≡ outcome (refused_at 7 0) R T
+  pub two_refused : (s : List ℕ) → at s 0 ≡ 2 → plain_load_says s R T ≡ outcome (refused_at 7 0) R T
   unfolding plain_load_says
-  two-refused s e = rw (two_was_7 s e)
+  two_refused s e = rw (two_was_7 s e)

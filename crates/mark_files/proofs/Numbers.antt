@@ -23,7 +23,7 @@ use Rattle.mark_files.specs.SearchFile.{search_file_says}
 use Rattle.mark_files.specs.Cases.{SaveCase, LoadCase, SearchFileCase}
 use Rattle.mark_files.proofs.SaveSays.{save_is}
 use Rattle.mark_files.proofs.LoadSays.{load_is}
-use Rattle.mark_files.proofs.SearchFileSays.{search-file_is}
+use Rattle.mark_files.proofs.SearchFileSays.{search_file_is}
 
 pub save_numbers : (e : Edition) (word : Word) (T O : List ℕ) → refuses_only (1 ∷ 2 ∷ 17 ∷ 3 ∷ 12 ∷ []) (save_in e word T O).answer ≡ true
 unfolding one_of
@@ -86,13 +86,13 @@ module _ {s : List ℕ} where
   verdict-number (ending_wrong c) = either_number c
   verdict-number (bytes_follow c h) = refl
 
-load-number : {s R T : List ℕ} {n : ℕ} {p : Place} {R' T' : List ℕ} → LoadCase s R T (Load.outcome (refused_at n p) R' T') → Shown n
-load-number (LoadCase.head_refused f) = front-number f
-load-number (LoadCase.on_arrows_refused f h t v) = verdict-number v
+load_number : {s R T : List ℕ} {n : ℕ} {p : Place} {R' T' : List ℕ} → LoadCase s R T (Load.outcome (refused_at n p) R' T') → Shown n
+load_number (LoadCase.head_refused f) = front-number f
+load_number (LoadCase.on_arrows_refused f h t v) = verdict-number v
 
-pub load-numbers : (file R T : List ℕ) → refuses_with (3 ∷ []) shown (load_says file R T).answer ≡ true
+pub load_numbers : (file R T : List ℕ) → refuses_with (3 ∷ []) shown (load_says file R T).answer ≡ true
 unfolding one_of
-load-numbers file R T = by ((load_is file R T _).0 refl)
+load_numbers file R T = by ((load_is file R T _).0 refl)
   where
     by : {o : Load.Outcome} → LoadCase file R T o → refuses_with (3 ∷ []) shown o.answer ≡ true
     by (LoadCase.head_refused f) = front-number f
@@ -103,10 +103,10 @@ load-numbers file R T = by ((load_is file R T _).0 refl)
 pub search-file-numbers : (file : List ℕ) (text : Word) (R T : List ℕ) (F : List Place)
     → refuses_with (4 ∷ 3 ∷ []) shown (search_file_says file text R T F).answer ≡ true
 unfolding one_of
-search-file-numbers file text R T F = by ((search-file_is file text R T F _).0 refl)
+search-file-numbers file text R T F = by ((search_file_is file text R T F _).0 refl)
   where
     by : {o : SearchFile.Outcome} → SearchFileCase file text R T F o → refuses_with (4 ∷ 3 ∷ []) shown o.answer ≡ true
     by (SearchFileCase.on_long_text h) = refl
     by (SearchFileCase.on_short_room k c) = refl
-    by (SearchFileCase.file_refused k c) = load-number c
+    by (SearchFileCase.file_refused k c) = load_number c
     by (SearchFileCase.accepted k c) = refl

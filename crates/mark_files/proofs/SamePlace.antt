@@ -20,7 +20,7 @@ use Rattle.editions.specs.Either.{as_plain}
 use Rattle.editions.specs.EitherCases.{EditionRead}
 use Rattle.editions.proofs.AsPlain.{as_other, by_edition}
 use Rattle.editions.proofs.Coding.{one-read}
-use Rattle.editions.proofs.Theorems.{two-read}
+use Rattle.editions.proofs.Theorems.{two_read}
 
 -- how v is shown by bytes that stand behind n others and take k with them: by one group, or by a group and the bytes behind it
 data Grouped (n v k : ℕ) : List ℕ → Type 0 where
@@ -117,13 +117,13 @@ module _ (s s' : List ℕ) where
 
 module _ (s : List ℕ) where
   -- the number 2 is the byte 2
-  pub two-first : {j : Place} → Reads s 0 2 j → at s 0 ≡ 2
+  pub two_first : {j : Place} → Reads s 0 2 j → at s 0 ≡ 2
   unfolding number_at see_number
-  two-first h = let r = read-seen s 0 (see 0 s) h in see-small s r.1 (omega arith)
+  two_first h = let r = read-seen s 0 (see 0 s) h in see-small s r.1 (omega arith)
 
   -- where 1 is read, 2 is not
   pub one_not_two : {j : Place} → Reads s 0 1 j → at s 0 ≡ 2 → ⊥
-  one_not_two h e = let q = sym h ∙ two-read s 0 e in let z : ◌≡◌ {A = ℕ} 1 2 = cc in omega arith
+  one_not_two h e = let q = sym h ∙ two_read s 0 e in let z : ◌≡◌ {A = ℕ} 1 2 = cc in omega arith
 
   one-alone : {l : List ℕ} → l ≡ 1 ∷ [] → Reads l 0 1 1
   unfolding refuses see see_number number_at
@@ -134,14 +134,14 @@ module _ (s : List ℕ) where
   first-edition h = inl (rw edition-number at h)
 
   -- an edition's number takes one byte
-  pub edition-one_byte : {i : Place} → EditionRead s i → i ≡ 1
-  edition-one_byte (inl h) = reads-same-place s (1 ∷ []) 0 h (one-alone refl)
-  edition-one_byte (inr h) = reads-same-place s s 0 h (two-read s 0 (two-first h))
+  pub edition_one_byte : {i : Place} → EditionRead s i → i ≡ 1
+  edition_one_byte (inl h) = reads-same-place s (1 ∷ []) 0 h (one-alone refl)
+  edition_one_byte (inr h) = reads-same-place s s 0 h (two_read s 0 (two_first h))
 
   -- as edition 1 has it, it is read too
   pub edition-plain : {i : Place} → EditionRead s i → Reads (as_plain s 0) 0 edition i
   edition-plain (inl h) = rw (as_other s 0 (one_not_two h), edition-number) h
-  edition-plain (inr h) = rw (edition-one_byte (inr h)) (one-read s 0 (two-first h))
+  edition-plain (inr h) = rw (edition_one_byte (inr h)) (one-read s 0 (two_first h))
 
   pub plain-edition : {i : Place} → Reads (as_plain s 0) 0 edition i → EditionRead s i
   plain-edition {i} h = by_edition s 0 checked-one (λ d. inl (rw (as_other s 0 d, edition-number) at h))
@@ -149,4 +149,4 @@ module _ (s : List ℕ) where
       checked-one : at s 0 ≡ 2 → EditionRead s i
       checked-one two =
           let place : 0 + 1 ≡ i = reads-same-place (as_plain s 0) (as_plain s 0) 0 (one-read s 0 two) h in
-          inr (rw place at (two-read s 0 two))
+          inr (rw place at (two_read s 0 two))

@@ -148,15 +148,15 @@ module _ (e : Edition) (word : Word) (T O : List ℕ) where
 -- ── What the code's steps come to ──────────────────────────────────────────
 
 -- P is what was filled, and R what stands behind it in the room
-module _ (word : Word) {P : List ℕ} (R : List ℕ) (Filled-in : P ≡ table_of word) where
+module _ (word : Word) {P : List ℕ} (R : List ℕ) (filled_in : P ≡ table_of word) where
   abbrev lent : List ℕ
   lent = take (room (length word)) (P ++ R)
 
   sized : length P ≡ room (length word)
-  sized = ap length Filled-in ∙ table-size word
+  sized = ap length filled_in ∙ table-size word
 
   lent-table : lent ≡ table_of word
-  lent-table = take_at P R (room (length word)) sized ∙ Filled-in
+  lent-table = take_at P R (room (length word)) sized ∙ filled_in
 
   pub lent-size : room (length word) ≡ length lent
   lent-size = sym (ap length lent-table ∙ table-size word)
@@ -171,7 +171,7 @@ module _ (word : Word) {P : List ℕ} (R : List ℕ) (Filled-in : P ≡ table_of
 
   pub put-out : {n : ℕ} (O : List ℕ) {O' : List ℕ} → n ≡ length (spell word) → O' ≡ spell word ++ drop (length (spell word)) O
       → outcome (done n) (P ++ R) O' ≡ outcome (done (length (spell word))) (table_of word ++ R) (spell word ++ drop (length (spell word)) O)
-  put-out O n o = rw (n, o, Filled-in)
+  put-out O n o = rw (n, o, filled_in)
 
 -- ── One outcome ────────────────────────────────────────────────────────────
 

@@ -99,8 +99,8 @@ module _ (file : List ℕ) (text : Word) (R T : List ℕ) (F : List Place) where
   given (SearchFileCase.file_refused k c) = says-after k ((load_is file R T _).1 c)
   given (SearchFileCase.accepted k c) = says-after k ((load_is file R T _).1 c)
 
-  pub search-file_is : (o : Outcome) → (search_file_says file text R T F ≡ o) ↔ SearchFileCase file text R T F o
-  search-file_is o = (λ e. rw e at case, given)
+  pub search_file_is : (o : Outcome) → (search_file_says file text R T F ≡ o) ↔ SearchFileCase file text R T F o
+  search_file_is o = (λ e. rw e at case, given)
 
   -- a refusal leaves the list as it was, and the rooms as loading does
   pub refusal_leaves : (Succeeds (search_file_says file text R T F).answer → ⊥)
@@ -119,10 +119,10 @@ module _ (file : List ℕ) (text : Word) (R T : List ℕ) (F : List Place) where
       by (SearchFileCase.accepted k c) d = absurd (d (_, refl))
 
   -- the file matters by what loading says of it alone
-  pub same-load-same-search : (file' : List ℕ) → load_says file R T ≡ load_says file' R T
+  pub same_load_same_search : (file' : List ℕ) → load_says file R T ≡ load_says file' R T
       → search_file_says file text R T F ≡ search_file_says file' text R T F
   unfolding search_file_says
-  same-load-same-search file' e = rw e
+  same_load_same_search file' e = rw e
 
   -- a file that does not say 2 has the outcome that it had before edition 2
   pub search-kept : (at file 0 ≡ 2 → ⊥) → search_file_says file text R T F ≡ plain_search_file_says file text R T F

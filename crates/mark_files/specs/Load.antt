@@ -1,19 +1,20 @@
 -- WHAT LOAD SAYS: the whole outcome as a function of what is lent.
 --
 --   Outcome                 the answer, and the word room and the tables as they are left
---   loaded_as r R T          the outcome of code that answers r and leaves R and T
+--   loaded_as r R T         the outcome of code that answers r and leaves R and T
 --   judged v w              what the verdict v on its arrows makes of the word w: the outcome in the word's part of both rooms
 --   judged_by judge file i m
 --                           the same of the m letters that stand in the file from place i on, judged by what is behind them
---   judged_at file i m       the same where either edition is known
+--   judged_at file i m      the same where either edition is known
 --   letters_read judge f file R T
 --                           the outcome for a file that shows f up to its letters
---   load_within n file R T   what it must be where a word may have n letters: the first refusal that the file shows up to its letters,
+--   load_within n file R T  what it must be where a word may have n letters: the first refusal that the file shows up to its letters,
 --                           and where; then 3, which shows nowhere; then the first refusal that it shows behind them, and where; else m,
 --                           the file's word and its table. A refusal before 3 is passed changes nothing, one after it leaves zeros in
 --                           the word's part of both rooms
---   load_says file R T       the same with the limit that there is
---   plain_load_says file R T  the same of a reader that knows edition 1 alone, as all did before edition 2
+--   load_says file R T      the same with the limit that there is
+--   plain_load_says file R T
+--                           the same of a reader that knows edition 1 alone, as all did before edition 2
 --
 -- 01, 'The file on disk' and 'When the library says no'; 02, 'Where in the file is it broken?' and 'Edition 2 with a check'; demands 1 and
 -- 3.

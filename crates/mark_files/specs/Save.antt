@@ -1,12 +1,12 @@
 -- WHAT SAVE SAYS: the whole outcome as a function of what is lent.
 --
 --   Outcome              the answer, and the room and the output as they are left
---   saved_as r T O        the outcome of code that answers r and leaves T and O
+--   saved_as r T O       the outcome of code that answers r and leaves T and O
 --   save_within e n word T O
 --                        what it must be in the edition e, where a word may have n letters: 1, 2, 17, 3, 12 in that order, else the file
 --                        at the start of the output and its length, and the word's table in the room. 12 leaves zeros in the word's part
 --                        of the room; the output is not touched by a refusal
---   save_in e word T O    the same with the limit that there is
+--   save_in e word T O   the same with the limit that there is
 --   save_says word T O, save_checked_says word T O
 --                        the same in edition 1, and in edition 2
 --

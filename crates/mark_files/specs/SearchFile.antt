@@ -1,14 +1,15 @@
 -- WHAT SEARCH WITH A FILE SAYS: the whole outcome as a function of what is lent.
 --
 --   Outcome                          the answer, and the word room, the tables and the list as they are left
---   file_searched r R T F             the outcome of code that answers r and leaves R, T and F
---   after_load a text R T F           the outcome once loading has answered a and left R and T
---   after_text o text R T F           4, then that of the outcome o of loading
---   search_file_within n file text R T F
+--   file_searched r R T F            the outcome of code that answers r and leaves R, T and F
+--   after_load a text R T F          the outcome once loading has answered a and left R and T
+--   after_text o text R T F          4, then that of the outcome o of loading
+--   search_file_within n file text R T
+--                                    F
 --                                    what it must be where a word may have n letters: 4, then as loading; then every occurrence of the
 --                                    mirror of the file's word is counted and the first of them are listed, as many as fit, and the
 --                                    letters are those of the published steps
---   search_file_says file text R T F   the same with the limit that there is
+--   search_file_says file text R T F the same with the limit that there is
 --   plain_search_file_says file text R T F
 --                                    the same of a reader that knows edition 1 alone, as all did before edition 2
 --

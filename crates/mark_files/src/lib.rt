@@ -27,7 +27,8 @@ pub fn save(word: &[u8], tables: &mut [u16], out: &mut [u8]) -> SizeAnswer
     if words::WORD_LIMIT < m {
         return SizeAnswer::Refused(Refusal::Numbered(answers::LONG_WORD));
     }
-    if m < words::LEAST_SAVED {
+    let least = words::LEAST_SAVED;
+    if m < least {
         return SizeAnswer::Refused(Refusal::Numbered(answers::SHORT_WORD));
     }
     let need = 6 * (m + 1);
@@ -36,7 +37,8 @@ pub fn save(word: &[u8], tables: &mut [u16], out: &mut [u8]) -> SizeAnswer
     }
     table::fill(word, &mut tables[..need]);
     let size = saved::file_size(word, &tables[..need]);
-    if out.len() < size {
+    let needed = size;
+    if out.len() < needed {
         table::clear(&mut tables[..need]);
         return SizeAnswer::Refused(Refusal::Numbered(answers::SHORT_OUTPUT));
     }

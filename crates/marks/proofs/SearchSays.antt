@@ -16,7 +16,7 @@ use Rattle.words.proofs.Occurrences.{occurrence_stands, standing_occurs, occurre
 use Rattle.oracle.specs.SuffixRule.{oracle}
 use Rattle.backward.specs.Steps.{steps, backward}
 use Rattle.backward.proofs.Windows.{steps-same}
-use Rattle.backward.proofs.Theorems.{search-lists-occurrences, search-letters-most}
+use Rattle.backward.proofs.Theorems.{search-lists-occurrences, search_letters_most}
 use Rattle.table.specs.Table.{room, table_of, read_arrow}
 use Rattle.table.specs.Formed.{Formed}
 use Rattle.table.specs.Spare.{Spare}
@@ -117,8 +117,8 @@ module _ (word text : Word) (T : List ℕ) (F : List Place) where
     pub letters_said : (search_says word text T F).answer ≡ done (found word text)
     letters_said = ap (λ o. o.answer) is_counted
 
-    pub letters-most : m ≤ length text → (backward word text).letters ≤ m * (length text - m + 1)
-    letters-most b = search-letters-most word text b
+    pub letters_most : m ≤ length text → (backward word text).letters ≤ m * (length text - m + 1)
+    letters_most b = search_letters_most word text b
 
     -- the first 6(m+1) entries are the mirrored word's table, and the others are as they were
     pub entries-left : take (room m) (search_says word text T F).tables ≡ table_of (mirror word)
@@ -153,7 +153,7 @@ table-steps word text =
     (λ x c. rw (length-reverse word) at (table-arrow (mirror word) x c))
 
 -- the room that was filled with P, R being what stands behind it, once the step after a find has left its row r there
-module _ (word : Word) {P : List ℕ} (R : List ℕ) (Filled-in : P ≡ table_of (mirror word)) {r : List ℕ}
+module _ (word : Word) {P : List ℕ} (R : List ℕ) (filled_in : P ≡ table_of (mirror word)) {r : List ℕ}
     (zeros : r ≡ replicate (length word) 0) where
   abbrev size : ℕ
   size = length word
@@ -166,10 +166,10 @@ module _ (word : Word) {P : List ℕ} (R : List ℕ) (Filled-in : P ≡ table_of
   lent = take (room size) left
 
   sized : length P ≡ room size
-  sized = ap length Filled-in ∙ mirror-size word
+  sized = ap length filled_in ∙ mirror-size word
 
   filled-room : take (room size) (P ++ R) ≡ table_of (mirror word)
-  filled-room = take_at P R (room size) sized ∙ Filled-in
+  filled-room = take_at P R (room size) sized ∙ filled_in
 
   -- the row is zero again, as it was
   left_is : left ≡ P ++ R
@@ -188,7 +188,7 @@ module _ (word : Word) {P : List ℕ} (R : List ℕ) (Filled-in : P ≡ table_of
       → F' ≡ filled (steps (read_arrow size lent) word text).starts F
       → outcome (done t) left F' ≡ outcome (done (found word text)) (table_of (mirror word) ++ R) (filled (occurrences word text) F)
   scan_counts text F t f =
-      rw (t, f, lent-table, left_is, Filled-in, table-steps word text, search-lists-occurrences word text)
+      rw (t, f, lent-table, left_is, filled_in, table-steps word text, search-lists-occurrences word text)
 
 -- ── One outcome ────────────────────────────────────────────────────────────
 

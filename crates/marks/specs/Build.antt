@@ -2,9 +2,10 @@
 --
 --   Outcome              the answer, and the room as it is left
 --   built r T            the outcome of code that answers r and leaves T
---   build_within n word T what it must be where a word may have n letters: 1, 2, 3 in that order, else the word's table, and the rest of
+--   build_within n word T
+--                        what it must be where a word may have n letters: 1, 2, 3 in that order, else the word's table, and the rest of
 --                        the room as it was
---   build_says word T     the same with the limit that there is
+--   build_says word T    the same with the limit that there is
 --
 -- 01, 'When the library says no'; demands 1 and 2.
 use Rattle.std.specs.Prelude.{cond, List, ◌++◌, ℕ, length, drop, ltb}

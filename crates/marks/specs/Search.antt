@@ -3,11 +3,12 @@
 --   found word text            how often the word stands in the text, and the letters that the published steps read
 --   Outcome                    the answer, and the room and the list as they are left
 --   searched r T F             the outcome of code that answers r and leaves T and F
---   search_within n word text T F
+--   search_within n word text T
+--                              F
 --                              what it must be where a word may have n letters: 1, 2, 4, 3 in that order; else every occurrence is
 --                              counted and the first of them are listed, as many as fit, the letters are those of the published steps,
 --                              the mirrored word's table stands in the room, and the rest of the room and of the list is as it was
---   search_says word text T F   the same with the limit that there is
+--   search_says word text T F  the same with the limit that there is
 --
 -- 01, 'The backward search' and 'When the library says no'; demands 1 and 2.
 use Rattle.std.specs.Prelude.{cond, List, ◌++◌, ℕ, length, drop, ltb}

@@ -32,7 +32,7 @@ use Rattle.mark_files.specs.Load.{load_says}
 use Rattle.mark_files.specs.SearchFile.{search_file_says}
 use Rattle.marks.proofs.Numbers.{build_numbers, search-numbers}
 use Rattle.linear.proofs.TurboSays.{turbo-numbers}
-use Rattle.mark_files.proofs.Numbers.{save_numbers, shown, load-numbers, search-file-numbers}
+use Rattle.mark_files.proofs.Numbers.{save_numbers, shown, load_numbers, search-file-numbers}
 use Rattle.searcher_bytes.specs.OpenBytes.{open_bytes_says}
 use Rattle.searcher_bytes.specs.TakeBytes.{take_bytes_says}
 use Rattle.searcher_bytes.proofs.OpenBytesSays.{open_numbers}
@@ -71,14 +71,14 @@ pub save_done : (word : Word) (T O : List ℕ) (n : ℕ) → ((save_call_says wo
 unfolding one_of
 save_done word T O n = done-exactly (1 ∷ 2 ∷ 17 ∷ 3 ∷ 12 ∷ []) [] refl refl _ (save_numbers plain word T O)
 
-pub save_checked-done : (word : Word) (T O : List ℕ) (n : ℕ)
+pub save_checked_done : (word : Word) (T O : List ℕ) (n : ℕ)
     → ((save_checked_call_says word T O n).result ≡ 0) ↔ Succeeds (save_checked_says word T O).answer
 unfolding one_of
-save_checked-done word T O n = done-exactly (1 ∷ 2 ∷ 17 ∷ 3 ∷ 12 ∷ []) [] refl refl _ (save_numbers checked word T O)
+save_checked_done word T O n = done-exactly (1 ∷ 2 ∷ 17 ∷ 3 ∷ 12 ∷ []) [] refl refl _ (save_numbers checked word T O)
 
-pub load-done : (file R T : List ℕ) (m : ℕ) (p : Place) → ((load_call_says file R T m p).result ≡ 0) ↔ Succeeds (load_says file R T).answer
+pub load_done : (file R T : List ℕ) (m : ℕ) (p : Place) → ((load_call_says file R T m p).result ≡ 0) ↔ Succeeds (load_says file R T).answer
 unfolding one_of
-load-done file R T m p = done-exactly (3 ∷ []) shown refl refl _ (load-numbers file R T)
+load_done file R T m p = done-exactly (3 ∷ []) shown refl refl _ (load_numbers file R T)
 
 pub search-done : (word text : Word) (T : List ℕ) (F : List Place) (c l : ℕ)
     → ((search_call_says word text T F c l).result ≡ 0) ↔ Succeeds (search_says word text T F).answer
@@ -149,9 +149,9 @@ offset-told l apart v (refused n) only = record { written = λ e. false_not_true
 offset-told l apart v (refused_at n p) only = record { written = λ e. refl; alone = λ e. false_not_true (sym e ∙ only) }
 
 -- no refusal of the rooms or the text is one of the file's
-four-and_three_apart : (n : ℕ) → one_of n (4 ∷ 3 ∷ []) ≡ true → one_of n shown ≡ false
+four_and_three_apart : (n : ℕ) → one_of n (4 ∷ 3 ∷ []) ≡ true → one_of n shown ≡ false
 unfolding one_of
-four-and_three_apart n e = by (eqb n 4) (eqb n 3) refl refl e
+four_and_three_apart n e = by (eqb n 4) (eqb n 3) refl refl e
   where
     by : (x y : Bool) → eqb n 4 ≡ x → eqb n 3 ≡ y → x || (y || false) ≡ true → one_of n shown ≡ false
     by true y f g h = rw (eqb-true n 4 f)
@@ -160,16 +160,16 @@ four-and_three_apart n e = by (eqb n 4) (eqb n 3) refl refl e
 
 three_apart : (n : ℕ) → one_of n (3 ∷ []) ≡ true → one_of n shown ≡ false
 unfolding one_of
-three_apart n e = four-and_three_apart n (or_right (eqb n 4) e)
+three_apart n e = four_and_three_apart n (or_right (eqb n 4) e)
   where
     or_right : (x : Bool) {y : Bool} → y ≡ true → x || y ≡ true
     or_right true h = refl
     or_right false h = h
 
-pub load-offset : (file R T : List ℕ) (m : ℕ) (v : Place)
+pub load_offset : (file R T : List ℕ) (m : ℕ) (v : Place)
     → Offset (load_says file R T).answer (load_call_says file R T m v).result v (load_call_says file R T m v).offset
-load-offset file R T m v = offset-told (3 ∷ []) three_apart v _ (load-numbers file R T)
+load_offset file R T m v = offset-told (3 ∷ []) three_apart v _ (load_numbers file R T)
 
 pub search-file-offset : (file : List ℕ) (text : Word) (R T : List ℕ) (F : List Place) (c l : ℕ) (v : Place)
     → let call = search_file_call_says file text R T F c l v in Offset (search_file_says file text R T F).answer call.result v call.offset
-search-file-offset file text R T F c l v = offset-told (4 ∷ 3 ∷ []) four-and_three_apart v _ (search-file-numbers file text R T F)
+search-file-offset file text R T F c l v = offset-told (4 ∷ 3 ∷ []) four_and_three_apart v _ (search-file-numbers file text R T F)

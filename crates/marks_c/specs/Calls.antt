@@ -1,18 +1,19 @@
 -- WHAT A CALL FROM C SAYS: the number that it returns, and every lent buffer and answer as it is left, from the outcome of the entry behind
 -- it.
 --
---   result_of a          0 for an answer, the number of 01's table for a refusal
+--   result_of a         0 for an answer, the number of 01's table for a refusal
 --   given v a f         an answer that C is given: f of it, or v as it was where the call was refused
---   size_given v a ..    the same of a size, of the number of finds, and of the letters read
---   offset_given v a     an offset that C is given: the place of a refusal that has one, or v as it was
---   place_given v r      the same of the code's refusal r
---   build_call ..        the outcome of code that returns, and leaves, so much
---   build_returns ..     what is returned and left for an outcome of the entry
---   build_call_says ..    what it must be
+--   size_given v a ..   the same of a size, of the number of finds, and of the letters read
+--   offset_given v a    an offset that C is given: the place of a refusal that has one, or v as it was
+--   place_given v r     the same of the code's refusal r
+--   build_call ..       the outcome of code that returns, and leaves, so much
+--   build_returns ..    what is returned and left for an outcome of the entry
+--   build_call_says ..  what it must be
 --   save_call .., load_call .., search_call .., search_file_call .., and each with Returns and Says: the same of the other entries
---   save_checked_call_says ..
+--   save_checked_call_says
+--                       ..
 --                       the same of saving with a check, which returns as saving does
---   turbo_call_says ..    the same of the Turbo search, which returns as a search does
+--   turbo_call_says ..  the same of the Turbo search, which returns as a search does
 use Rattle.std.specs.Prelude.{List, ℕ}
 use Rattle.words.specs.Words.{Word, Place}
 use Rattle.finds.specs.declared.Tally.{Tally}

@@ -1,9 +1,10 @@
 -- WHAT A CALL FROM C SAYS of compact rows: the number that it returns, and every lent buffer and answer as it is left, from the outcome of
 -- the entry behind it.
 --
---   compact_build_call ..      the outcome of code that returns, and leaves, so much
---   compact_build_returns ..   what is returned and left for an outcome of the entry
---   compact_build_call_says ..  what it must be
+--   compact_build_call ..    the outcome of code that returns, and leaves, so much
+--   compact_build_returns .. what is returned and left for an outcome of the entry
+--   compact_build_call_says ..
+--                            what it must be
 --   compact_search_call .., and with Returns and Says: the same of a search
 use Rattle.std.specs.Prelude.{List, ℕ}
 use Rattle.words.specs.Words.{Word, Place}

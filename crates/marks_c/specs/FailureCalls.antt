@@ -1,11 +1,14 @@
 -- WHAT A CALL FROM C SAYS of the failure oracle: the number that it returns, and every lent buffer and answer as it is left, from the
 -- outcome of the entry behind it.
 --
---   failure_build_call_says ..   what a build returns and leaves, as that of the oracle does
---   failure_count_given v a ..  what C is given of a search: the finds, the letters read and the failure arrows taken
---   failure_search_call ..      the outcome of code that returns, and leaves, so much
---   failure_search_returns ..   what is returned and left for an outcome of the entry
---   failure_search_call_says ..  what it must be
+--   failure_build_call_says ..
+--                             what a build returns and leaves, as that of the oracle does
+--   failure_count_given v a ..
+--                             what C is given of a search: the finds, the letters read and the failure arrows taken
+--   failure_search_call ..    the outcome of code that returns, and leaves, so much
+--   failure_search_returns .. what is returned and left for an outcome of the entry
+--   failure_search_call_says ..
+--                             what it must be
 use Rattle.std.specs.Prelude.{List, ℕ}
 use Rattle.words.specs.Words.{Word, Place}
 use Rattle.answers.specs.Answers.{Answer}

@@ -1,9 +1,9 @@
 -- WHAT A CALL FROM C SAYS of the salvage lister: the number that it returns, and every lent buffer and the answer as it is left, from
 -- the outcome of the entry behind it.
 --
---   salvage_call ..       the outcome of code that returns, and leaves, so much
---   salvage_returns ..    what is returned and left for an outcome of the entry
---   salvage_call_says ..   what it must be
+--   salvage_call ..      the outcome of code that returns, and leaves, so much
+--   salvage_returns ..   what is returned and left for an outcome of the entry
+--   salvage_call_says .. what it must be
 use Rattle.std.specs.Prelude.{List, ℕ}
 use Rattle.words.specs.Words.{Word, Place}
 use Rattle.salvage.specs.Salvage.{Outcome, salvage_says}

@@ -1,9 +1,9 @@
 -- WHAT A CALL FROM C SAYS where the text comes in pieces: the number that it returns, and every lent buffer and answer as it is left, from
 -- the outcome of the entry behind it.
 --
---   open_call ..         the outcome of code that returns, and leaves, so much
---   open_returns ..      what is returned and left for an outcome of the entry
---   open_call_says ..     what it must be
+--   open_call ..        the outcome of code that returns, and leaves, so much
+--   open_returns ..     what is returned and left for an outcome of the entry
+--   open_call_says ..   what it must be
 --   take_call .., take_returns .., take_call_says ..   the same of taking a piece
 use Rattle.std.specs.Prelude.{List, ℕ}
 use Rattle.words.specs.Words.{Word, Place}

@@ -1,6 +1,7 @@
-// The entries for C and Rust, by numbers and slices alone: a slice is a pointer and a length. Each returns 0 and writes its answers through
-// the last pointers, or returns the refusal's number and leaves those pointers alone, but for the offset where the refusal has one, which
-// nothing else writes. There is no state and no heap, so calls on buffers of their own may run at the same time.
+// The entries by numbers and slices alone, as C has them: a slice is a pointer and a length there. Each returns 0 and writes its answers
+// through the last pointers, or returns the refusal's number and leaves those pointers alone, but for the offset where the refusal has one,
+// which nothing else writes. There is no state and no heap, so calls on buffers of their own may run at the same time. C links to
+// marks_exports, which calls these.
 #![tactic(auto)]
 
 ghost use Rattle.std.specs.Prelude.{◌≡◌};

@@ -10,7 +10,7 @@ use native.Mathlib.Omega.{arith}
 use lib.ListN.{length}
 use lib.Dec.{eqb, ltb}
 use borrow.Author.Tests.{ltb-true, lt-ltb, le-ltb, eqb-true, eq-eqb}
-use Rattle.words.proofs.Lists.{and-true}
+use Rattle.words.proofs.Lists.{and_true}
 use Rattle.number.specs.Number.{Bytes, refuses, Seen, number, ends, refused, with_group, see}
 use Rattle.number.proofs.Spelling.{Spells, last, follows, spells-follow, top, top_least}
 
@@ -37,8 +37,8 @@ unfolding refuses
 refuses_why {n} {b} e = by (ltb 0 n && eqb b 0) (eqb n 4 && ltb 15 b) refl refl e
   where
     by : (x y : Bool) → (ltb 0 n && eqb b 0) ≡ x → (eqb n 4 && ltb 15 b) ≡ y → x || y ≡ true → Refusable n b
-    by true y f g h = let q = and-true {a = ltb 0 n} f in inl (ltb-true 0 n q.0, eqb-true b 0 q.1)
-    by false true f g h = let q = and-true {a = eqb n 4} g in inr (eqb-true n 4 q.0, ltb-true 15 b q.1)
+    by true y f g h = let q = and_true {a = ltb 0 n} f in inl (ltb-true 0 n q.0, eqb-true b 0 q.1)
+    by false true f g h = let q = and_true {a = eqb n 4} g in inr (eqb-true n 4 q.0, ltb-true 15 b q.1)
     by false false f g h = absurd (true≢false (sym h))
 
 -- so what passes is not refused

@@ -4,17 +4,17 @@
 --   Bytes l           the numbers of l are bytes
 --   greatest          the greatest number
 --   groups k v        v spelled in at most k + 1 groups
---   spell_number v     the one spelling of v
+--   spell_number v    the one spelling of v
 --   written s at v    s with the spelling of v from place `at` on
 --   refuses n b       whether the byte b is refused behind n others of its number
 --   Seen              what bytes show: a number and how many bytes it takes; or that they end too soon; or a refused byte and how many
 --                     stand before it
---   with_group x seen  the same where a group x stands before
+--   with_group x seen the same where a group x stands before
 --   see n l           what the bytes l show, behind n others of their number
---   see_number l       what the bytes l show at their front
+--   see_number l      what the bytes l show at their front
 --   placed s at seen  the answer at place `at` of the file s: the value and the next place; or 5 and the file's length; or 6 and the
 --                     refused byte's place
---   number_at s at     what the file s shows at place `at`
+--   number_at s at    what the file s shows at place `at`
 --
 -- 01, 'The file on disk' and 'When the library says no' (5 and 6).
 use Rattle.std.specs.Prelude.{Bool, cond, ◌&&◌, ◌||◌, List, [], ◌∷◌, ◌++◌, ℕ, zero, suc, ◌+◌, ◌*◌, ◌/◌, ◌%◌, ◌<◌, length, take, drop, eqb, ltb}

@@ -45,21 +45,21 @@ module _ {m : ℕ} {w : ℕ → Letter} {δ : Delta} {S : State → State} (O : 
   on_below h (here e) = omega arith
   on_below h (next {x = x} r) = omega (arith, supply_below x h, on_below (omega (arith, supply_below x h)) r)
 
-  pub on-zero : {y x : State} → x ≡ 0 → On S y x → y ≡ 0
-  on-zero h (here e) = e ∙ h
-  on-zero h (next r) = on-zero (ap S h ∙ O.base) r
+  pub on_zero : {y x : State} → x ≡ 0 → On S y x → y ≡ 0
+  on_zero h (here e) = e ∙ h
+  on_zero h (next r) = on_zero (ap S h ∙ O.base) r
 
   -- the first number only bounds the chain
-  zero-on-within : (n x : State) → x ≤ n → x ≤ m → On S 0 x
-  zero-on-within zero x h b = let e : 0 ≡ x = omega arith in here e
-  zero-on-within (suc n) x h b = let d = supply_below x b in next (zero-on-within n (S x) (omega arith) (omega arith))
+  zero_on_within : (n x : State) → x ≤ n → x ≤ m → On S 0 x
+  zero_on_within zero x h b = let e : 0 ≡ x = omega arith in here e
+  zero_on_within (suc n) x h b = let d = supply_below x b in next (zero_on_within n (S x) (omega arith) (omega arith))
 
-  pub zero-on : (x : State) → x ≤ m → On S 0 x
-  zero-on x b = zero-on-within x x (omega arith) b
+  pub zero_on : (x : State) → x ≤ m → On S 0 x
+  zero_on x b = zero_on_within x x (omega arith) b
 
   -- an arrow leaves its state upwards
-  pub arrow-up : (x : State) (c : Letter) (y : State) → δ x c ≡ some y → (x < y) × (y ≤ m)
-  arrow-up x c y e =
+  pub arrow_up : (x : State) (c : Letter) (y : State) → δ x c ≡ some y → (x < y) × (y ≤ m)
+  arrow_up x c y e =
       let v = O.into x c y e in
       let b = on_below (omega (arith, v.inside)) v.on in
       (omega (arith, v.to), omega (arith, v.to, v.inside))
@@ -91,7 +91,7 @@ module _ {m : ℕ} {w : ℕ → Letter} {δ : Delta} {S : State → State} (O : 
   -- on a letter they lead to the first state that has it
   pub zero-first : (z : State) → z < m → ((i : State) → i < z → w i ≢ w z) → δ 0 (w z) ≡ some (suc z)
   zero-first z h new =
-      let r = chain-arrow (w z) (suc z) (zero-on z (omega arith)) (O.spine z h) in
+      let r = chain-arrow (w z) (suc z) (zero_on z (omega arith)) (O.spine z h) in
       let v = O.into 0 (w z) r.0 r.1 in
       let low = on_below h r.2 in
       by_cases (dec_lt v.z z)

@@ -11,7 +11,7 @@ use native.Mathlib.Omega.{arith}
 use lib.ListN.{length, length-append, length-map, drop}
 use lib.Dec.{eqb}
 use Rattle.words.specs.Words.{Letter, Word}
-use Rattle.words.proofs.Lists.{test_cases, from-length}
+use Rattle.words.proofs.Lists.{test_cases, from_length}
 use Rattle.oracle.specs.Arrows.{State, Delta, target, spine}
 use Rattle.oracle.specs.SuffixRule.{Halt, far, mend, missing, extras_after, extra_arrows}
 use Rattle.oracle.specs.SuffixPath.{SuffixPath, ended, falls}
@@ -24,7 +24,7 @@ use Rattle.oracle.proofs.LetterRule.{supplies, path_agree, built_sound, letter-c
 
 pub spine-length : (p : Word) → length (spine p) ≡ length p
 unfolding spine
-spine-length p = simp (length-map, from-length)
+spine-length p = simp (length-map, from_length)
 
 mend-length : (p : Word) (h : Halt) → length (mend p h) ≤ 1
 unfolding mend

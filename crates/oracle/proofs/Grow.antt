@@ -13,7 +13,7 @@ use Rattle.words.specs.Words.{Letter}
 use Rattle.words.proofs.Lists.{none_where}
 use Rattle.oracle.specs.Arrows.{State, Delta}
 use Rattle.oracle.proofs.Targets.{never}
-use Rattle.oracle.proofs.Chain.{On, here, next, Into, Supplied, supply_below, on_below, arrow-up}
+use Rattle.oracle.proofs.Chain.{On, here, next, Into, Supplied, supply_below, on_below, arrow_up}
 
 -- ── The climb ──────────────────────────────────────────────────────────────
 
@@ -31,12 +31,12 @@ module _ {δ : Delta} {S : State → State} {c : Letter} where
   source_free (go p e r) (Memᴰ.head q) = rw q e
   source_free (go p e r) (Memᴰ.tail m) = source_free r m
 
-  pub source-on : {k y x : State} {xs : List State} → Climb δ S c k xs y → Memᴰ x xs → On S x k
-  source-on (stop e) m = absurd (elim m [ ])
-  source-on (out z y e) (Memᴰ.head q) = here q
-  source-on (out z y e) (Memᴰ.tail m) = absurd (elim m [ ])
-  source-on (go p e r) (Memᴰ.head q) = here q
-  source-on (go p e r) (Memᴰ.tail m) = next (source-on r m)
+  pub source_on : {k y x : State} {xs : List State} → Climb δ S c k xs y → Memᴰ x xs → On S x k
+  source_on (stop e) m = absurd (elim m [ ])
+  source_on (out z y e) (Memᴰ.head q) = here q
+  source_on (out z y e) (Memᴰ.tail m) = absurd (elim m [ ])
+  source_on (go p e r) (Memᴰ.head q) = here q
+  source_on (go p e r) (Memᴰ.tail m) = next (source_on r m)
 
   -- the climb starts with a source, or at the arrow that stops it
   starts : {k y : State} {xs : List State} → Climb δ S c k xs y → Memᴰ k xs ⊎ (δ k c ≡ some y)
@@ -76,10 +76,10 @@ on_agree S S' d a h (next {x = x} r) = next {x = x} (rw (a x h) (on_agree S S' d
 module _ {t : State} {w : ℕ → Letter} {δ : Delta} {S : State → State} (O : Supplied t w δ S) where
   -- no arrow leaves the last state
   pub last-free : (c : Letter) → δ t c ≡ none
-  last-free c = none_where (δ t c) (λ z e. let u = arrow-up O t c z e in omega (arith, u.0, u.1))
+  last-free c = none_where (δ t c) (λ z e. let u = arrow_up O t c z e in omega (arith, u.0, u.1))
 
   pub climb-below : {c : Letter} {k y : State} {xs : List State} → Climb δ S c k xs y → y ≤ t
-  climb-below {c} {y = y} C = ⊎_elim (λ e. omega arith) (λ r. (arrow-up O r.0 c y r.1).1) (lands C)
+  climb-below {c} {y = y} C = ⊎_elim (λ e. omega arith) (λ r. (arrow_up O r.0 c y r.1).1) (lands C)
 
 -- ── The record again ───────────────────────────────────────────────────────
 
@@ -113,7 +113,7 @@ module _ {t : State} {w : ℕ → Letter} {δ δ' : Delta} {S S' : State → Sta
       let on = on_agree S S' falls kept (omega (arith, v.inside)) v.on in
       record { z = v.z; to = v.to; letter = v.letter; inside = omega (arith, v.inside); on = on })
       (λ r.
-      let on = on_agree S S' falls kept (le_refl t) (source-on C r.2) in
+      let on = on_agree S S' falls kept (le_refl t) (source_on C r.2) in
       record { z = t; to = r.1; letter = r.0; inside = le_refl _; on = on })
       (arrow_was x c z e)
 
@@ -125,7 +125,7 @@ module _ {t : State} {w : ℕ → Letter} {δ δ' : Delta} {S S' : State → Sta
   grown_answers : (x : State) (c : Letter) (z : State) → δ' x c ≡ some z → (δ' (S' x) c ≡ some z) ⊎ (δ' (S' x) c ≡ some (S' z))
   grown_answers x c z e = ⊎_elim
       (λ d.
-      let u = arrow-up O x c z d in
+      let u = arrow_up O x c z d in
       let a = kept x (omega (arith, u.0, u.1)) in
       let b = kept z u.1 in
       ⊎_elim
@@ -133,7 +133,7 @@ module _ {t : State} {w : ℕ → Letter} {δ δ' : Delta} {S S' : State → Sta
       (λ q. inr (rw (a, b) (arrow_stays (S x) c (S z) q)))
       (O.answers x c z d))
       (λ r.
-      let a = kept x (on_below O (le_refl t) (source-on C r.2)) in
+      let a = kept x (on_below O (le_refl t) (source_on C r.2)) in
       ⊎_elim
       (λ m. inl (rw (a, r.0, r.1) (new (S x) m)))
       (λ q. inr (rw (a, r.0, r.1, given) (arrow_stays (S x) (w t) y q)))
@@ -142,7 +142,7 @@ module _ {t : State} {w : ℕ → Letter} {δ δ' : Delta} {S S' : State → Sta
 
   grown_bottom : (c : Letter) (z : State) → δ' 0 c ≡ some z → S' z ≡ 0
   grown_bottom c z e = ⊎_elim
-      (λ d. kept z (arrow-up O 0 c z d).1 ∙ O.bottom c z d)
+      (λ d. kept z (arrow_up O 0 c z d).1 ∙ O.bottom c z d)
       (λ r. rw r.1 (given ∙ runs_out C r.2))
       (arrow_was 0 c z e)
 

@@ -17,8 +17,8 @@ use Rattle.oracle.specs.Arrows.{State, Arrow, Delta, target, OneEach}
 use Rattle.oracle.specs.SuffixPath.{SuffixPath, ended, falls}
 use Rattle.oracle.specs.LetterRule.{Automaton, path_of, supply_made, NewState, climb, add_letter, built_up_to}
 use Rattle.oracle.proofs.Targets.{never, into, target-new, target_old}
-use Rattle.oracle.proofs.Chain.{Supplied, supply_below, on_below, arrow-up}
-use Rattle.oracle.proofs.Grow.{Climb, stop, out, go, source-on, last-free, climb-below, arrow_stays, arrow_was, grown}
+use Rattle.oracle.proofs.Chain.{Supplied, supply_below, on_below, arrow_up}
+use Rattle.oracle.proofs.Grow.{Climb, stop, out, go, source_on, last-free, climb-below, arrow_stays, arrow_was, grown}
 
 -- ── Suffix paths ───────────────────────────────────────────────────────────
 
@@ -70,7 +70,7 @@ one_each A O h z b (out q r e) = (e, h)
 one_each A {S = S} {m = m} O h {c} {k} z b (go {xs = xs} p e r) =
     let low = supply_below O k b in
     let behind : S k ≤ m = omega arith in
-    let free = ⊎_elim (λ d. d ∙ e) (λ d. absurd (omega (arith, on_below O behind (source-on r d.1)))) (target_old A c z xs k c) in
+    let free = ⊎_elim (λ d. d ∙ e) (λ d. absurd (omega (arith, on_below O behind (source_on r d.1)))) (target_old A c z xs k c) in
     (free, one_each A O h z behind r)
 
 module _ {t : State} {w : ℕ → Letter} {b : Automaton} (G : Sound t w b) where
@@ -171,7 +171,7 @@ module _ (p : Word) where
   -- the arrows made of the first t letters are those of every later build that lead up to state t
   pub built_restricts : (t d : ℕ) (x : State) (c : Letter) (y : State)
       → (arrows_of t x c ≡ some y) ↔ ((arrows_of (t + d) x c ≡ some y) × (y ≤ t))
-  built_restricts t zero x c y = rw (add-zero t) (λ e. (e, (arrow-up (built_sound p t).supplied x c y e).1), λ r. r.0)
+  built_restricts t zero x c y = rw (add-zero t) (λ e. (e, (arrow_up (built_sound p t).supplied x c y e).1), λ r. r.0)
   built_restricts t (suc d) x c y =
       let rec = built_restricts t d x c y in
       rw (add-suc t d) (λ e. let r = rec.0 e in ((one r.1).0 r.0, r.1), λ r. rec.1 ((one r.1).1 r.0, r.1))

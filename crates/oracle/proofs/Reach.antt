@@ -11,7 +11,7 @@ use native.Mathlib.Omega.{arith}
 use Rattle.words.specs.Words.{Letter}
 use Rattle.oracle.specs.Arrows.{State, Delta}
 use Rattle.oracle.proofs.Targets.{never}
-use Rattle.oracle.proofs.Chain.{On, here, next, Supplied, on_below, on-zero, zero-on, Near, on_near, near_arrow, chain-arrow}
+use Rattle.oracle.proofs.Chain.{On, here, next, Supplied, on_below, on_zero, zero_on, Near, on_near, near_arrow, chain-arrow}
 
 -- 0 where an arrow is missing, which no factor's walk meets
 pub reach : (ℕ → Letter) → Delta → ℕ → ℕ → State
@@ -41,7 +41,7 @@ module _ {m : ℕ} {w : ℕ → Letter} {δ : Delta} {S : State → State} (O : 
 
   pub reach_on : (i n : ℕ) → i + n ≤ m → On S (to i n) (i + n)
   unfolding reach
-  reach_on i zero h = zero-on O (i + 0) h
+  reach_on i zero h = zero_on O (i + 0) h
   reach_on i (suc n) h = rw (add-suc i n) (one_more i n (omega arith) (reach_on i n (omega arith))).1
 
   pub reach_arrow : (i n : ℕ) → i + n < m → δ (to i n) (w (i + n)) ≡ some (to i (suc n))
@@ -53,15 +53,15 @@ module _ {m : ℕ} {w : ℕ → Letter} {δ : Delta} {S : State → State} (O : 
   -- ── On the spine ─────────────────────────────────────────────────────────
 
   -- once there, always there
-  pub stays_on-spine : (i n d : ℕ) → to i n ≡ i + n → i + (n + d) ≤ m → to i (n + d) ≡ i + (n + d)
-  stays_on-spine i n zero e h = rw (add-zero n) e
-  stays_on-spine i n (suc d) e h =
-      let g = stays_on-spine i n d e (omega arith) in
+  pub stays_on_spine : (i n d : ℕ) → to i n ≡ i + n → i + (n + d) ≤ m → to i (n + d) ≡ i + (n + d)
+  stays_on_spine i n zero e h = rw (add-zero n) e
+  stays_on_spine i n (suc d) e h =
+      let g = stays_on_spine i n d e (omega arith) in
       rw (add-suc n d) (reach_next w δ i (n + d) {y = i + suc (n + d)} (rw (g, add-suc i (n + d)) (O.spine (i + (n + d)) (omega arith))))
 
   pub reach_spine : (n : ℕ) → n ≤ m → to 0 n ≡ n
   unfolding reach
-  reach_spine n h = rw (zero-add n, zero-add n) at (stays_on-spine 0 0 n (omega arith) (omega arith))
+  reach_spine n h = rw (zero-add n, zero-add n) at (stays_on_spine 0 0 n (omega arith) (omega arith))
 
   -- ── A factor without its first letters ───────────────────────────────────
 
@@ -89,19 +89,19 @@ module _ {m : ℕ} {w : ℕ → Letter} {δ : Delta} {S : State → State} (O : 
 
   -- ── No state of a chain is left out ──────────────────────────────────────
 
-  chain-from : (n i : ℕ) → i + n ≤ m → {y : State} → On S y (to i n) → (d : ℕ) × (k : ℕ) × (d + k ≡ n) × (to (i + d) k ≡ y)
+  chain_from : (n i : ℕ) → i + n ≤ m → {y : State} → On S y (to i n) → (d : ℕ) × (k : ℕ) × (d + k ≡ n) × (to (i + d) k ≡ y)
   unfolding reach
-  chain-from zero i h {y} r = (0, 0, omega arith, sym (on-zero O refl r))
-  chain-from (suc n) i h {y} (here e) = (0, suc n, omega arith, subst (λ (j : ℕ). to j (suc n) ≡ y) (sym (add-zero i)) (sym e))
-  chain-from (suc n) i h {y} (next r) =
+  chain_from zero i h {y} r = (0, 0, omega arith, sym (on_zero O refl r))
+  chain_from (suc n) i h {y} (here e) = (0, suc n, omega arith, subst (λ (j : ℕ). to j (suc n) ≡ y) (sym (add-zero i)) (sym e))
+  chain_from (suc n) i h {y} (next r) =
       let below : On S y (to (suc i) n) = ⊎_elim (λ e. rw e (next r)) (λ e. rw e r) (reach_near i n h) in
-      let t = chain-from n (suc i) (omega arith) below in
+      let t = chain_from n (suc i) (omega arith) below in
       let e : i + suc t.0 ≡ suc i + t.0 = omega arith in
       (suc t.0, t.1, omega (arith, t.2), rw e t.3)
 
   pub chain_reached : (k : State) → k ≤ m → {y : State} → On S y k → (i : ℕ) × (n : ℕ) × (i + n ≡ k) × (to i n ≡ y)
   chain_reached k h {y} r =
-      let t = chain-from k 0 (omega arith) {y = y} (rw (reach_spine k h) r) in
+      let t = chain_from k 0 (omega arith) {y = y} (rw (reach_spine k h) r) in
       (t.0, t.1, t.2, rw (zero-add t.0) at t.3)
 
   -- ── The arrow that a suffix lacks ────────────────────────────────────────
@@ -129,4 +129,4 @@ module _ {m : ℕ} {w : ℕ → Letter} {δ : Delta} {S : State → State} (O : 
           let rest = suc n - (d + suc l) in
           let short = reach_below i (suc n) (omega arith) in
           let all : d + suc l + rest ≡ suc n = omega arith in
-          rw all at (stays_on-spine i (d + suc l) rest top (omega arith)))
+          rw all at (stays_on_spine i (d + suc l) rest top (omega arith)))

@@ -13,7 +13,7 @@ use lib.ListN.{length}
 use Rattle.words.specs.Words.{Letter, Word, letter, part}
 use Rattle.words.proofs.Lists.{last_of}
 use Rattle.words.proofs.Greatest.{Greatest, greatest_passing}
-use Rattle.words.proofs.Words.{part_length, part_snoc, part-split, part-ends_in}
+use Rattle.words.proofs.Words.{part_length, part_snoc, part-split, part_ends_in}
 use Rattle.oracle.specs.Arrows.{State, Delta, walk}
 use Rattle.oracle.proofs.Chain.{Supplied, on_below}
 use Rattle.oracle.proofs.Reach.{reach, reach_0, reach_next, reach_spine, reach_below, chain_reached}
@@ -45,11 +45,11 @@ module _ (p : Word) {δ : Delta} {S : State → State} (O : Supplied (length p) 
     pub size : skipped + U.len ≡ n
     pub same : part p (i + skipped) U.len ≡ part p U.start U.len
 
-  pub shortest_at-end : (x : State) (U : Shortest x) (i n : ℕ) → x ≤ length p → i + n ≤ length p → to i n ≡ x → ShortestAtEnd x U i n
-  shortest_at-end x U i n b h e =
+  pub shortest_at_end : (x : State) (U : Shortest x) (i n : ℕ) → x ≤ length p → i + n ≤ length p → to i n ≡ x → ShortestAtEnd x U i n
+  shortest_at_end x U i n b h e =
       let len = part_length p U.start U.len (omega (arith, U.place)) in
       let r = U.ends (part p i n) (factor_walk p O i n h ∙ ap {B = Option State} some e) in
-      let t = part-ends_in p i n r.0 (part p U.start U.len) h r.1 in
+      let t = part_ends_in p i n r.0 (part p U.start U.len) h r.1 in
       record { skipped = length r.0; size = rw len at t.0; same = rw len at t.1 }
 
   shortest_0 : Shortest 0
@@ -112,7 +112,7 @@ module _ (p : Word) {δ : Delta} {S : State → State} (O : Supplied (length p) 
         let q : d ≡ w z = rw f at I.letter in
         let r = chain_reached O z (omega arith) on in
         let le = on_below O (omega arith) on in
-        let H = shortest_at-end y (below y le) r.0 r.1 (omega arith) (omega (arith, r.2)) r.3 in
+        let H = shortest_at_end y (below y le) r.0 r.1 (omega arith) (omega (arith, r.2)) r.3 in
         rw q (last_step v y (below y le) (r.0 + H.skipped) le e (rw q at a) (omega (arith, H.size, r.2)) H.same)
 
     ends_in : (v : Word) → walk δ 0 v ≡ some (suc z) → (u : Word) × (v ≡ u ++ part p E N)

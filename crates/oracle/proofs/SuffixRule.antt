@@ -27,7 +27,7 @@ use Rattle.oracle.specs.Arrows.{State, Arrow, arrow, Delta, target, spine, OneEa
 use Rattle.oracle.specs.SuffixRule.{Halt, far, mend, missing, extras_after, extra_arrows, suffix_rule, oracle}
 use Rattle.oracle.proofs.Targets.{never, target_hit, target-skip, target_pass}
 use Rattle.oracle.proofs.Chain.{Supplied}
-use Rattle.oracle.proofs.Reach.{reach, reach_0, reach_next, reach_arrow, reach_spine, stays_on-spine, chain_reached}
+use Rattle.oracle.proofs.Reach.{reach, reach_0, reach_next, reach_arrow, reach_spine, stays_on_spine, chain_reached}
 use Rattle.oracle.proofs.Reach.{lacking-leads_to-spine}
 
 -- ── The spine ──────────────────────────────────────────────────────────────
@@ -46,12 +46,12 @@ module _ (p : Word) where
       (λ e. rw e (target_hit A i (letter p i) (suc i)))
       (λ e. target-skip A _ x (letter p x) (λ q. e (sym q)) ∙ spine-arrow n (suc i) x (omega arith) (omega arith))
 
-  spine-only : (n i : ℕ) (x : State) (c : Letter) (y : State) → target (spine_from i n) x c ≡ some y
+  spine_only : (n i : ℕ) (x : State) (c : Letter) (y : State) → target (spine_from i n) x c ≡ some y
       → (i ≤ x) × (x < i + n) × (c ≡ letter p x) × (y ≡ suc x)
   unfolding from target
-  spine-only zero i x c y e = never refl e
-  spine-only (suc n) i x c y e = ⊎_elim
-      (λ d. let r = spine-only n (suc i) x c y (sym d ∙ e) in (omega (arith, r.0), omega (arith, r.1), r.2, r.3))
+  spine_only zero i x c y e = never refl e
+  spine_only (suc n) i x c y e = ⊎_elim
+      (λ d. let r = spine_only n (suc i) x c y (sym d ∙ e) in (omega (arith, r.0), omega (arith, r.1), r.2, r.3))
       (λ d.
       let f : some y ≡ some (suc i) = sym e ∙ rw (d.0, d.1) (target_hit (spine_from (suc i) n) i (letter p i) (suc i)) in
       let q : y ≡ suc i = cc in
@@ -61,7 +61,7 @@ module _ (p : Word) where
   spine-one : (n i : ℕ) → OneEach (spine_from i n)
   unfolding from OneEach
   spine-one zero i = tt
-  spine-one (suc n) i = (none_where _ (λ y e. omega (arith, (spine-only n (suc i) i (letter p i) y e).0)), spine-one n (suc i))
+  spine-one (suc n) i = (none_where _ (λ y e. omega (arith, (spine_only n (suc i) i (letter p i) y e).0)), spine-one n (suc i))
 
 pub spine-target : (p : Word) (x : State) → x < length p → target (spine p) x (letter p x) ≡ some (suc x)
 unfolding spine
@@ -158,8 +158,8 @@ module _ (p : Word) {δ : Delta} {S : State → State} (O : Supplied (length p) 
       -- behind the new arrow the suffix runs on the spine
       beyond : (d : ℕ) → i + (suc len + d) < m → Uses B i (suc len + d)
       beyond d h =
-          let e = stays_on-spine O i (suc len) d onto_spine (omega arith) in
-          let f = stays_on-spine O i (suc len) (suc d) onto_spine (omega arith) in
+          let e = stays_on_spine O i (suc len) d onto_spine (omega arith) in
+          let f = stays_on_spine O i (suc len) (suc d) onto_spine (omega arith) in
           let k = i + (suc len + d) in
           let s : target A (to 0 k) (w (0 + k)) ≡ some (to 0 (suc k)) = P.has 0 k pos (omega arith) in
           let g : i + (suc len + suc d) ≡ suc k = omega arith in
@@ -195,7 +195,7 @@ module _ (p : Word) {δ : Delta} {S : State → State} (O : Supplied (length p) 
   suffixes_covered zero h = (record { within = within; has = has }, spine-one p (length p) 0)
     where
       within : (x : State) (c : Letter) (y : State) → target (spine_from p 0 (length p)) x c ≡ some y → δ x c ≡ some y
-      within x c y e = let r = spine-only p (length p) 0 x c y e in rw (r.2, r.3) (O.spine x (omega (arith, r.1)))
+      within x c y e = let r = spine_only p (length p) 0 x c y e in rw (r.2, r.3) (O.spine x (omega (arith, r.1)))
 
       has : (j n : ℕ) → j < 1 → j + n < m → Uses (target (spine_from p 0 (length p))) j n
       has j n h l =

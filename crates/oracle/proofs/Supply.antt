@@ -16,7 +16,7 @@ use borrow.Author.Tests.{le-leb, leb-true}
 use Rattle.words.specs.Lists.{from, only, first}
 use Rattle.words.specs.Words.{Word, letter, part, same, stands, occurrences}
 use Rattle.words.proofs.Lists.{test_cases, member, not_empty, from_snoc, from_in, in_from}
-use Rattle.words.proofs.Lists.{only_yes, only-append, only_in, in_only, first-yes, first_not}
+use Rattle.words.proofs.Lists.{only_yes, only_append, only_in, in_only, first_yes, first_not}
 use Rattle.words.proofs.Greatest.{Greatest, Least, greatest_passing}
 use Rattle.words.proofs.Words.{part_of_part}
 use Rattle.words.proofs.Occurrences.{stands-part, part-stands}
@@ -27,7 +27,7 @@ use Rattle.oracle.proofs.Chain.{Supplied, supply_below, Near}
 use Rattle.oracle.proofs.Reach.{reach, reach_0, reach_spine, reach_below, reach_near, reach_falls}
 use Rattle.oracle.proofs.SuffixRule.{suffix_rule-arrows}
 use Rattle.oracle.proofs.Walks.{factor_walk}
-use Rattle.oracle.proofs.Shortest.{shortest, shortest_at-end, reach_same}
+use Rattle.oracle.proofs.Shortest.{shortest, shortest_at_end, reach_same}
 
 -- ── As numbers ─────────────────────────────────────────────────────────────
 
@@ -41,8 +41,8 @@ module _ (p : Word) {δ : Delta} {S : State → State} (O : Supplied (length p) 
   abbrev up : ℕ → State
   up a = reach (letter p) δ a (k - a)
 
-  up-falls : (a c : ℕ) → a ≤ c → c ≤ k → up c ≤ up a
-  up-falls a c h l =
+  up_falls : (a c : ℕ) → a ≤ c → c ≤ k → up c ≤ up a
+  up_falls a c h l =
       let e : a + (c - a) ≡ c = omega arith in
       let f : (c - a) + (k - c) ≡ k - a = omega arith in
       rw (e, f) at (reach_falls O (c - a) a (k - c) (omega arith))
@@ -76,11 +76,11 @@ module _ (p : Word) {δ : Delta} {S : State → State} (O : Supplied (length p) 
       (λ q. q ∙ ap S last_to_k.passes)
       near
 
-  pub least-repeated-leads : (a : ℕ) → Least (Repeats p k) k a → up a ≡ S k
-  least-repeated-leads a L =
+  pub least_repeated_leads : (a : ℕ) → Least (Repeats p k) k a → up a ≡ S k
+  least_repeated_leads a L =
       let low = supply_below O k b in
       let U = shortest p O (S k) (omega arith) in
-      let H = shortest_at-end p O (S k) U (suc E) (k - suc E) (omega arith) (omega (arith, before-end)) next_is-supply in
+      let H = shortest_at_end p O (S k) U (suc E) (k - suc E) (omega arith) (omega (arith, before-end)) next_is-supply in
       -- the supply's shortest word ends the letters up to k from c on, and stands earlier too
       let c = suc E + H.skipped in
       let n : k - c ≡ U.len = omega (arith, H.size, before-end) in
@@ -88,13 +88,13 @@ module _ (p : Word) {δ : Delta} {S : State → State} (O : Supplied (length p) 
       let again : Repeats p k c = (U.start, omega (arith, U.place, H.size, before-end), rw n (sym H.same)) in
       let led = reach_same p O c U.start U.len (omega arith) (omega (arith, U.place)) H.same in
       let same : up c ≡ S k = rw n (led ∙ U.walked) in
-      let high = up-falls (suc E) a late L.within in
-      let deep = up-falls a c (L.least c le again) le in
+      let high = up_falls (suc E) a late L.within in
+      let deep = up_falls a c (L.least c le again) le in
       omega (arith, next_is-supply)
     where
       late : suc E ≤ a
       late = by_cases (dec_le (suc E) a) (λ h. h) (λ h.
-          let falls = up-falls a E (omega arith) last_to_k.within in
+          let falls = up_falls a E (omega arith) last_to_k.within in
           absurd (omega (arith, last_to_k.passes, repeated-below a L.within L.passes)))
 
 -- ── The longest end that stands twice ──────────────────────────────────────
@@ -109,14 +109,14 @@ pub record FirstEnd (P : Word → Bool) (u : Word) : Type 0 where
 
 first-end : (P : Word → Bool) (u : Word) → P [] ≡ true → FirstEnd P u
 unfolding ends
-first-end P [] e = record { at = 0; within = le_refl 0; is = first-yes P [] [] e; passes = e; before = λ a h. absurd (omega arith) }
+first-end P [] e = record { at = 0; within = le_refl 0; is = first_yes P [] [] e; passes = e; before = λ a h. absurd (omega arith) }
 first-end P (c ∷ u) e =
     let r = first-end P u e in
     test_cases (P (c ∷ u))
     (λ f. record {
       at = 0;
       within = omega arith;
-      is = first-yes P (c ∷ u) (ends u) f;
+      is = first_yes P (c ∷ u) (ends u) f;
       passes = f;
       before = λ a h. absurd (omega arith);
     })
@@ -142,7 +142,7 @@ module _ (u : Word) (a : ℕ) (h : a ≤ length u) where
   places =
       let n : suc (length u) - length here ≡ suc a = rw (length-drop a u) (omega arith) in
       let own = part-stands here u a (take-length here) in
-      rw (n, from_snoc 0 a, zero-add a, only-append (stands here u) (from 0 a) (a ∷ []), only_yes (stands here u) a [] own)
+      rw (n, from_snoc 0 a, zero-add a, only_append (stands here u) (from 0 a) (a ∷ []), only_yes (stands here u) a [] own)
 
   count : length (occurrences here u) ≡ length (only (stands here u) (from 0 a)) + 1
   count = ap length places ∙ length-append (only (stands here u) (from 0 a)) (a ∷ [])
@@ -207,8 +207,8 @@ module _ (p : Word) {δ : Delta} {S : State → State} (O : Supplied (length p) 
   longest : FirstEnd (twice u) u
   longest = first-end (twice u) u empty-twice
 
-  longest-least : Least (Repeats p k) k longest.at
-  longest-least =
+  longest_least : Least (Repeats p k) k longest.at
+  longest_least =
       let le : longest.at ≤ k = omega (arith, longest.within, size) in
       let first : (c : ℕ) → c ≤ k → Repeats p k c → longest.at ≤ c = λ c l r. by_cases (dec_le longest.at c)
       (λ h. h)
@@ -220,7 +220,7 @@ module _ (p : Word) {δ : Delta} {S : State → State} (O : Supplied (length p) 
   unfolding supply repeated
   supply_is_defined =
       let a = longest.at in
-      let le : a ≤ k = longest-least.within in
+      let le : a ≤ k = longest_least.within in
       let arrows : oracle p ≡ δ = fun_ext (λ x. fun_ext (λ c. suffix_rule-arrows p O x c)) in
       rw (longest.is, supply, arrows, end-part a le)
-      (factor_walk p O a (k - a) (omega arith) ∙ ap {B = Option State} some (least-repeated-leads p O k pos b a longest-least))
+      (factor_walk p O a (k - a) (omega arith) ∙ ap {B = Option State} some (least_repeated_leads p O k pos b a longest_least))

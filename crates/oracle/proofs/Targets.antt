@@ -10,7 +10,7 @@ use native.Mathlib.Omega.{arith}
 use lib.Dec.{eqb}
 use borrow.Author.Tests.{eqb-true, eq-eqb, ne_eqb}
 use Rattle.words.specs.Words.{Letter}
-use Rattle.words.proofs.Lists.{and-true, test_cases}
+use Rattle.words.proofs.Lists.{and_true, test_cases}
 use Rattle.oracle.specs.Arrows.{State, Arrow, arrow, target, OneEach}
 
 -- nothing is some
@@ -31,7 +31,7 @@ pub target_pass : (A : List Arrow) (a : Arrow) (x : State) (c : Letter)
     → (target (a ∷ A) x c ≡ target A x c) ⊎ ((x ≡ a.source) × (c ≡ a.on))
 unfolding target
 target_pass A a x c = test_cases (eqb a.source x && eqb a.on c)
-    (λ e. let r = and-true e in inr (sym (eqb-true a.source x r.0), sym (eqb-true a.on c r.1)))
+    (λ e. let r = and_true e in inr (sym (eqb-true a.source x r.0), sym (eqb-true a.on c r.1)))
     (λ e. inl (rw e))
 
 -- ── Arrows on one letter into one state ────────────────────────────────────

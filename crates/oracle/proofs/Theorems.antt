@@ -19,7 +19,7 @@ use Rattle.oracle.specs.SuffixRule.{extra_arrows, suffix_rule, oracle}
 use Rattle.oracle.specs.LetterRule.{supply_made, built_up_to, letter_rule}
 use Rattle.oracle.specs.Supply.{supply}
 use Rattle.oracle.proofs.Targets.{never, target_member, member_target, apart}
-use Rattle.oracle.proofs.Chain.{Into, Supplied, supply_below, arrow-up}
+use Rattle.oracle.proofs.Chain.{Into, Supplied, supply_below, arrow_up}
 use Rattle.oracle.proofs.Reach.{reach_spine}
 use Rattle.oracle.proofs.LetterRule.{Sound, supplies, path_of_0, path_of_higher, built_sound, built_restricts}
 use Rattle.oracle.proofs.SuffixRule.{spine-target, suffix_rule-arrows, suffix_rule-one}
@@ -114,7 +114,7 @@ module _ (p : Word) where
       among = Memᴰ.append_left (spine p) i
 
       up : (a.source < a.to) × (a.to ≤ length p)
-      up = arrow-up oracle-supplied a.source a.on a.to (listed-arrow a among)
+      up = arrow_up oracle-supplied a.source a.on a.to (listed-arrow a among)
 
   -- ── 3. Walks and counts ──────────────────────────────────────────────────
 
@@ -131,11 +131,11 @@ module _ (p : Word) where
       let walked = walks.factor_walk p oracle-supplied 0 (length p) (omega arith) in
       rw (part-whole p, reach_spine oracle-supplied (length p) (le_refl _)) at walked
 
-  pub only-walk : (v : Word) (y : State) → walk (oracle p) 0 v ≡ some y → length v ≡ length p → v ≡ p
-  only-walk v y e n = walks.only-walk p oracle-supplied v y e n
+  pub only_walk : (v : Word) (y : State) → walk (oracle p) 0 v ≡ some y → length v ≡ length p → v ≡ p
+  only_walk v y e n = walks.only_walk p oracle-supplied v y e n
 
-  pub no_longer-walk : (v : Word) (y : State) → walk (oracle p) 0 v ≡ some y → length v ≤ length p
-  no_longer-walk v y e = let r = walks.walk-climbs p oracle-supplied v 0 y (omega arith) e in omega (arith, r.0, r.1)
+  pub no_longer_walk : (v : Word) (y : State) → walk (oracle p) 0 v ≡ some y → length v ≤ length p
+  no_longer_walk v y e = let r = walks.walk-climbs p oracle-supplied v 0 y (omega arith) e in omega (arith, r.0, r.1)
 
   -- m to 2m - 1 arrows
   pub arrows-between : (length p ≤ length (suffix_rule p)) × (length (suffix_rule p) ≤ length p + (length p - 1))

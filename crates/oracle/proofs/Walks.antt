@@ -12,7 +12,7 @@ use Rattle.words.proofs.Lists.{option_cases}
 use Rattle.words.proofs.Words.{part_snoc}
 use Rattle.oracle.specs.Arrows.{State, Delta, walk}
 use Rattle.oracle.proofs.Targets.{never}
-use Rattle.oracle.proofs.Chain.{Supplied, arrow-up}
+use Rattle.oracle.proofs.Chain.{Supplied, arrow_up}
 use Rattle.oracle.proofs.Reach.{reach, reach_0, reach_arrow}
 
 -- ── Walks in pieces ────────────────────────────────────────────────────────
@@ -59,7 +59,7 @@ module _ (p : Word) {δ : Delta} {S : State → State} (O : Supplied (length p) 
   walk-climbs [] x y h e = let q : x ≡ y = cc in (omega arith, omega arith)
   walk-climbs (c ∷ v) x y h e =
       let f = walk_first δ c v x y e in
-      let u = arrow-up O x c f.0 f.1 in
+      let u = arrow_up O x c f.0 f.1 in
       let r = walk-climbs v f.0 y u.1 f.2 in
       (omega (arith, u.0, r.0), r.1)
 
@@ -71,12 +71,12 @@ module _ (p : Word) {δ : Delta} {S : State → State} (O : Supplied (length p) 
   full_walk (c ∷ v) x y e q =
       let f = walk_first δ c v x y e in
       let u = O.into x c f.0 f.1 in
-      let a = arrow-up O x c f.0 f.1 in
+      let a = arrow_up O x c f.0 f.1 in
       let b = walk-climbs v f.0 y a.1 f.2 in
       let next : f.0 ≡ suc x = omega (arith, a.0, b.0, b.1) in
       let at : u.z ≡ x = omega (arith, u.to) in
       let r : v ≡ drop (suc x) p = full_walk v (suc x) y (rw next at f.2) (omega arith) in
       rw (drop-cons p x 0 (omega arith), ← r) (ap {B = Word} (λ d. d ∷ v) (rw at at u.letter))
 
-  pub only-walk : (v : Word) (y : State) → walk δ 0 v ≡ some y → length v ≡ length p → v ≡ p
-  only-walk v y e q = full_walk v 0 y e (omega arith)
+  pub only_walk : (v : Word) (y : State) → walk δ 0 v ≡ some y → length v ≡ length p → v ≡ p
+  only_walk v y e q = full_walk v 0 y e (omega arith)

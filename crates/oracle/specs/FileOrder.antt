@@ -1,12 +1,12 @@
 -- THE FILE'S ORDER of extra arrows: by rising source, then rising target. An arrow into a state carries that state's letter, so source and
 -- target say all of it.
 --
---   leads_to o y           whether o is the state y
---   extra_targets δ p x    the targets of the extra arrows that leave x, rising
---   targets_before δ p k   those of the states before k, one state behind the other
+--   leads_to o y          whether o is the state y
+--   extra_targets δ p x   the targets of the extra arrows that leave x, rising
+--   targets_before δ p k  those of the states before k, one state behind the other
 --   Extra                 an extra arrow, by its source and its target; `extra x y` is the one from x to y
---   extras_before δ p k    the extra arrows of the states before k, in the same order
---   file_arrows p          the extra arrows of a word's oracle, in the file's order
+--   extras_before δ p k   the extra arrows of the states before k, in the same order
+--   file_arrows p         the extra arrows of a word's oracle, in the file's order
 --
 -- 01, 'The file on disk'.
 use Rattle.std.specs.Prelude.{Bool, false, List, [], ◌++◌, map, zero, suc, pred, ◌-◌, length, eqb}

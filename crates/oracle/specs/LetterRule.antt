@@ -2,14 +2,14 @@
 -- and so on. The path of state 0 is empty: 'no supply' is a case of its own and no number.
 --
 --   Automaton         the arrows made so far, and the suffix path of each state
---   path_of b x        the suffix path of x
---   supply_made b x    the supply of x, if it has one
+--   path_of b x       the suffix path of x
+--   supply_made b x   the supply of x, if it has one
 --   NewState          the states that get an arrow to a new state, besides the one before it, and its supply
 --   climb δ c l       along the path l: the states before the first with an arrow on c, and the new state's supply
---   add_letter t c b   adds state t + 1 with letter c to the states 0 to t
---   built_up_to p t     what the rule has made of the first t letters
---   sources_of p t     the states that get an arrow on letter t, besides t itself
---   letter_rule p      what it makes of p
+--   add_letter t c b  adds state t + 1 with letter c to the states 0 to t
+--   built_up_to p t   what the rule has made of the first t letters
+--   sources_of p t    the states that get an arrow on letter t, besides t itself
+--   letter_rule p     what it makes of p
 --
 -- 01, 'The oracle of a word'; demand 2.
 use Rattle.std.proofs.Math.Option.{Option, none, some}

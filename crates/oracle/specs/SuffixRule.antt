@@ -5,9 +5,9 @@
 --   far δ x k v       the walk of v from x as far as arrows go, k letters standing before v
 --   mend p h          the arrow that a walk halted at h lacks, in a list of one or none
 --   missing p A i     the arrow that suffix i adds to the arrows A, in such a list
---   extras_after p i   the arrows added for the suffixes 1 to i, the last one first
---   extra_arrows p     the extra arrows: those of all suffixes
---   suffix_rule p      all arrows: the extra ones and the spine
+--   extras_after p i  the arrows added for the suffixes 1 to i, the last one first
+--   extra_arrows p    the extra arrows: those of all suffixes
+--   suffix_rule p     all arrows: the extra ones and the spine
 --   oracle p          where they lead
 --
 -- 01, 'The oracle of a word'; demand 2.

@@ -34,13 +34,13 @@ module _ (w : Word) (h : ℕ) (short : h < length w) (c : Letter) where
   x-length : length x ≡ suc h
   x-length = length-append (part w 0 h) (c ∷ []) ∙ omega (arith, part_length w 0 h (omega arith))
 
-  end-most : end ≤ length w
+  end_most : end ≤ length w
   unfolding longest_end
-  end-most = omega (arith, longest-below (λ k. closes w k x) (suc (length w)))
+  end_most = omega (arith, longest-below (λ k. closes w k x) (suc (length w)))
 
   end_closing : Closing w end x
   unfolding longest_end
-  end_closing = closes_closing w x end end-most (longest-passes (λ k. closes w k x) (nothing-closes w x) (suc (length w)))
+  end_closing = closes_closing w x end end_most (longest-passes (λ k. closes w k x) (nothing-closes w x) (suc (length w)))
 
   end-longest : (k : ℕ) → k ≤ length w → Closing w k x → k ≤ end
   unfolding longest_end
@@ -68,7 +68,7 @@ module _ (w : Word) (h : ℕ) (short : h < length w) (c : Letter) where
 
   module _ (all : length w ≤ end) where
     starts : (end_closing.start ≡ 0) × (end ≡ length w)
-    starts = (omega (arith, end_closing.sum, x-length), omega (arith, end-most))
+    starts = (omega (arith, end_closing.sum, x-length), omega (arith, end_most))
 
     pub whole_length : suc h ≡ length w
     whole_length = omega (arith, end_closing.sum, x-length, starts.1)

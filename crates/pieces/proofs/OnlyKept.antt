@@ -13,7 +13,7 @@ use lib.ListN.{length, take, drop, length-append, length-drop, get_or-append}
 use lib.Seq.{length-take-le, take-length, take-add, take-append-le, drop-append-le, drop-append-add}
 use Rattle.words.specs.Lists.{from, only}
 use Rattle.words.specs.Words.{Word, Place, letter, part, stands, occurrences}
-use Rattle.words.proofs.Lists.{from-append, only-append, only_same, only_shift}
+use Rattle.words.proofs.Lists.{from_append, only_append, only_same, only_shift}
 use Rattle.words.proofs.Words.{same_true, part_length}
 use Rattle.words.proofs.Occurrences.{stands-letters, since, since-later}
 use Rattle.border.specs.Borders.{closes}
@@ -123,13 +123,13 @@ module _ (w t v : Word) (some-letter : 1 ≤ length w) where
       rw n ((rw (add-zero before) at (only_shift (stands w (t ++ v)) before 0 (suc (length late) - length w)))
       ∙ ap (map (λ q. before + q)) (only_same (λ q. stands w (t ++ v) (before + q)) (stands w late) 0 _ (λ j a b. stands-late j)))
 
-  pub finds-go-on : occurrences w (t ++ v) ≡ occurrences w t ++ map (λ q. before + q) (occurrences w late)
+  pub finds_go_on : occurrences w (t ++ v) ≡ occurrences w t ++ map (λ q. before + q) (occurrences w late)
   unfolding occurrences
-  finds-go-on =
+  finds_go_on =
       let rest = suc (length (t ++ v)) - (new + length w) in
       let n : suc (length (t ++ v)) - length w ≡ new + rest = omega (arith, length-append t v) in
       let past : new ≤ before = omega (arith, fits.0, fits.1) in
-      rw (n, from-append 0 new rest, only-append (stands w (t ++ v)) (from 0 new) (from (0 + new) rest), zero-add new)
+      rw (n, from_append 0 new rest, only_append (stands w (t ++ v)) (from 0 new) (from (0 + new) rest), zero-add new)
       (ap (λ (l : List Place). l ++ since w (t ++ v) new)
       (only_same (stands w (t ++ v)) (stands w t) 0 new (λ j a b. stands_old j (omega arith)))
       ∙ ap (λ (l : List Place). only (stands w t) (from 0 new) ++ l)

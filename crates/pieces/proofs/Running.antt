@@ -19,7 +19,7 @@ use Rattle.finds.specs.Finds.{filled}
 use Rattle.finds.proofs.Filling.{filled-nil, filled-length}
 use Rattle.pieces.specs.Kept.{kept, heard}
 use Rattle.pieces.proofs.Kept.{kept_shorter, kept-within, kept_beginning}
-use Rattle.pieces.proofs.OnlyKept.{kept-goes_on, finds-go-on}
+use Rattle.pieces.proofs.OnlyKept.{kept-goes_on, finds_go_on}
 use Rattle.pieces.proofs.OneLetter.{short-kept, short-finds, whole_length, whole-kept, whole-finds}
 
 -- the word's first `held` letters are kept of the `past` letters before the piece v; of the piece, `at` letters were taken
@@ -110,7 +110,7 @@ module _ {w v : Word} {held past : ℕ} {F₀ F : List ℕ} {at keep count : ℕ
     then_found =
         let place : length y - kept w y ≡ held + at - keep = omega (arith, y-length, R.keeps) in
         ap (occurrences w) one_more
-        ∙ finds-go-on w y (c ∷ []) some-letter
+        ∙ finds_go_on w y (c ∷ []) some-letter
         ∙ rw (place, ← R.keeps)
 
     module _ {end : ℕ} (longest : end ≡ longest_end w x) where
@@ -169,8 +169,8 @@ module _ {w v : Word} {held past : ℕ} {F₀ F : List ℕ} {at keep count : ℕ
 -- ── Letters that are skipped ───────────────────────────────────────────────
 
 -- a letter that is not the word's first leaves nothing kept where nothing was
-pub other-letter : (w : Word) (c : ℕ) → letter w 0 ≢ c → longest_end w (heard w 0 (c ∷ [])) ≡ 0
-other-letter w c d = end_none w 0 (omega arith) c (λ j l E e. let first : j ≡ 0 = omega (arith, E.sum) in d (rw first at e))
+pub other_letter : (w : Word) (c : ℕ) → letter w 0 ≢ c → longest_end w (heard w 0 (c ∷ [])) ≡ 0
+other_letter w c d = end_none w 0 (omega arith) c (λ j l E e. let first : j ≡ 0 = omega (arith, E.sum) in d (rw first at e))
 
 -- so do any number of them
 running_others : {w v : Word} {held past : ℕ} {F₀ F : List ℕ} {count : ℕ} (k at : ℕ) → Running w v held past F₀ F at 0 count
@@ -179,7 +179,7 @@ running_others : {w v : Word} {held past : ℕ} {F₀ F : List ℕ} {count : ℕ
 running_others zero at R short fits other = rw (add-zero at) R
 running_others {w} {v} {held} {past} {F₀} {F} {count} (suc k) at R short fits other =
     let here : letter w 0 ≢ letter v at = λ e. other at (le_refl at) (omega arith) (sym e) in
-    let one = running_short R short (omega arith) (sym (other-letter w (letter v at) here)) (omega arith) in
+    let one = running_short R short (omega arith) (sym (other_letter w (letter v at) here)) (omega arith) in
     let n : at + 1 + k ≡ at + suc k = omega arith in
     rw n at (running_others k (at + 1) one short (omega arith) (λ i l u. other i (omega arith) (omega arith)))
 

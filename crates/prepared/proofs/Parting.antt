@@ -24,8 +24,8 @@ columns-start Z = record {
 }
 
 -- one more, for letter b
-pub columns-more : {C : List ℕ} {k next b : ℕ} → Apart C k next → b < 256 → Apart (set C b next) k (next + k)
-columns-more {C} {k} {next} {b} A l = record {
+pub columns_more : {C : List ℕ} {k next b : ℕ} → Apart C k next → b < 256 → Apart (set C b next) k (next + k)
+columns_more {C} {k} {next} {b} A l = record {
   size = simp length-set A.size;
   inside = λ c h. within c h (ℕ_discrete c b);
   apart = λ c d h i f z. parted c d h i f z (ℕ_discrete c b) (ℕ_discrete d b);

@@ -108,7 +108,8 @@ fn put(
         return true;
     }
     let start = column[d] as usize;
-    if start == 0 {
+    let none = 0;
+    if start == none {
         return false;
     }
     dense[start + (x.0 as usize)] = y.0;

@@ -39,9 +39,9 @@ module _ (t : Word) (q : Place) where
   unfolding in_header
   too_early h = simp (lt-leb 8 q h)
 
-  pub other-size : 8 ≤ q → allowed (header_size t s) ≡ false → header_of t q ≡ Missing
+  pub other_size : 8 ≤ q → allowed (header_size t s) ≡ false → header_of t q ≡ Missing
   unfolding in_header header_inside
-  other-size late e = simp (le-leb 8 q late, e)
+  other_size late e = simp (le-leb 8 q late, e)
 
   module _ (late : 8 ≤ q) (size : allowed (header_size t s) ≡ true) where
     pub behind_the_end : length t < s + header_size t s → header_of t q ≡ Missing

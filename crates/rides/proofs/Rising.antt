@@ -31,8 +31,8 @@ less_rises d {a} f (up {x = x} g r) =
 module _ {l r : List ℕ} {x y : ℕ} (p : Rising (suc x) l) (q : Rising (suc y) r)
     (f : (z : ℕ) → Memᴰ z (x ∷ l) → Memᴰ z (y ∷ r)) where
   -- the first of the one is not below the other's
-  first-least : y ≤ x
-  first-least = ⊎_elim (λ e. omega (arith, e)) (λ m. omega (arith, rising_above q m)) (Memᴰ.cases_cons (f x (Memᴰ.head refl)))
+  first_least : y ≤ x
+  first_least = ⊎_elim (λ e. omega (arith, e)) (λ m. omega (arith, rising_above q m)) (Memᴰ.cases_cons (f x (Memᴰ.head refl)))
 
   -- and what follows the one, where they are equal, follows the other
   rest_in : x ≡ y → (z : ℕ) → Memᴰ z l → Memᴰ z r
@@ -43,6 +43,6 @@ rising_same end end f = refl
 rising_same end (up {x = y} h q) f = absurd (Memᴰ.not-nil ((f y).1 (Memᴰ.head refl)))
 rising_same (up {x = x} g p) end f = absurd (Memᴰ.not-nil ((f x).0 (Memᴰ.head refl)))
 rising_same (up {x = x} {l = l} g p) (up {x = y} {l = r} h q) f =
-    let e : x ≡ y = omega (arith, first-least p q (λ z. (f z).0), first-least q p (λ z. (f z).1)) in
+    let e : x ≡ y = omega (arith, first_least p q (λ z. (f z).0), first_least q p (λ z. (f z).1)) in
     let rest = rising_same p q (λ z. (rest_in p q (λ z. (f z).0) e z, rest_in q p (λ z. (f z).1) (sym e) z)) in
     rw (e, rest)

@@ -13,7 +13,7 @@ use lib.Dec.{leb}
 use borrow.Author.Tests.{le-leb, lt-leb, leb-true}
 use Rattle.words.specs.Lists.{only, Rising}
 use Rattle.words.specs.Words.{Word, Place, stands, occurrences}
-use Rattle.words.proofs.Lists.{and-true, only_in, in_only}
+use Rattle.words.proofs.Lists.{and_true, only_in, in_only}
 use Rattle.words.proofs.Occurrences.{stands-inside, occurrence_stands, standing_occurs, occurrences_rise}
 use Rattle.rides.specs.Rides.{dot_fit, allowed, header_size, header_inside, in_header, ride_end, cut, whole, kind_of}
 use Rattle.rides.specs.Rides.{Ride, ride_at, rides_at, rides, starts, kinds, HeaderAt}
@@ -66,8 +66,8 @@ module _ (t : Word) where
   in_header_lem : (q : Place) → in_header t q ≡ true → stands dot_fit t q ≡ true → (8 ≤ q) × HeaderAt t (q - 8)
   unfolding in_header header_inside
   in_header_lem q e m =
-      let a = and-true {a = leb 8 q} e in
-      let b = and-true {a = allowed (header_size t (q - 8))} a.1 in
+      let a = and_true {a = leb 8 q} e in
+      let b = and_true {a = allowed (header_size t (q - 8))} a.1 in
       let late : 8 ≤ q = leb-true 8 q a.0 in
       let back : q - 8 + 8 ≡ q = omega arith in (
         late,

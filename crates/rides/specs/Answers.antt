@@ -1,6 +1,6 @@
 -- What the code's answer about a header means.
 --
---   header_of t q   the header that `.FIT` at q is in, if it is listed
+--   header_of t q  the header that `.FIT` at q is in, if it is listed
 use Rattle.std.specs.Prelude.{cond, ◌-◌}
 use Rattle.words.specs.Words.{Word, Place}
 use Rattle.rides.specs.declared.Header.{Header}

@@ -1,18 +1,18 @@
 -- RIDES BY THEIR HEADERS. A header is 12 or 14 bytes: its first byte is that size, bytes 4 to 7 hold the size of the data, low byte first,
 -- and bytes 8 to 11 are `.FIT`. Data and a check of two bytes follow it; the check's value is not looked at.
 --
---   dot_fit             the word `.FIT`
+--   dot_fit            the word `.FIT`
 --   allowed n          whether a header may have n bytes: 12 or 14
---   header_size t s     the first byte of a header that begins at s: how many bytes it has
---   data_size t s       how many bytes of data it declares
---   header_inside t s   whether it may have that size and is wholly inside the text; `.FIT` is asked for apart
---   in_header t q       whether `.FIT` at q is in such a header: 8 bytes stand before it, and the header begins there
---   ride_end t s        where header, data and check end, by what the header declares
+--   header_size t s    the first byte of a header that begins at s: how many bytes it has
+--   data_size t s      how many bytes of data it declares
+--   header_inside t s  whether it may have that size and is wholly inside the text; `.FIT` is asked for apart
+--   in_header t q      whether `.FIT` at q is in such a header: 8 bytes stand before it, and the header begins there
+--   ride_end t s       where header, data and check end, by what the header declares
 --   cut, whole         the kinds
---   kind_of t s         whole where header, data and check end within the text, else cut
+--   kind_of t s        whole where header, data and check end within the text, else cut
 --   Ride               where a header begins, and its ride's kind
---   ride_at t s         the ride of the header that begins at s
---   rides_at t l        the rides of those of the places l of `.FIT` that are in a header
+--   ride_at t s        the ride of the header that begins at s
+--   rides_at t l       the rides of those of the places l of `.FIT` that are in a header
 --   rides t            all of them
 --   starts R, kinds R  the two columns of a list of rides
 --   HeaderAt t s       a header begins at s: `.FIT` stands 8 places on, the first byte is 12 or 14, and so many bytes are within the text

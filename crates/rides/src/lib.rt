@@ -52,7 +52,8 @@ pub fn read_header(text: &[u8], q: words::Place) -> Header
         return Header::Missing;
     }
     let behind = first + (size as usize);
-    if text.len() < behind {
+    let least = behind;
+    if text.len() < least {
         return Header::Missing;
     }
     let end = (behind as u64) + data_size(text, first) + 2;

@@ -6,12 +6,12 @@ use Prim.Native.Nat.{ℕ, ◌+◌}
 use lib.ListN.{length, length-append, length-map}
 use Rattle.words.proofs.Lists.{map-append}
 use Rattle.two_lists.specs.TwoLists.{Both}
-use Rattle.two_lists.proofs.Filling.{both-nil}
+use Rattle.two_lists.proofs.Filling.{both_nil}
 use Rattle.rides.specs.Rides.{Ride, starts, kinds}
 use Rattle.salvage.specs.Listing.{InLists, Adds}
 
 pub listed-none : (S K : List ℕ) → InLists [] S K S K
-listed-none S K = both-nil S K
+listed-none S K = both_nil S K
 
 pub adds_none : (n : ℕ) (A B : List ℕ) → Adds [] n A B A B
 adds_none n A B = record { behind = λ R S K e b. rw (append-nil R) b }

@@ -8,7 +8,7 @@ use native.Mathlib.Omega.{arith}
 use lib.ListN.{length, take, length-append, length-take}
 use Rattle.words.specs.Lists.{at, from, only}
 use Rattle.words.specs.Words.{Word, Place, part, stands, occurrences}
-use Rattle.words.proofs.Lists.{only-append, only-few, only_same, only_shift, from-append, from-length, entry_in}
+use Rattle.words.proofs.Lists.{only_append, only_few, only_same, only_shift, from_append, from_length, entry_in}
 use Rattle.words.specs.Limits.{longest_text}
 use Rattle.words.proofs.Limits.{texts_fit}
 use Rattle.words.proofs.Words.{part_length, part_of_part}
@@ -65,7 +65,7 @@ module _ {t : Word} {S K F : List ℕ} where
 
   module _ {A B : List ℕ} {a count : ℕ} (before : Before t S K F A B a count) where
     before-few : count ≤ a
-    before-few = omega (arith, before.number, rides-few t (found_before t a), only-few (stands dot_fit t) (from 0 a), from-length 0 a)
+    before-few = omega (arith, before.number, rides-few t (found_before t a), only_few (stands dot_fit t) (from 0 a), from_length 0 a)
 
     module _ {e n : ℕ} {F' : List ℕ} (search : Searched t F F' a e n) where
       abbrev p : Word
@@ -104,8 +104,8 @@ module _ {t : Word} {S K F : List ℕ} where
       next-found =
           let k : e - 3 ≡ a + (suc (e - a) - length dot_fit) = omega (arith, dot_fit-length, search.least) in
           let own = ap (map (behind_place a)) part-lent ∙ part-finds dot_fit t a (e - a) (omega (arith, search.least, search.most)) in
-          rw (k, from-append 0 a (suc (e - a) - length dot_fit), zero-add a, own)
-          (only-append (stands dot_fit t) (from 0 a) (from a (suc (e - a) - length dot_fit)))
+          rw (k, from_append 0 a (suc (e - a) - length dot_fit), zero-add a, own)
+          (only_append (stands dot_fit t) (from 0 a) (from a (suc (e - a) - length dot_fit)))
 
       next-rides : rides_at t (found_before t (e - 3)) ≡ rides_at t (found_before t a) ++ rides_at t (map (behind_place a) (take n F'))
       next-rides = ap (rides_at t) next-found ∙ rides-append t (found_before t a) (map (behind_place a) (take n F'))

@@ -44,10 +44,10 @@ mirror-size = table-size (mirror dot_fit) ∙ ap room (length-reverse dot_fit)
 
 -- the room that was filled with P, as it is lent once more
 pub lent-table : (T : List ℕ) {P : List ℕ} → P ≡ table_of (mirror dot_fit) → take 30 (P ++ drop 30 T) ≡ table_of (mirror dot_fit)
-lent-table T {P} Filled-in = take_at P (drop 30 T) 30 (ap length Filled-in ∙ mirror-size ∙ dot_fit_room_lem) ∙ Filled-in
+lent-table T {P} filled_in = take_at P (drop 30 T) 30 (ap length filled_in ∙ mirror-size ∙ dot_fit_room_lem) ∙ filled_in
 
 pub lent-size : (T : List ℕ) {P : List ℕ} → P ≡ table_of (mirror dot_fit) → 30 ≡ length (take 30 (P ++ drop 30 T))
-lent-size T Filled-in = sym (ap length (lent-table T Filled-in) ∙ mirror-size ∙ dot_fit_room_lem)
+lent-size T filled_in = sym (ap length (lent-table T filled_in) ∙ mirror-size ∙ dot_fit_room_lem)
 
 module _ (text : Word) (T : List ℕ) (S : List Place) (K : List ℕ) where
   -- ── When each is given ───────────────────────────────────────────────────
@@ -116,12 +116,12 @@ module _ (text : Word) (T : List ℕ) (S : List Place) (K : List ℕ) where
   -- ── What the code's listing comes to ─────────────────────────────────────
 
   -- the room that was filled with P, and is lent no more
-  module _ {P : List ℕ} (Filled-in : P ≡ table_of (mirror dot_fit)) where
+  module _ {P : List ℕ} (filled_in : P ≡ table_of (mirror dot_fit)) where
     pub says-listed : {n : ℕ} {A B : List ℕ} → n ≡ length (rides text) → InLists (rides text) S K A B
         → length text ≤ longest_text → 30 ≤ length T → outcome (done n) (P ++ drop 30 T) A B ≡ salvage_says text T S K
     says-listed e b l s =
         let accept = given (accepted l (omega (arith, dot_fit_room_lem, s))) in
-        rw (accept, e, b.one, b.other, Filled-in, dot_fit_room_lem)
+        rw (accept, e, b.one, b.other, filled_in, dot_fit_room_lem)
 
 -- ── On what it depends ─────────────────────────────────────────────────────
 

@@ -1,10 +1,10 @@
 -- What the lister's own functions promise each other.
 --
---   longest_part            how many letters a part has at most
---   most_finds              how many finds a part has at most
+--   longest_part           how many letters a part has at most
+--   most_finds             how many finds a part has at most
 --   InLists R S K A B      where the caller's lists were S and K, they are A and B: the rides R are in them, as many as fit both
 --   Adds X n A B A' B'     where n rides are in the lists A and B, in A' and B' the rides X are behind them
---   behind_place a q        the place q counted from a on
+--   behind_place a q       the place q counted from a on
 --   Within t a F           at each of the places F, counted from a on, four letters are within the text
 use Rattle.std.specs.Prelude.{◌≡◌, List, ◌++◌, ℕ, ◌+◌, ◌≤◌, ◌<◌, length}
 use Rattle.words.specs.Lists.{at}

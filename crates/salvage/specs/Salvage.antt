@@ -3,7 +3,7 @@
 --   dot_fit_room                  how many table entries the word `.FIT` needs
 --   Outcome                  the answer, and the room and both lists as they are left
 --   salvaged r T S K         the outcome of code that answers r and leaves T, S and K
---   salvage_says text T S K   what it must be: 4, 3 in that order; else the rides of the text are counted, the first of their starts and
+--   salvage_says text T S K  what it must be: 4, 3 in that order; else the rides of the text are counted, the first of their starts and
 --                            kinds are in the lists S and K, as many as fit the shorter, the room is as a search for `.FIT` leaves it, and
 --                            the rest of the room and of both lists is as it was
 --

@@ -72,8 +72,8 @@ module _ {p : Word} {final t : List ℕ} {at : ℕ} {x : State} {s : ℕ} (P : P
     abbrev behind : List ℕ
     behind = spell_steps (steps_ahead p r.source.0 (s + 1))
 
-    pub room-up : at + length (spell_number r.up) ≤ length t
-    room-up = put-room P.putting (spell_number r.up) (spell_number r.over ++ behind) (ahead-next J)
+    pub room_up : at + length (spell_number r.up) ≤ length t
+    room_up = put-room P.putting (spell_number r.up) (spell_number r.over ++ behind) (ahead-next J)
 
     module _ {t₁ : List ℕ} {at₁ : ℕ} (W₁ : Wrote t at r.up t₁ at₁) where
       at-over : Putting final t₁ at₁ (spell_number r.over ++ behind)
@@ -101,9 +101,9 @@ module _ (p : Word) where
   abbrev from_size : List ℕ
   from_size = spell_number (length p) ++ from_letters
 
-  from-edition : spell p ≡ spell_number 1 ++ from_size
+  from_edition : spell p ≡ spell_number 1 ++ from_size
   unfolding spell body
-  from-edition = rw edition-number
+  from_edition = rw edition-number
 
   module _ (out : List ℕ) (h : length (spell p) ≤ length out) where
     abbrev final : List ℕ
@@ -113,11 +113,11 @@ module _ (p : Word) where
     at-edition = record { still = refl; room = omega arith }
 
     pub room-edition : 0 + length (spell_number 1) ≤ length out
-    room-edition = put-room at-edition (spell_number 1) from_size from-edition
+    room-edition = put-room at-edition (spell_number 1) from_size from_edition
 
     module _ {t₁ : List ℕ} {at₁ : ℕ} (W₁ : Wrote out 0 1 t₁ at₁) where
       at_size : Putting final t₁ at₁ from_size
-      at_size = put-number at-edition 1 from_size from-edition W₁
+      at_size = put-number at-edition 1 from_size from_edition W₁
 
       pub room-size : at₁ + length (spell_number (length p)) ≤ length t₁
       room-size = put-room at_size (spell_number (length p)) from_letters refl

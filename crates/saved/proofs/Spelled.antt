@@ -45,23 +45,23 @@ unfolding spell body
 file-length p = rw (edition-number, spelling-single 1 (omega arith)) (simp length-append (omega arith))
 
 module _ {m w : ℕ} (narrow : (v : ℕ) → v ≤ m → length (spell_number v) ≤ w) where
-  steps-most : (s : State) (l : List Extra) → ((a : Extra) → Memᴰ a l → (a.source ≤ m) × (a.to ≤ m))
+  steps_most : (s : State) (l : List Extra) → ((a : Extra) → Memᴰ a l → (a.source ≤ m) × (a.to ≤ m))
       → length (spell_steps (steps_from s l)) ≤ 2 * w * length (steps_from s l)
   unfolding steps_from spell_steps
-  steps-most s [] f = omega arith
-  steps-most s (a ∷ l) f =
+  steps_most s [] f = omega arith
+  steps_most s (a ∷ l) f =
       let ends = f a (Memᴰ.head refl) in
-      let rest = steps-most a.source l (λ b n. f b (Memᴰ.tail n)) in
+      let rest = steps_most a.source l (λ b n. f b (Memᴰ.tail n)) in
       let up = narrow (a.source - s) (omega (arith, ends.0)) in
       let over = narrow (a.to - a.source - 2) (omega (arith, ends.1)) in
       simp length-append (omega (arith, rest, up, over))
 
   -- at most m - 1 steps of two numbers each
-  pub file-most : (p : Word) → length p ≡ m → 1 ≤ m → length (spell p) ≤ 1 + m + 2 * w * m
+  pub file_most : (p : Word) → length p ≡ m → 1 ≤ m → length (spell p) ≤ 1 + m + 2 * w * m
   unfolding own_steps file_arrows
-  file-most p e h =
+  file_most p e h =
       let few = own-few p in
-      let steps : length (spell_steps (own_steps p)) ≤ 2 * w * length (own_steps p) = steps-most 0 (file_arrows p) ends in
+      let steps : length (spell_steps (own_steps p)) ≤ 2 * w * length (own_steps p) = steps_most 0 (file_arrows p) ends in
       let more : 2 * w * (length (own_steps p) + 1) ≤ 2 * w * m = mul-le-mul_left (2 * w) (omega arith) in
       omega (arith, file-length p, narrow (length p) (omega arith), narrow (length (own_steps p)) (omega arith))
     where
@@ -72,4 +72,4 @@ module _ {m w : ℕ} (narrow : (v : ℕ) → v ≤ m → length (spell_number v)
 
 -- far below what 64 bits hold
 pub file-fits : (p : Word) → 1 ≤ length p → length p < 65535 → length (spell p) < 1000000
-file-fits p h b = omega (arith, file-most {w = 5} (λ v _. (spelling-length v).1) p refl h)
+file-fits p h b = omega (arith, file_most {w = 5} (λ v _. (spelling-length v).1) p refl h)

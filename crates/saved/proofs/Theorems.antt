@@ -7,31 +7,31 @@ use lib.ListN.{length, replicate}
 use Rattle.words.specs.Lists.{from, only, first}
 use Rattle.words.specs.Words.{Word}
 use Rattle.words.specs.Limits.{least_saved, longest_word, greatest_file}
-use Rattle.words.proofs.Limits.{words_fit, file-room, least-below-longest}
+use Rattle.words.proofs.Limits.{words_fit, file-room, least_below_longest}
 use Rattle.oracle.specs.Arrows.{target, walk, spine}
 use Rattle.oracle.specs.SuffixRule.{far, mend, missing, extras_after, extra_arrows, suffix_rule}
 use Rattle.oracle.specs.FileOrder.{leads_to, extra_targets, extras_before, file_arrows}
 use Rattle.number.specs.Number.{Bytes, groups, spell_number}
 use Rattle.number.proofs.Theorems.{spelling-length, spelling-short}
 use Rattle.saved.specs.File.{edition, steps_from, spell_steps, own_steps, body, spell, Saved}
-use Rattle.saved.proofs.Spelled.{file-length, file-most}
+use Rattle.saved.proofs.Spelled.{file-length, file_most}
 
 -- ── At most ────────────────────────────────────────────────────────────────
 
 module _ (p : Word) (some : 1 ≤ length p) where
   -- five bytes a letter and one more are always room enough, where numbers take two
   pub size_linear : length p < 16384 → length (spell p) ≤ 5 * length p + 1
-  size_linear h = omega (arith, file-most {w = 2} (λ v b. spelling-short v (omega arith)) p refl some)
+  size_linear h = omega (arith, file_most {w = 2} (λ v b. spelling-short v (omega arith)) p refl some)
 
   -- so for every word within the limit
-  pub size-most : length p ≤ longest_word → length (spell p) ≤ greatest_file
-  size-most h = omega (arith, file-room, size_linear (omega (arith, words_fit)))
+  pub size_most : length p ≤ longest_word → length (spell p) ≤ greatest_file
+  size_most h = omega (arith, file-room, size_linear (omega (arith, words_fit)))
 
 -- ── At least ───────────────────────────────────────────────────────────────
 
 -- three numbers beside the letters
-pub size-least : (f : List ℕ) → Saved f → least_saved + 3 ≤ length f
-size-least f S =
+pub size_least : (f : List ℕ) → Saved f → least_saved + 3 ≤ length f
+size_least f S =
     let p = S.word in
     let numbers = (spelling-length (length p)).0 in
     let more = (spelling-length (length (own_steps p))).0 in
@@ -45,7 +45,7 @@ least_reached = (
   spell shortest,
   record {
     word = shortest;
-    savable = record { bytes = bytes least_saved; least = omega arith; most = omega (arith, least-below-longest) };
+    savable = record { bytes = bytes least_saved; least = omega arith; most = omega (arith, least_below_longest) };
     file = refl;
   },
   refl,

@@ -3,9 +3,9 @@
 --
 --   edition           the edition's number
 --   Step              an arrow as the file has it: its source less the previous one's, its target less its source less 2
---   steps_from s l     the arrows l as steps, s being the source before the first
---   spell_steps l      their spelling
---   own_steps p        the steps of a word's own extra arrows, in the file's order
+--   steps_from s l    the arrows l as steps, s being the source before the first
+--   spell_steps l     their spelling
+--   own_steps p       the steps of a word's own extra arrows, in the file's order
 --   body p            everything behind the edition
 --   spell p           the file of p
 --   Savable p         p is a word of bytes within the limits: one that has a file

@@ -2,7 +2,7 @@
 -- the way answers.
 --
 --   Tabled p L          L is the table of p, which has letters, and few enough for entries of 16 bits
---   steps_ahead p x s    the steps from slot s on, x being the source before
+--   steps_ahead p x s   the steps from slot s on, x being the source before
 --   Standing p x s      the arrows of the states before x stand before slot s
 --   Leapt p x s r       r is the step of slot s, from the source x, and the next slot can be gone to
 use Rattle.std.specs.Prelude.{◌≡◌, List, ◌∷◌, ℕ, ◌+◌, ◌≤◌, ◌<◌, length, drop}

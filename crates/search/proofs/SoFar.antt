@@ -12,7 +12,7 @@ use Rattle.words.specs.declared.Place.{Place as Placed}
 use Rattle.oracle.specs.Arrows.{Delta}
 use Rattle.backward.specs.Steps.{Sweep, read_down, after_find, windows, steps}
 use Rattle.backward.proofs.Reading.{FailedAt, failed-place, whole-letters}
-use Rattle.backward.proofs.AfterFind.{after_moves, after-most}
+use Rattle.backward.proofs.AfterFind.{after_moves, after_most}
 use Rattle.backward.proofs.Windows.{next, with_window, next_moves, windows-past, windows-one, windows-enough, steps-letters}
 use Rattle.search.specs.declared.WindowRead.{WindowRead}
 use Rattle.search.specs.declared.WindowRead.TheVariants.{Failed, Whole}
@@ -61,9 +61,9 @@ pub record SoFar (δ : Delta) (w t : Word) (F₀ F : List ℕ) (s : Place) (coun
   pub inside : s ≤ length t
 
 -- nothing is read
-pub so_far-start : {δ : Delta} {w t : Word} {F : List ℕ} → SoFar δ w t F F 0 0 0
+pub so_far_start : {δ : Delta} {w t : Word} {F : List ℕ} → SoFar δ w t F F 0 0 0
 unfolding steps
-so_far-start {F = F} = record {
+so_far_start {F = F} = record {
   found = [];
   number = refl;
   list = filled-nil F;
@@ -75,13 +75,13 @@ so_far-start {F = F} = record {
 
 module _ {δ : Delta} {w t : Word} {F₀ F : List ℕ} {s : Place} {count letters : ℕ} (I : SoFar δ w t F₀ F s count letters) where
   -- the list has kept its length
-  pub so_far-length : length F ≡ length F₀
-  so_far-length = ap length I.list ∙ filled-length I.found F₀
+  pub so_far_length : length F ≡ length F₀
+  so_far_length = ap length I.list ∙ filled-length I.found F₀
 
   -- no window is left
-  pub so_far-end : length t < s + length w
+  pub so_far_end : length t < s + length w
       → (record { count = count; letters = letters } ≡ tally_of (steps δ w t)) × (F ≡ filled (steps δ w t).starts F₀)
-  so_far-end h =
+  so_far_end h =
       let past = windows-past δ w t (suc (length t)) s h in
       let all_found : I.found ≡ (steps δ w t).starts = sym (append-nil I.found) ∙ (rw past at I.all-starts) in
       let all_read : letters ≡ (steps δ w t).letters = omega (arith, rw past at I.all_letters) in
@@ -116,7 +116,7 @@ module _ {δ : Delta} {w t : Word} {F₀ F : List ℕ} {s : Place} {count letter
           all-starts = append_assoc I.found (s ∷ []) _ ∙ (rw whole at I.all-starts);
           all_letters = omega (arith, rw whole at I.all_letters);
           few = omega (arith, I.few, after_moves w);
-          inside = omega (arith, after-most w some-letter);
+          inside = omega (arith, after_most w some-letter);
         })
 
     module _ (f : Placed) (e : r ≡ Failed f) where

@@ -1,7 +1,7 @@
 -- What the search's answers mean.
 --
---   reading_of r   how a window was read
---   tally_of R     what a search counts
+--   reading_of r  how a window was read
+--   tally_of R    what a search counts
 --
 -- 01, 'The backward search'.
 use Rattle.std.proofs.Math.Option.{Option, none, some}

@@ -106,8 +106,8 @@ module _ (B : List ℕ) (v : Word) (F : List Place) where
 
   module _ (bytes : Bytes B) where
     module _ (enough : searcher_bytes ≤ length B) where
-      its-bytes : Bytes s.word
-      its-bytes = unpacked-bytes (take searcher_bytes B) (bytes_take searcher_bytes B bytes)
+      its_bytes : Bytes s.word
+      its_bytes = unpacked-bytes (take searcher_bytes B) (bytes_take searcher_bytes B bytes)
 
       made-left : Made s → LeftIn B s
       made-left made = record {
@@ -129,7 +129,7 @@ module _ (B : List ℕ) (v : Word) (F : List Place) where
         by (yes h) = rw (says-few h) (TakeCase.not_left (λ r L. omega (arith, left-enough L)))
         by (no h) =
             let enough : searcher_bytes ≤ length B = omega arith in
-            rw (says-taking enough) (by_searcher enough ((take_is s v F (its-bytes enough) _).0 refl))
+            rw (says-taking enough) (by_searcher enough ((take_is s v F (its_bytes enough) _).0 refl))
 
     -- and a case that applies has its outcome
     given : {o : Outcome} → TakeCase B v F o → take_bytes_says B v F ≡ o
@@ -139,7 +139,7 @@ module _ (B : List ℕ) (v : Word) (F : List Place) where
         by (yes h) = says-few h
         by (no h) =
             let enough : searcher_bytes ≤ length B = omega arith in
-            let unmade-says = (take_is s v F (its-bytes enough) _).1 (Stream.TakeCase.not_made (λ made. f s (made-left enough made))) in
+            let unmade-says = (take_is s v F (its_bytes enough) _).1 (Stream.TakeCase.not_made (λ made. f s (made-left enough made))) in
             says-taking enough ∙ ap (leaves B) unmade-says
     given (TakeCase.on_long_text L l) =
         let S = took_sound (made-took L.made) in
@@ -150,8 +150,8 @@ module _ (B : List ℕ) (v : Word) (F : List Place) where
         says-taking (left-enough L)
         ∙ ap (leaves B) (ap (λ (r : Searcher). take_says r v F) (left_is L) ∙ says-taken _ v F S l)
 
-    pub take-bytes_is : (o : Outcome) → (take_bytes_says B v F ≡ o) ↔ TakeCase B v F o
-    take-bytes_is o = (λ e. rw e at case, given)
+    pub take_bytes_is : (o : Outcome) → (take_bytes_says B v F ≡ o) ↔ TakeCase B v F o
+    take_bytes_is o = (λ e. rw e at case, given)
 
 -- ── What is packed ─────────────────────────────────────────────────────────
 

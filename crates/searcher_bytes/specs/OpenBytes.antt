@@ -2,7 +2,7 @@
 --
 --   Outcome               the answer, the word's length where there is one, and the bytes as they are left
 --   opened r B            the outcome of code that answers r and leaves the bytes B
---   open_bytes_says w B     what it must be: 1, 2, 3 in that order, the bytes as they were; else the bytes of the searcher of w that has
+--   open_bytes_says w B   what it must be: 1, 2, 3 in that order, the bytes as they were; else the bytes of the searcher of w that has
 --                         taken nothing, and those behind them as they were
 --
 -- 02, 'Uploads in pieces'; demand 1.

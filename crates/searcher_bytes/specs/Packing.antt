@@ -1,8 +1,8 @@
 -- THE BYTES OF A SEARCHER, which may be kept and sent anywhere: its two rows, and behind them the word's length, the letters kept and the
 -- bytes taken, the low byte first. There are as many strings of so many bytes as searchers of bytes: `unpacked` takes back `packed`.
 --
---   searcher_bytes   how many there are
---   low_first k n    the last k digits of n to the base 256, the lowest first
+--   searcher_bytes  how many there are
+--   low_first k n   the last k digits of n to the base 256, the lowest first
 --   packed s        the bytes of s
 --   unpacked b      the searcher that has the bytes b
 --

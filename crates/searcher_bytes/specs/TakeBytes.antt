@@ -2,9 +2,9 @@
 --
 --   Outcome               the answer, the number of finds where there is one, the bytes and the list as they are left
 --   took r B F            the outcome of code that answers r and leaves the bytes B and the list F
---   is_done a              whether a is an answer, and no refusal
+--   is_done a             whether a is an answer, and no refusal
 --   leaves B o            what the outcome o of taking comes to where the bytes B are lent
---   take_bytes_says B v F   what it must be: 16 where fewer bytes are lent than a searcher has; else as taking with the searcher that has the
+--   take_bytes_says B v F what it must be: 16 where fewer bytes are lent than a searcher has; else as taking with the searcher that has the
 --                         first bytes says, whose bytes are changed by a success only, and those behind them never
 --
 -- 02, 'Uploads in pieces'; demand 1.

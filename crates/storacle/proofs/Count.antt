@@ -7,7 +7,7 @@ use lib.ListN.{length}
 use Rattle.words.specs.Words.{Word}
 use Rattle.oracle.proofs.Count.{spine-length}
 use Rattle.storacle.specs.StoracleRule.{storacle_after, storacle_rule, most_arrows}
-use Rattle.storacle.proofs.Suffixes.{suffix_halts, until_keeps-all, all-walked, rule_walks}
+use Rattle.storacle.proofs.Suffixes.{suffix_halts, until_keeps_all, all-walked, rule_walks}
 
 -- k + .. + 1
 sum : ℕ → ℕ
@@ -39,12 +39,12 @@ module _ (p : Word) where
       let less : sum (m - suc i) ≡ (m - suc i) + sum (m - suc (suc i)) = rw one at (sum_less (m - suc i)) in
       omega (arith, after-few i (omega arith), W.few, H.onward, less)
 
-  pub arrows-most : length (storacle_rule p) ≤ most_arrows (length p)
+  pub arrows_most : length (storacle_rule p) ≤ most_arrows (length p)
   unfolding storacle_rule most_arrows
-  arrows-most = omega (arith, after-few (m - 1) (omega arith), twice-sum m)
+  arrows_most = omega (arith, after-few (m - 1) (omega arith), twice-sum m)
 
-  pub after-least : (i : ℕ) → i ≤ m → m ≤ length (storacle_after p i)
+  pub after_least : (i : ℕ) → i ≤ m → m ≤ length (storacle_after p i)
   unfolding storacle_after
-  after-least zero b = omega (arith, spine-length p)
-  after-least (suc i) b =
-      omega (arith, after-least i (omega arith), until_keeps-all p m (suc i) (storacle_after p i))
+  after_least zero b = omega (arith, spine-length p)
+  after_least (suc i) b =
+      omega (arith, after_least i (omega arith), until_keeps_all p m (suc i) (storacle_after p i))

@@ -81,8 +81,8 @@ module _ {p : Word} {x : State} {c : Letter} where
   first_later-found k u h q = found_by p c (k - x) x k (omega arith) h q
 
   -- and it is no later than where the letter stands
-  pub first_later-least : {y : State} → FirstLater p x c y → (k : ℕ) → x ≤ k → letter p k ≡ c → y ≤ suc k
-  first_later-least {y} F k u q = by_cases (dec_le y (suc k)) (λ l. l) (λ l. absurd (F.first (suc k) (omega arith) (omega arith) q))
+  pub first_later_least : {y : State} → FirstLater p x c y → (k : ℕ) → x ≤ k → letter p k ≡ c → y ≤ suc k
+  first_later_least {y} F k u q = by_cases (dec_le y (suc k)) (λ l. l) (λ l. absurd (F.first (suc k) (omega arith) (omega arith) q))
 
   -- where there is none, the number is 0
   pub first_later_or_none : x ≤ length p → (first_later p x c ≡ 0) ⊎ FirstLater p x c (first_later p x c)

@@ -15,7 +15,7 @@ use Rattle.oracle.specs.SuffixRule.{Halt, far}
 use Rattle.oracle.proofs.Walks.{walk_step}
 use Rattle.failure.proofs.Halts.{Keeps}
 use Rattle.storacle.specs.StoracleRule.{FirstLater}
-use Rattle.storacle.proofs.FirstLater.{first_later-least}
+use Rattle.storacle.proofs.FirstLater.{first_later_least}
 
 -- the walk of the letters behind the first k, from state x, as far as arrows go
 abbrev pub far_of : Word → Delta → State → ℕ → Halt
@@ -73,7 +73,7 @@ module _ (p : Word) (δ : Delta) (L : LeadsFirst p δ) where
         resumes = λ K. refl;
       }))
       (λ y d.
-      let H = halts n y (suc k) (omega arith) (first_later-least (L x (letter p k) y d) k l refl) in
+      let H = halts n y (suc k) (omega arith) (first_later_least (L x (letter p k) y d) k l refl) in
       rw (far-goes p δ x k inside y d) (record {
         low = H.low;
         onward = omega (arith, H.onward);

@@ -35,5 +35,5 @@ module _ (p : Word) (δ : Delta) (L : LeadsFirst p δ) where
       let rest : v ≡ drop (suc x) p = full_walk v (suc x) y (rw next at f.2) (omega arith) in
       rw (drop-cons p x 0 (omega arith), ← rest, on)
 
-  pub only-walk : (v : Word) (y : State) → walk δ 0 v ≡ some y → length v ≡ length p → v ≡ p
-  only-walk v y e q = full_walk v 0 y e (omega arith)
+  pub only_walk : (v : Word) (y : State) → walk δ 0 v ≡ some y → length v ≡ length p → v ≡ p
+  only_walk v y e q = full_walk v 0 y e (omega arith)

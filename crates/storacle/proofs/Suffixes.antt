@@ -20,7 +20,7 @@ use Rattle.oracle.specs.SuffixRule.{Halt}
 use Rattle.oracle.proofs.Targets.{target_hit}
 use Rattle.failure.proofs.Halts.{Keeps, walk_kept}
 use Rattle.storacle.specs.StoracleRule.{FirstLater, first_later, stitch, until_walked, storacle_after}
-use Rattle.storacle.proofs.FirstLater.{first_later-found, first_later-least}
+use Rattle.storacle.proofs.FirstLater.{first_later-found, first_later_least}
 use Rattle.storacle.proofs.Stitched.{Stitched, spine_alone, stitched_on, new-keeps, stitched_to, stitched-spine}
 use Rattle.storacle.proofs.Halting.{far_of, HaltsAt, far-ends, far-goes, walk_halts, halted_walk}
 
@@ -57,8 +57,8 @@ module _ (p : Word) where
       lacking : target A j (letter p k) ≡ none
       lacking = suffix_halts.lacks before-end
 
-      pub stitch-on : Stitched p more
-      stitch-on = stitched_on S leads-first lacking
+      pub stitch_on : Stitched p more
+      stitch_on = stitched_on S leads-first lacking
 
       pub stitch-keeps : Keeps (target A) (target more)
       stitch-keeps = new-keeps A j (letter p k) y lacking
@@ -68,8 +68,8 @@ module _ (p : Word) where
       stitch-further =
           let to-halt = suffix_halts.resumes stitch-keeps in
           let beyond = far-goes p (target more) j k before-end y (target_hit A j (letter p k) y) in
-          let low = first_later-least leads-first k suffix_halts.low refl in
-          let H = walk_halts p (target more) (stitched_to stitch-on) y (suc k) (omega (arith, before-end)) low in
+          let low = first_later_least leads-first k suffix_halts.low refl in
+          let H = walk_halts p (target more) (stitched_to stitch_on) y (suc k) (omega (arith, before-end)) low in
           rw (to-halt ∙ beyond) H.onward
 
   -- ── While it is not walked ───────────────────────────────────────────────
@@ -92,12 +92,12 @@ module _ (p : Word) where
   until_next (suc g) A i e h = let one : suc g - 1 ≡ g = omega arith in rw one (until_more g A i e)
 
   -- arrows are only added
-  pub until_keeps-all : (g i : ℕ) (A : List Arrow) → length A ≤ length (until_walked g p i A)
+  pub until_keeps_all : (g i : ℕ) (A : List Arrow) → length A ≤ length (until_walked g p i A)
   unfolding until_walked
-  until_keeps-all zero i A = le_refl _
-  until_keeps-all (suc g) i A = by_cases (ℕ_discrete (halt_of A i).up_to (length p))
+  until_keeps_all zero i A = le_refl _
+  until_keeps_all (suc g) i A = by_cases (ℕ_discrete (halt_of A i).up_to (length p))
       (λ e. rw (until_done (suc g) A i e) (le_refl _))
-      (λ e. rw (until_more g A i e) (omega (arith, until_keeps-all g i (stitch p (halt_of A i) ∷ A))))
+      (λ e. rw (until_more g A i e) (omega (arith, until_keeps_all g i (stitch p (halt_of A i) ∷ A))))
 
   -- the arrows B are enough for suffix i, keep the arrows A, and are at most as many more as letters were not spelled
   pub record WalkedWith (i : ℕ) (A B : List Arrow) : Type 0 where
@@ -115,7 +115,7 @@ module _ (p : Word) where
       (λ e. rw (until_done (suc g) A i e) (record { stitched = S; kept = λ x c y d. d; walked = e; few = omega arith }))
       (λ e.
       let further = stitch-further S i b e in
-      let R = until_walked_lem g (stitch-on S i b e) i b (omega arith) in
+      let R = until_walked_lem g (stitch_on S i b e) i b (omega arith) in
       rw (until_more g A i e) (record {
         stitched = R.stitched;
         kept = λ x c y d. R.kept x c y (stitch-keeps S i b e x c y d);
@@ -136,7 +136,7 @@ module _ (p : Word) where
       (λ e. until_done (suc g) A i e ∙ sym (until_done (suc g') A i e))
       (λ e.
       let further = stitch-further S i b e in
-      let same = until_enough g g' (stitch-on S i b e) i b (omega arith) (omega arith) in
+      let same = until_enough g g' (stitch_on S i b e) i b (omega arith) (omega arith) in
       until_more g A i e ∙ same ∙ sym (until_more g' A i e))
 
   -- ── All suffixes up to one ───────────────────────────────────────────────

@@ -20,7 +20,7 @@ use Rattle.failure.proofs.Halts.{Keeps, walk_kept}
 use Rattle.storacle.specs.StoracleRule.{GoesOn, stitch, until_walked, storacle_after}
 use Rattle.storacle.proofs.Stitched.{Stitched, spine_alone, stitched-spine}
 use Rattle.storacle.proofs.Halting.{far_of, far-ends, far-goes, far_stops}
-use Rattle.storacle.proofs.Suffixes.{halt_of, suffix_halts, stitch-on, stitch-keeps, until_done, until_more, all-walked}
+use Rattle.storacle.proofs.Suffixes.{halt_of, suffix_halts, stitch_on, stitch-keeps, until_done, until_more, all-walked}
 
 module _ (p : Word) where
   -- ── The letters of a halted walk ─────────────────────────────────────────
@@ -117,7 +117,7 @@ module _ (p : Word) where
   until_taken zero S i b T = T
   until_taken (suc g) {A} S i b T = by_cases (ℕ_discrete (halt_of p A i).up_to (length p))
       (λ e. rw (until_done p (suc g) A i e) T)
-      (λ e. rw (until_more p g A i e) (until_taken g (stitch-on p S i b e) i b (stitch-taken S i b e T)))
+      (λ e. rw (until_more p g A i e) (until_taken g (stitch_on p S i b e) i b (stitch-taken S i b e T)))
 
   pub after-taken : (i : ℕ) → i ≤ length p → AllTaken (storacle_after p i)
   unfolding storacle_after

@@ -66,12 +66,12 @@ module _ (p : Word) where
   arrow-taken x y c e = after-taken p (m - 1) (omega arith) _ (target_member (storacle_rule p) x c y e)
 
   -- m to m(m+1)/2 of them
-  pub arrows-least : m ≤ length (storacle_rule p)
+  pub arrows_least : m ≤ length (storacle_rule p)
   unfolding storacle_rule
-  arrows-least = Count.after-least p (m - 1) (omega arith)
+  arrows_least = Count.after_least p (m - 1) (omega arith)
 
-  pub arrows-most : length (storacle_rule p) ≤ most_arrows m
-  arrows-most = Count.arrows-most p
+  pub arrows_most : length (storacle_rule p) ≤ most_arrows m
+  arrows_most = Count.arrows_most p
 
   -- ── 3. Walks ─────────────────────────────────────────────────────────────
 
@@ -121,8 +121,8 @@ module _ (p : Word) where
       let end : r.0 ≡ m = omega (arith, up.0, up.1) in
       rw end at r.1
 
-  pub only-walk : (v : Word) (y : State) → walk (storacle p) 0 v ≡ some y → length v ≡ m → v ≡ p
-  only-walk = OnlyWalk.only-walk p (storacle p) (stitched_to rule-stitched)
+  pub only_walk : (v : Word) (y : State) → walk (storacle p) 0 v ≡ some y → length v ≡ m → v ≡ p
+  only_walk = OnlyWalk.only_walk p (storacle p) (stitched_to rule-stitched)
 
-  pub no_longer-walk : (v : Word) (y : State) → walk (storacle p) 0 v ≡ some y → length v ≤ m
-  no_longer-walk v y e = let up = climbs v y e in omega (arith, up.0, up.1)
+  pub no_longer_walk : (v : Word) (y : State) → walk (storacle p) 0 v ≡ some y → length v ≤ m
+  no_longer_walk v y e = let up = climbs v y e in omega (arith, up.0, up.1)

@@ -2,17 +2,17 @@
 -- the same number.
 --
 --   FirstLater p x c y   y is the first state behind x whose incoming letter is c
---   first_in v c x        the same as a number, where v is the word behind its first x letters; 0, into which no letter leads, for none
---   first_later p x c     the first state behind x whose incoming letter is c
+--   first_in v c x       the same as a number, where v is the word behind its first x letters; 0, into which no letter leads, for none
+--   first_later p x c    the first state behind x whose incoming letter is c
 --   stitch p h           the arrow that a walk halted at h lacks
---   until_walked g p i A  the arrows A with those that suffix i lacks: while it is not walked to its end, one is added, at most g of them
---   storacle_after p i    the arrows with which the suffixes 1 to i are walked, the last one first
---   storacle_rule p       those of all suffixes
+--   until_walked g p i A the arrows A with those that suffix i lacks: while it is not walked to its end, one is added, at most g of them
+--   storacle_after p i   the arrows with which the suffixes 1 to i are walked, the last one first
+--   storacle_rule p      those of all suffixes
 --   storacle p           where they lead
 --   GoesOn p δ x c       a factor of p is walked to x, and goes on with c in p
 --   IsStoracle p δ       what a storacle is without the rule: arrows lead to the first later state that has their letter, and x has one
 --                        on c exactly if a factor that is walked to x goes on with c
---   most_arrows m         as many as the suffixes of m letters have letters
+--   most_arrows m        as many as the suffixes of m letters have letters
 --
 -- Every arrow that is added lets the suffix be walked a letter further at least (a theorem), so m of them are enough for each suffix.
 --

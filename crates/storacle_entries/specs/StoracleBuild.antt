@@ -1,6 +1,6 @@
 -- WHAT THE BUILD OF A STORACLE SAYS: the whole outcome as a function of what is lent.
 --
---   storacle_build_says word T   1, 2, 3 in that order, where 2 asks for the storacle's limit and 3 for its room; else the word's table, and
+--   storacle_build_says word T 1, 2, 3 in that order, where 2 asks for the storacle's limit and 3 for its room; else the word's table, and
 --                              the rest of the room as it was
 --
 -- 02, 'Storacle'; 01, 'When the library says no'.

@@ -16,7 +16,8 @@ pub fn storacle_build(word: &[u8], tables: &mut [u16]) -> SizeAnswer
     if m < 1 {
         return SizeAnswer::Refused(Refusal::Numbered(answers::EMPTY_WORD));
     }
-    if words::STORACLE_LIMIT < m {
+    let limit = words::STORACLE_LIMIT;
+    if limit < m {
         return SizeAnswer::Refused(Refusal::Numbered(answers::LONG_WORD));
     }
     let room = (m + 1) * (m + 6);

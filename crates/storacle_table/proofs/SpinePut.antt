@@ -21,9 +21,9 @@ module _ (p : Word) where
   unfolding from
   spine-none = let e : length p - length p ≡ 0 = omega arith in rw (e, from)
 
-  spine-more : (x : State) → x < length p → spine_from p x ≡ arrow x (letter p x) (suc x) ∷ spine_from p (suc x)
+  spine_more : (x : State) → x < length p → spine_from p x ≡ arrow x (letter p x) (suc x) ∷ spine_from p (suc x)
   unfolding from
-  spine-more x h = let e : length p - x ≡ suc (length p - suc x) = omega arith in rw (e, from)
+  spine_more x h = let e : length p - x ≡ suc (length p - suc x) = omega arith in rw (e, from)
 
   spine-whole : spine_from p 0 ≡ spine p
   unfolding spine
@@ -35,13 +35,13 @@ pub record SpinePut (p : Word) (L : List ℕ) (x : State) : Type 0 where
   pub table : L ≡ storacle_table_from p (spine_from p x)
   pub laid : Laid p (spine_from p x) L
 
-arrow-more : {p : Word} {L : List ℕ} (x : State) → x < length p → SpinePut p L (suc x)
+arrow_more : {p : Word} {L : List ℕ} (x : State) → x < length p → SpinePut p L (suc x)
     → SpinePut p (set L (cell_of (length p) x (column p (letter p x))) (suc x)) x
 unfolding storacle_table_from
-arrow-more {p} {L} x h P = record {
+arrow_more {p} {L} x h P = record {
   inside = omega arith;
-  table = rw (spine-more p x h) (ap (λ T. set T (cell_of (length p) x (column p (letter p x))) (suc x)) P.table);
-  laid = rw (spine-more p x h) (arrow-laid P.laid x (letter p x) (suc x) (omega arith) x h refl);
+  table = rw (spine_more p x h) (ap (λ T. set T (cell_of (length p) x (column p (letter p x))) (suc x)) P.table);
+  laid = rw (spine_more p x h) (arrow-laid P.laid x (letter p x) (suc x) (omega arith) x h refl);
 }
 
 module _ {p : Word} {m : ℕ} (long : length p ≡ m) where
@@ -83,5 +83,5 @@ module _ {p : Word} {m : ℕ} (long : length p ≡ m) where
           let cell_same = ap (λ n. cell_of n x (at L (m + 1 + next))) (sym long) ∙ ap (cell_of (length p) x) column-there in
           let one : next ≡ suc x = omega arith in
           let before : SpinePut p L (suc x) = rw one at P in
-          let after = arrow-more x (omega (arith, P.inside)) before in
+          let after = arrow_more x (omega (arith, P.inside)) before in
           rw cell_same (rw (← one) at after)

@@ -16,7 +16,7 @@ use Rattle.oracle.specs.Arrows.{State, Arrow, arrow, Delta, target}
 use Rattle.oracle.proofs.Targets.{target_hit}
 use Rattle.failure.proofs.Halts.{Keeps}
 use Rattle.storacle.specs.StoracleRule.{FirstLater, stitch, until_walked, storacle_after}
-use Rattle.storacle.proofs.FirstLater.{first_later_is, first_later-least}
+use Rattle.storacle.proofs.FirstLater.{first_later_is, first_later_least}
 use Rattle.storacle.proofs.Stitched.{Stitched, stitched_on, new-keeps, stitched_to}
 use Rattle.storacle.proofs.Halting.{far_of, far-ends, far-goes, far_stops}
 use Rattle.storacle.proofs.Suffixes.{halt_of, until_done, until_next, all-walked}
@@ -94,7 +94,7 @@ module _ {p : Word} {i : ℕ} {L : List ℕ} {x : State} {k : ℕ} (W : Walking 
           table = W.table;
           rule = W.rule;
           enough = omega (arith, W.enough);
-          low = first_later-least (stitched_to W.stitched x c y to) k W.low refl;
+          low = first_later_least (stitched_to W.stitched x c y to) k W.low refl;
           inside = inside;
           comes = λ δ K. W.comes δ K ∙ far-goes p δ x k inside y (K x c y to);
         })
@@ -120,7 +120,7 @@ module _ {p : Word} {i : ℕ} {L : List ℕ} {x : State} {k : ℕ} (W : Walking 
         table = ap (λ T. set T (cell_of (length p) x (column p c)) y) W.table;
         rule = sym added ∙ W.rule;
         enough = omega (arith, W.enough);
-        low = first_later-least first k W.low refl;
+        low = first_later_least first k W.low refl;
         inside = inside;
         comes = λ δ K. W.comes δ (λ x' c' y' d. K x' c' y' (kept x' c' y' d)) ∙ far-goes p δ x k inside y (K x c y (target_hit A x c y));
       }

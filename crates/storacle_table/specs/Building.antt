@@ -1,6 +1,6 @@
 -- BUILDING the table, suffix by suffix. Nothing here is of interest once it is filled.
 --
---   word_put p            the word in row 0, and zeros
+--   word_put p           the word in row 0, and zeros
 --   FirstAlike L x y z   of the entries behind x, z is the first that is as entry y is
 --   Sized p m            p has m letters, and its states fit into entries of 16 bits
 --   TableAfter p m L i   L is the table of the arrows of the suffixes 1 to i over p, which has m letters

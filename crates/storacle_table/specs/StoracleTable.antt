@@ -6,13 +6,14 @@
 --   row 2 + x, entry i  where the arrow from state x on the letter of column i leads; 0 for none, as none leads to state 0
 --   rows m + 3 and on   zero, and so is every entry that is not named here
 --
---   storacle_room m         how many entries
+--   storacle_room m        how many entries
 --   column p c             the column of a letter; 0 for one that the word has not
---   cell_of m x i           the entry of the arrow from x on the letter of column i
+--   cell_of m x i          the entry of the arrow from x on the letter of column i
 --   blank p                the table of no arrows
---   storacle_table_from p A  the table of the arrows A over p, of which the first counts where two leave a state on a letter
---   storacle_table p        the table of a word: the storacle rule's arrows
---   read_storacle m L x c   where the arrow from x on c leads
+--   storacle_table_from p A
+--                          the table of the arrows A over p, of which the first counts where two leave a state on a letter
+--   storacle_table p       the table of a word: the storacle rule's arrows
+--   read_storacle m L x c  where the arrow from x on c leads
 --
 -- 02, 'Storacle'; 01, 'When the library says no', its last part.
 use Rattle.std.specs.Prelude.{cond, List, [], ◌∷◌, ◌++◌, map, ℕ, ◌+◌, ◌*◌, length, set, replicate, eqb, leb}

@@ -7,7 +7,7 @@ use lib.ListN.{length, length-append}
 use Rattle.words.specs.Words.{Word, occurrences}
 use Rattle.border.specs.Borders.{borders}
 use Rattle.pieces.specs.Kept.{kept}
-use Rattle.pieces.proofs.OnlyKept.{kept-goes_on, finds-go-on}
+use Rattle.pieces.proofs.OnlyKept.{kept-goes_on, finds_go_on}
 use Rattle.stream.specs.declared.Searcher.{Searcher}
 use Rattle.stream.specs.Searchers.{row_of, searcher_of, word_of, after, finds}
 use Rattle.stream.proofs.Rows.{row_read}
@@ -41,9 +41,9 @@ module _ (w t : Word) where
   unfolding searcher_of
   is_searcher a b c d e = λ i. record { word = a i; borders = b i; size = c i; keep = d i; taken = e i }
 
-  pub its-word : word_of (searcher_of w t) ≡ w
+  pub its_word : word_of (searcher_of w t) ≡ w
   unfolding searcher_of
-  its-word = row_read w
+  its_word = row_read w
 
 -- ── What a piece makes of it ───────────────────────────────────────────────
 
@@ -54,4 +54,4 @@ module _ (w t v : Word) (some-letter : 1 ≤ length w) where
 
   pub finds_are : occurrences w (t ++ v) ≡ occurrences w t ++ finds (searcher_of w t) v
   unfolding finds searcher_of
-  finds_are = rw (row_read w) (finds-go-on w t v some-letter)
+  finds_are = rw (row_read w) (finds_go_on w t v some-letter)

@@ -22,7 +22,7 @@ use Rattle.pieces.proofs.Kept.{kept_shorter, kept-within}
 use Rattle.pieces.proofs.Reaching.{reaching, reaching-length, reaching-keeps}
 use Rattle.stream.specs.declared.Searcher.{Searcher}
 use Rattle.stream.specs.Searchers.{row_of, searcher_of, word_of, after, Made, by_opening, by_feeding}
-use Rattle.stream.proofs.History.{is_searcher, its-word, after_is, holds-word, holds-borders, holds-size, holds_kept, holds-taken}
+use Rattle.stream.proofs.History.{is_searcher, its_word, after_is, holds-word, holds-borders, holds-size, holds_kept, holds-taken}
 use Rattle.stream.proofs.Sound.{Sound, word-length}
 
 -- ── Bytes ──────────────────────────────────────────────────────────────────
@@ -117,8 +117,8 @@ searcher_sound w t some few inside = record {
   short = omega (arith, holds-size w t, holds_kept w t, kept_shorter w t some);
   no_more = omega (arith, holds-taken w t, holds_kept w t, kept-within w t some);
   inside = rw (holds-taken w t) inside;
-  own = holds-word w t ∙ ap row_of (sym (its-word w t));
-  its = holds-borders w t ∙ ap (λ (u : Word). row_of (borders u)) (sym (its-word w t));
+  own = holds-word w t ∙ ap row_of (sym (its_word w t));
+  its = holds-borders w t ∙ ap (λ (u : Word). row_of (borders u)) (sym (its_word w t));
 }
 
 pub took_sound : {s : Searcher} → Took s → Sound s

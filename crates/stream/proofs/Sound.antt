@@ -12,7 +12,7 @@ use borrow.Author.Tests.{leb-true, ltb-true, le-leb, lt-ltb}
 use Rattle.words.specs.Limits.{longest_streamed, longest_text}
 use Rattle.words.specs.Words.{Word, part, same, occurrences}
 use Rattle.words.proofs.Limits.{streamed_limit}
-use Rattle.words.proofs.Lists.{and-true, true_not_false, test_cases}
+use Rattle.words.proofs.Lists.{and_true, true_not_false, test_cases}
 use Rattle.words.proofs.Words.{same_true, same_refl, part_length}
 use Rattle.words.proofs.Occurrences.{occurrences-few}
 use Rattle.border.specs.Borders.{borders}
@@ -39,12 +39,12 @@ same-eq u v e = rw e (same_refl v)
 pub makeable_sound : (s : Searcher) → makeable s ≡ true → Sound s
 unfolding makeable
 makeable_sound s e =
-    let a = and-true {a = leb 1 s.size} e in
-    let b = and-true {a = leb s.size longest_streamed} a.1 in
-    let c = and-true {a = ltb s.keep s.size} b.1 in
-    let d = and-true {a = leb s.keep s.taken} c.1 in
-    let f = and-true {a = leb s.taken longest_text} d.1 in
-    let g = and-true {a = same s.word (row_of (word_of s))} f.1 in
+    let a = and_true {a = leb 1 s.size} e in
+    let b = and_true {a = leb s.size longest_streamed} a.1 in
+    let c = and_true {a = ltb s.keep s.size} b.1 in
+    let d = and_true {a = leb s.keep s.taken} c.1 in
+    let f = and_true {a = leb s.taken longest_text} d.1 in
+    let g = and_true {a = same s.word (row_of (word_of s))} f.1 in
     record {
       some-letter = leb-true _ _ a.0;
       few = leb-true _ _ b.0;

@@ -29,8 +29,8 @@ module _ (s : Searcher) {o : Searcher} (anew : o ≡ searcher_of (word_of s) [])
     pub own-length : length o.word ≡ 64
     own-length = ap length own ∙ row-length (word_of s) (omega (arith, length-take s.size s.word, streamed_limit))
 
-    pub its-length : length o.borders ≡ 64
-    its-length =
+    pub its_length : length o.borders ≡ 64
+    its_length =
         ap length its
         ∙ row-length (borders (word_of s)) (omega (arith, borders-length (word_of s), length-take s.size s.word, streamed_limit))
 

@@ -103,8 +103,8 @@ module _ (w t a b : Word) (some-letter : 1 ≤ length w) where
       ∙ ap (searcher_of w) (append_assoc t a b)
       ∙ sym (after_is w t (a ++ b) some-letter)
 
-  finds-two : finds s a ++ finds (after s a) b ≡ finds s (a ++ b)
-  finds-two =
+  finds_two : finds s a ++ finds (after s a) b ≡ finds s (a ++ b)
+  finds_two =
       ap (λ (x : Searcher). finds s a ++ finds x b) (after_is w t a some-letter)
       ∙ same-behind (occurrences w t) _ _
       (sym (append_assoc (occurrences w t) (finds s a) (finds (searcher_of w (t ++ a)) b))
@@ -120,8 +120,8 @@ module _ {s : Searcher} (a b : Word) (made : Made s) where
   after_both : after (after s a) b ≡ after s (a ++ b)
   after_both = rw K.is (after_two K.word K.text a b K.some-letter)
 
-  finds-both : finds s a ++ finds (after s a) b ≡ finds s (a ++ b)
-  finds-both = rw K.is (finds-two K.word K.text a b K.some-letter)
+  finds_both : finds s a ++ finds (after s a) b ≡ finds s (a ++ b)
+  finds_both = rw K.is (finds_two K.word K.text a b K.some-letter)
 
   -- taken in turn, and at once, they come to the same
   module _ (fits : s.taken + length (a ++ b) ≤ longest_text) where
@@ -137,9 +137,9 @@ module _ {s : Searcher} (a b : Word) (made : Made s) where
 
     pub both_in_turn : InTurn s (a ∷ b ∷ []) (finds s (a ++ b)) (after s (a ++ b))
     both_in_turn =
-        rw (append-nil (finds (after s a) b), finds-both, after_both) at (next (finds s a) (λ F. says-taken s a F sound first_fits)
+        rw (append-nil (finds (after s a) b), finds_both, after_both) at (next (finds s a) (λ F. says-taken s a F sound first_fits)
         (next (finds (after s a) b) (λ F. says-taken (after s a) b F (sound_after sound a first_fits) second_fits) none))
 
-    pub both-at_once : InTurn s ((a ++ b) ∷ []) (finds s (a ++ b)) (after s (a ++ b))
-    both-at_once =
+    pub both_at_once : InTurn s ((a ++ b) ∷ []) (finds s (a ++ b)) (after s (a ++ b))
+    both_at_once =
         rw (append-nil (finds s (a ++ b))) at (next (finds s (a ++ b)) (λ F. says-taken s (a ++ b) F sound fits) none)

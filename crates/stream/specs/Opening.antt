@@ -3,7 +3,7 @@
 --   blank           all zero: what is handed out where nothing was opened
 --   Outcome         the answer, the word's length where there is one, and the searcher that is handed out
 --   opened r        the outcome of code that answers r
---   open_says w      what it must be: 1, then 2, with a blank; else the searcher of w that has taken nothing
+--   open_says w     what it must be: 1, then 2, with a blank; else the searcher of w that has taken nothing
 --
 -- 02, 'Uploads in pieces'; demand 1.
 use Rattle.std.specs.Prelude.{cond, [], ℕ, length, ltb}

@@ -1,9 +1,9 @@
 -- SEARCHERS: what one holds, what a piece makes of it and finds, and which ones there are.
 --
---   row_of l          l in a row as long as the longest word of a stream, zeros behind it
---   searcher_of w t   the searcher of w that has taken the text t
---   word_of s         the word of a searcher
---   heard_by s v      what it knows of the text once it has heard the piece v: the letters that it keeps, and v
+--   row_of l         l in a row as long as the longest word of a stream, zeros behind it
+--   searcher_of w t  the searcher of w that has taken the text t
+--   word_of s        the word of a searcher
+--   heard_by s v     what it knows of the text once it has heard the piece v: the letters that it keeps, and v
 --   after s v        the searcher after the piece
 --   finds s v        the starts of the finds that end in the piece, counted from the stream's first byte
 --   Made s           s was opened, and then fed one byte after another

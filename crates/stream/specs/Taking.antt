@@ -2,7 +2,7 @@
 --
 --   Outcome          the answer, the number of finds where there is one, the next searcher, and the list as it is left
 --   took r F         the outcome of code that answers r and leaves the list F
---   take_says s v F   what it must be: 16, then 4, with the same searcher and list; else the searcher after the piece, the number of finds
+--   take_says s v F  what it must be: 16, then 4, with the same searcher and list; else the searcher after the piece, the number of finds
 --                    that end in it, and the first of them in the list, as many as fit, its other entries as they were
 --
 -- 02, 'Uploads in pieces'; demand 1.

@@ -13,7 +13,7 @@ use lib.Dec.{eqb}
 use borrow.Author.Tests.{eq-eqb, ne_eqb, lt-ltb, le-ltb}
 use Rattle.words.specs.Lists.{at, first}
 use Rattle.words.specs.Words.{Letter, Word, part}
-use Rattle.words.proofs.Lists.{first-yes, first_not}
+use Rattle.words.proofs.Lists.{first_yes, first_not}
 use Rattle.words.proofs.Words.{part-cons}
 use Rattle.oracle.specs.Arrows.{State, Delta}
 use Rattle.oracle.proofs.FileOrder.{before-room, before_at}
@@ -26,8 +26,8 @@ use Rattle.table.proofs.Theorems.{oracle-over}
 -- ── Tables are formed ──────────────────────────────────────────────────────
 
 -- the table of every automaton over a short enough word
-pub from-formed : (p : Word) {δ : Delta} (S : State → State) → Over p δ → length p < 65535 → Formed (table_from p δ S) (length p)
-from-formed p {δ} S O few = record {
+pub from_formed : (p : Word) {δ : Delta} (S : State → State) → Over p δ → length p < 65535 → Formed (table_from p δ S) (length p)
+from_formed p {δ} S O few = record {
   enough = omega (arith, from_size_lem p δ S);
   small = few;
   starts = λ x h. rw (add-one m) (omega (arith, row_2 p δ S x (omega arith), before-room δ p x (suc m) (omega arith), O.fits));
@@ -40,7 +40,7 @@ from-formed p {δ} S O few = record {
 -- so the table of the word
 pub table-formed : (p : Word) → length p < 65535 → Formed (table_of p) (length p)
 unfolding table_of
-table-formed p few = from-formed p _ (oracle-over p) few
+table-formed p few = from_formed p _ (oracle-over p) few
 
 -- ── The cases of a lookup ──────────────────────────────────────────────────
 
@@ -81,7 +81,7 @@ module _ (L : List ℕ) (c : Letter) (b s e : ℕ) where
 
   -- the slot's target has the letter
   pub slot-hit : s < e → b + s < length L → at L (at L (b + s)) ≡ c → first_of L c (b + s) (e - s) ≡ some (at L (b + s))
-  slot-hit h l q = rw (one_more h l) (first-yes _ (at L (b + s)) _ (eq-eqb (at L (at L (b + s))) c q))
+  slot-hit h l q = rw (one_more h l) (first_yes _ (at L (b + s)) _ (eq-eqb (at L (at L (b + s))) c q))
 
   -- it has not: the next slot
   pub slot_next : s < e → b + s < length L → at L (at L (b + s)) ≢ c → first_of L c (b + s) (e - s) ≡ first_of L c (b + (s + 1)) (e - (s + 1))
@@ -99,35 +99,35 @@ module _ (A R : List ℕ) (m : ℕ) (F : Formed A m) where
   at_more i h = get_or-append A R 0 i (omega (arith, F.enough))
 
   -- what is formed stays formed with more behind it
-  pub formed-more : Formed (A ++ R) m
-  formed-more = record {
+  pub formed_more : Formed (A ++ R) m
+  formed_more = record {
     enough = omega (arith, F.enough, length-append A R);
     small = F.small;
     starts = λ x h. rw (at_more (2 * (m + 1) + x) (omega arith)) (F.starts x h);
     targets = λ s h. rw (at_more (3 * (m + 1) + s) (omega arith)) (F.targets s h);
   }
 
-  slots-more : (c : Letter) (k s : ℕ) → k + s ≤ m + 1 → first_of (A ++ R) c (3 * (m + 1) + s) k ≡ first_of A c (3 * (m + 1) + s) k
+  slots_more : (c : Letter) (k s : ℕ) → k + s ≤ m + 1 → first_of (A ++ R) c (3 * (m + 1) + s) k ≡ first_of A c (3 * (m + 1) + s) k
   unfolding first
-  slots-more c zero s h = refl
-  slots-more c (suc k) s h =
+  slots_more c zero s h = refl
+  slots_more c (suc k) s h =
       let a = 3 * (m + 1) + s in
       let next : suc a ≡ 3 * (m + 1) + suc s = omega arith in
       let slot : at (A ++ R) a ≡ at A a = at_more a (omega arith) in
-      let its-letter : at (A ++ R) (at A a) ≡ at A (at A a) = at_more (at A a) (omega (arith, F.targets s (omega arith))) in
+      let its_letter : at (A ++ R) (at A a) ≡ at A (at A a) = at_more (at A a) (omega (arith, F.targets s (omega arith))) in
       let l : a < length A = omega (arith, F.enough) in
       rw (
         part-cons (A ++ R) a k (omega (arith, length-append A R)),
         part-cons A a k l,
         slot,
-        its-letter,
+        its_letter,
         next,
-        slots-more c k (suc s) (omega arith),
+        slots_more c k (suc s) (omega arith),
       )
 
   -- and the same arrows are read
-  pub arrow-more : (x : State) (c : Letter) → read_arrow m (A ++ R) x c ≡ read_arrow m A x c
-  arrow-more x c = by (dec_lt x m) (ℕ_discrete (at A (x + 1)) c)
+  pub arrow_more : (x : State) (c : Letter) → read_arrow m (A ++ R) x c ≡ read_arrow m A x c
+  arrow_more x c = by (dec_lt x m) (ℕ_discrete (at A (x + 1)) c)
     where
       start : ℕ
       start = at A (2 * (m + 1) + x)
@@ -140,7 +140,7 @@ module _ (A R : List ℕ) (m : ℕ) (F : Formed A m) where
 
       slots : end ≤ m + 1 → Dec (start < end)
           → first_of (A ++ R) c (3 * (m + 1) + start) (end - start) ≡ first_of A c (3 * (m + 1) + start) (end - start)
-      slots b (yes l) = slots-more c (end - start) start (omega arith)
+      slots b (yes l) = slots_more c (end - start) start (omega arith)
       slots b (no l) = slot_end_lem (A ++ R) c (3 * (m + 1)) start end (omega arith) ∙ sym (slot_end_lem A c (3 * (m + 1)) start end (omega arith))
 
       by : Dec (x < m) → Dec (at A (x + 1) ≡ c) → read_arrow m (A ++ R) x c ≡ read_arrow m A x c

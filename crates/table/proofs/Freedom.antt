@@ -17,7 +17,7 @@ use Rattle.oracle.proofs.SuffixRule.{spine-target}
 use Rattle.oracle.proofs.FileOrder.{extras_fit, spine_member, climbing_extra}
 use Rattle.table.specs.Table.{table_from}
 use Rattle.table.specs.Freedom.{ExtraSet, Lower, ReadAs}
-use Rattle.table.proofs.Rows.{from_size_lem, from-small}
+use Rattle.table.proofs.Rows.{from_size_lem, from_small}
 use Rattle.table.proofs.ReadBack.{Over, reads_word, reads-supply, reads_no_supply, reads-arrow}
 
 module _ (p : Word) (E : List Arrow) (X : ExtraSet p E) where
@@ -25,10 +25,10 @@ module _ (p : Word) (E : List Arrow) (X : ExtraSet p E) where
   A = E ++ spine p
 
   extra-over : Over p (target A)
-  extra-over = record { spine = on-spine; into = λ x c y e. into x c y (Memᴰ.append_cases E (target_member A x c y e)); fits = fits }
+  extra-over = record { spine = on_spine; into = λ x c y e. into x c y (Memᴰ.append_cases E (target_member A x c y e)); fits = fits }
     where
-      on-spine : (i : State) → i < length p → target A i (letter p i) ≡ some (suc i)
-      on-spine i h =
+      on_spine : (i : State) → i < length p → target A i (letter p i) ≡ some (suc i)
+      on_spine i h =
           let there = target_member (spine p) i (letter p i) (suc i) (spine-target p i h) in
           member_target A X.one_each (Memᴰ.append_right E there)
 
@@ -57,7 +57,7 @@ freedom p E S X lower = (
     arrows = reads-arrow p O S;
     no_supply = reads_no_supply (length p) (table_from p δ S);
     supplies = reads-supply p δ S;
-    entries = λ few letters. from-small p δ S few letters (λ x h. omega (arith, lower (suc x) (omega arith) h)) O.fits;
+    entries = λ few letters. from_small p δ S few letters (λ x h. omega (arith, lower (suc x) (omega arith) h)) O.fits;
   },
 )
   where

@@ -63,22 +63,22 @@ module _ {L : List ℕ} {m u : ℕ} (H : ChainsOf L m L u) where
     room : length (before L m x) + length (own L m x) ≡ e
     room = sym (before-length (oracle (word_in L m)) (word_in L m) x) ∙ Y.place
 
-    its-slots : (j : ℕ) → 0 < j → j ≤ at L (2 * n + x) → (at K (4 * n + j) ≡ at L (4 * n + j)) × (at K (5 * n + j) ≡ at L (5 * n + j))
-    its-slots j p h = (Y.slots (4 * n + j) (omega arith), Y.slots (5 * n + j) (omega arith))
+    its_slots : (j : ℕ) → 0 < j → j ≤ at L (2 * n + x) → (at K (4 * n + j) ≡ at L (4 * n + j)) × (at K (5 * n + j) ≡ at L (5 * n + j))
+    its_slots j p h = (Y.slots (4 * n + j) (omega arith), Y.slots (5 * n + j) (omega arith))
 
-    its-chain : Chain K n (at K (2 * n + x)) (reverse (own L m x))
-    its-chain = rw (Y.kept (2 * n + x) (omega arith)) (chain-kept its-slots (le_refl _) (H.targets x Y.state))
+    its_chain : Chain K n (at K (2 * n + x)) (reverse (own L m x))
+    its_chain = rw (Y.kept (2 * n + x) (omega arith)) (chain-kept its_slots (le_refl _) (H.targets x Y.state))
 
     lay_fits : Fits K n x e
     lay_fits = record {
       size = Y.size ∙ H.chained.size;
       targets = reverse (own L m x);
-      chain = its-chain;
+      chain = its_chain;
       fits = omega (arith, room, length-reverse (own L m x));
     }
 
     lay_step : {K' : List ℕ} {r : ℕ} → Unchained K K' n x e r → Laying L m K' x r
-    lay_step {K'} {r} U = by (U.says (reverse (own L m x)) its-chain)
+    lay_step {K'} {r} U = by (U.says (reverse (own L m x)) its_chain)
       where
         by : Moved K K' n x e r (reverse (own L m x)) → Laying L m K' x r
         by M = record {

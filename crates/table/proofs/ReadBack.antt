@@ -13,7 +13,7 @@ use lib.Dec.{eqb}
 use borrow.Author.Tests.{eqb-true, eq-eqb, ne_eqb, lt-ltb, le-ltb, le-leb}
 use Rattle.words.specs.Lists.{at, first}
 use Rattle.words.specs.Words.{Letter, Word, letter, part}
-use Rattle.words.proofs.Lists.{first-none, first-only}
+use Rattle.words.proofs.Lists.{first-none, first_only}
 use Rattle.words.proofs.Words.{part_length, part_at}
 use Rattle.oracle.specs.Arrows.{State, Delta}
 use Rattle.oracle.specs.FileOrder.{extra_targets, targets_before}
@@ -70,7 +70,7 @@ module _ (p : Word) {δ : Delta} (O : Over p δ) (S : State → State) where
   -- the extra targets of each state
   pub reads-targets : (x : State) → x < length p → read_targets (length p) (table_from p δ S) x ≡ extra_targets δ p x
   unfolding read_targets
-  reads-targets x h = rw (many, from-here) (ext_get_or 0 slots own size entry)
+  reads-targets x h = rw (many, from_here) (ext_get_or 0 slots own size entry)
     where
       before : List State
       before = targets_before δ p x
@@ -81,11 +81,11 @@ module _ (p : Word) {δ : Delta} (O : Over p δ) (S : State → State) where
       inside : length before + length own ≤ n
       inside = omega (arith, O.fits, before-room δ p x n (omega arith))
 
-      from-here : at L (2 * n + x) ≡ length before
-      from-here = row_2 p δ S x (omega arith)
+      from_here : at L (2 * n + x) ≡ length before
+      from_here = row_2 p δ S x (omega arith)
 
       many : at L (2 * n + suc x) - at L (2 * n + x) ≡ length own
-      many = omega (arith, from-here, row_2 p δ S (suc x) (omega arith), before-length δ p x)
+      many = omega (arith, from_here, row_2 p δ S (suc x) (omega arith), before-length δ p x)
 
       slots : List State
       slots = part L (3 * n + length before) (length own)
@@ -127,7 +127,7 @@ module _ (p : Word) {δ : Delta} (O : Over p δ) (S : State → State) where
               let q : pred y ≡ z = omega (arith, v.1) in
               let here = target-extra δ p x y (omega (arith, v.1, v.4)) (omega (arith, v.1, v.2)) (rw (q, ← v.3) e) in
               let found : at L y ≡ c = rw v.1 (letter_at z v.2) ∙ sym v.3 in
-              first-only _ _ here (eq-eqb (at L y) c found) (λ y' k t. cc (carries y' k (eqb-true (at L y') c t)))
+              first_only _ _ here (eq-eqb (at L y) c found) (λ y' k t. cc (carries y' k (eqb-true (at L y') c t)))
 
   -- every arrow
   pub reads-arrow : (x : State) (c : Letter) → read_arrow (length p) (table_from p δ S) x c ≡ δ x c

@@ -12,7 +12,7 @@ use lib.ListN.{get_or-append, get_or-eq_default}
 use lib.Seq.{get_or-take, ext_get_or}
 use Rattle.words.specs.Lists.{at, from}
 use Rattle.words.specs.Words.{Word, letter}
-use Rattle.words.proofs.Lists.{from-length, map-from-at, at-behind}
+use Rattle.words.proofs.Lists.{from_length, map_from_at, at-behind}
 use Rattle.words.proofs.Loops.{padded, zeros-at}
 use Rattle.oracle.specs.Arrows.{State, Delta}
 use Rattle.oracle.specs.FileOrder.{targets_before}
@@ -44,10 +44,10 @@ module _ (p : Word) (δ : Delta) (S : State → State) where
   zeros = replicate (2 * n) 0
 
   supply_row_lem : length supply_row ≡ n
-  supply_row_lem = ap suc (length-map (from 1 m) S ∙ from-length 1 m)
+  supply_row_lem = ap suc (length-map (from 1 m) S ∙ from_length 1 m)
 
   start_row_lem : length start_row ≡ n
-  start_row_lem = length-map (from 0 n) _ ∙ from-length 0 n
+  start_row_lem = length-map (from 0 n) _ ∙ from_length 0 n
 
   target_row_lem : length target_row ≡ n
   target_row_lem = simp (length-take, length-append, length-replicate) (omega arith)
@@ -74,7 +74,7 @@ module _ (p : Word) (δ : Delta) (S : State → State) where
 
   -- and the supplies
   pub row_1 : (x : ℕ) → x < m → at L (n + suc x) ≡ S (suc x)
-  row_1 x h = in_row_1 (suc x) (omega arith) ∙ rw (one-add x) at (map-from-at S 1 m x 0 h)
+  row_1 x h = in_row_1 (suc x) (omega arith) ∙ rw (one-add x) at (map_from_at S 1 m x 0 h)
 
   behind_1 : (i : ℕ) → at L (n + (n + i)) ≡ get_or (start_row ++ (target_row ++ zeros)) i 0
   unfolding table_from
@@ -87,7 +87,7 @@ module _ (p : Word) (δ : Delta) (S : State → State) where
   pub row_2 : (i : ℕ) → i < n → at L (2 * n + i) ≡ length (targets_before δ p i)
   row_2 i h =
       let e : 2 * n + i ≡ n + (n + i) = omega arith in
-      let value = map-from-at (λ k. length (targets_before δ p k)) 0 n i 0 h in
+      let value = map_from_at (λ k. length (targets_before δ p k)) 0 n i 0 h in
       rw e (behind_1 i ∙ get_or-append start_row _ 0 i (omega (arith, start_row_lem)) ∙ rw (zero-add i) at value)
 
   -- the extra targets of all states, and zeros
@@ -132,9 +132,9 @@ module _ (p : Word) (δ : Delta) (S : State → State) where
           (λ i h. r2 i h ∙ sym (row_2 i h)) (λ i h. r3 i h ∙ sym (row_3 i h)) (λ i h. r4 i h ∙ sym (row_4 i h))
 
   -- entries are numbers of 16 bits where letters and supplies are
-  pub from-small : length p < 65535 → ((i : ℕ) → letter p i < 65536) → ((x : ℕ) → x < length p → S (suc x) < 65536)
+  pub from_small : length p < 65535 → ((i : ℕ) → letter p i < 65536) → ((x : ℕ) → x < length p → S (suc x) < 65536)
       → length (targets_before δ p (suc (length p))) ≤ suc (length p) → (i : ℕ) → at (table_from p δ S) i < 65536
-  from-small few letters supplies fits i = by (dec_lt i (6 * n))
+  from_small few letters supplies fits i = by (dec_lt i (6 * n))
     where
       row0 : (i : ℕ) → i < n → at L i < 65536
       row0 zero h = omega (arith, row_0 0 h)

@@ -17,7 +17,7 @@ use Rattle.oracle.proofs.LetterRule.{supplies}
 use Rattle.oracle.proofs.FileOrder.{oracle_extras_fit}
 use Rattle.oracle.proofs.Theorems.{oracle-supplied, supply_lower, no_supply}
 use Rattle.table.specs.Table.{room, table_of, read_word, read_targets, read_arrow, read_supply}
-use Rattle.table.proofs.Rows.{from_size_lem, from-small}
+use Rattle.table.proofs.Rows.{from_size_lem, from_small}
 use Rattle.table.proofs.ReadBack.{Over, reads_word, reads-supply, reads_no_supply, reads-targets, reads-arrow}
 
 module _ (p : Word) where
@@ -40,7 +40,7 @@ module _ (p : Word) where
   -- each of 16 bits, where letters are and m is below 65535
   pub table-entries : length p < 65535 → ((i : ℕ) → letter p i < 65536) → (i : ℕ) → at (table_of p) i < 65536
   unfolding table_of
-  table-entries few letters = from-small p (oracle p) _ few letters supplies oracle-over.fits
+  table-entries few letters = from_small p (oracle p) _ few letters supplies oracle-over.fits
     where
       supplies : (x : ℕ) → x < length p → get_or (supply p (suc x)) 0 < 65536
       supplies x h = let s = supply_lower p (suc x) (omega arith) h in rw s.1 (omega (arith, s.2))

@@ -8,12 +8,12 @@
 --   rows 4 and 5      zero, and so is every entry that is not named here
 --
 --   room m               how many entries
---   table_from p δ S      the table of the arrows δ and the supplies S over p
---   table_of p            the table of a word: the suffix rule's arrows, 001's supplies
---   read_word m L         the word, read from the entries L
---   read_targets m L x    the targets of the extra arrows that leave x
---   read_arrow m L x c    where the arrow from x on c leads
---   read_supply m L x     the supply of x
+--   table_from p δ S     the table of the arrows δ and the supplies S over p
+--   table_of p           the table of a word: the suffix rule's arrows, 001's supplies
+--   read_word m L        the word, read from the entries L
+--   read_targets m L x   the targets of the extra arrows that leave x
+--   read_arrow m L x c   where the arrow from x on c leads
+--   read_supply m L x    the supply of x
 --
 -- 01, 'When the library says no', its last part.
 use Rattle.std.specs.Prelude.{cond, List, ◌∷◌, ◌++◌, map, ℕ, suc, ◌+◌, ◌*◌, ◌-◌, length, take, replicate, eqb, ltb, leb}

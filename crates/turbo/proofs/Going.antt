@@ -23,9 +23,9 @@ use Rattle.finds.specs.Finds.{filled}
 use Rattle.pieces.specs.Kept.{heard}
 use Rattle.pieces.proofs.Kept.{kept-within}
 use Rattle.pieces.proofs.OneLetter.{short-kept, whole_length}
-use Rattle.pieces.proofs.Running.{other-letter}
+use Rattle.pieces.proofs.Running.{other_letter}
 use Rattle.turbo_steps.specs.Turbo.{kept_at, ends_at, found_at, Advance, stops_at, one_letter, forward}
-use Rattle.turbo_steps.proofs.Between.{short-keeps, short-ends_not, whole-keeps, whole-ends}
+use Rattle.turbo_steps.proofs.Between.{short-keeps, short_ends_not, whole-keeps, whole-ends}
 use Rattle.turbo_steps.proofs.Forward.{forward-done, forward_stops, forward-reads}
 use Rattle.turbo.specs.Readings.{StopsAs}
 
@@ -193,7 +193,7 @@ module _ {w t : Word} {e c₀ h₀ count₀ : ℕ} {F₀ F : List ℕ} {c h coun
               let less' = rw k at shorter in
               let some-letter : 1 ≤ length w = omega (arith, I.short) in
               let ends : ends_at w t low (suc c) ≡ false = test_cases (ends_at w t low (suc c))
-              (λ q. absurd (short-ends_not w t some-letter b going_more less' q)) (λ q. q) in
+              (λ q. absurd (short_ends_not w t some-letter b going_more less' q)) (λ q. q) in
               (longest ∙ (rw k (sym (short-keeps w t some-letter b going_more less'))), rw ends)
 
       module _ (all : length w ≤ long) where
@@ -232,7 +232,7 @@ going_others zero c I fits l other = rw (add-zero c) I
 going_others {w} {t} {e} {c₀} {h₀} {count₀} {F₀} {F} {count} (suc k) c I fits l other =
     let here : letter w 0 ≢ letter t c = λ q. other c (le_refl c) (omega arith) (sym q) in
     let less : e ≡ cond (leb (length w) (2 * 0)) (length t) e = rw (lt-leb (length w) (2 * 0) (omega (arith, I.short))) in
-    let one = going_short I fits less (omega arith) (sym (other-letter w (letter t c) here)) (omega (arith, I.short)) in
+    let one = going_short I fits less (omega arith) (sym (other_letter w (letter t c) here)) (omega (arith, I.short)) in
     let n : c + 1 + k ≡ c + suc k = omega arith in
     rw n at (going_others k (c + 1) one fits (omega arith) (λ i a b. other i (omega arith) (omega arith)))
 

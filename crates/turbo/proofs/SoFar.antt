@@ -37,9 +37,9 @@ pub record SoFar (δ : Delta) (w t : Word) (F₀ F : List ℕ) (c : Place) (h co
   pub few : count ≤ c
 
 -- nothing is read
-pub so_far-start : {δ : Delta} {w t : Word} {F : List ℕ} → 1 ≤ length w → SoFar δ w t F F 0 0 0 0
+pub so_far_start : {δ : Delta} {w t : Word} {F : List ℕ} → 1 ≤ length w → SoFar δ w t F F 0 0 0 0
 unfolding turbo_steps
-so_far-start {w = w} {t = t} {F = F} some-letter = record {
+so_far_start {w = w} {t = t} {F = F} some-letter = record {
   bound = suc (length t);
   low = 0;
   found = [];
@@ -56,16 +56,16 @@ so_far-start {w = w} {t = t} {F = F} some-letter = record {
 
 module _ {δ : Delta} {w t : Word} {F₀ F : List ℕ} {c : Place} {h count letters : ℕ} (I : SoFar δ w t F₀ F c h count letters) where
   -- the list has kept its length
-  pub so_far-length : length F ≡ length F₀
-  so_far-length = ap length I.list ∙ filled-length I.found F₀
+  pub so_far_length : length F ≡ length F₀
+  so_far_length = ap length I.list ∙ filled-length I.found F₀
 
   -- the letters are at most 2n
-  pub so_far-letters : 1 ≤ length w → letters ≤ 2 * length t
-  so_far-letters some-letter = omega (arith, I.all_letters, steps-letters δ w t some-letter)
+  pub so_far_letters : 1 ≤ length w → letters ≤ 2 * length t
+  so_far_letters some-letter = omega (arith, I.all_letters, steps-letters δ w t some-letter)
 
   -- the window starts within the text
-  pub so_far-fits : 1 ≤ length w → h ≤ c
-  so_far-fits some-letter = omega (arith, I.keeps, kept-past w t I.low c I.below I.inside some-letter)
+  pub so_far_fits : 1 ≤ length w → h ≤ c
+  so_far_fits some-letter = omega (arith, I.keeps, kept-past w t I.low c I.below I.inside some-letter)
 
   -- where it ends
   abbrev end : Place
@@ -75,9 +75,9 @@ module _ {δ : Delta} {w t : Word} {F₀ F : List ℕ} {c : Place} {h count lett
   end_is = ap (λ (x : ℕ). c - x + length w) I.keeps
 
   -- no window is left
-  pub so_far-end : length t < end
+  pub so_far_end : length t < end
       → (record { count = count; letters = letters } ≡ tally_of (turbo_steps δ w t)) × (F ≡ filled (turbo_steps δ w t).starts F₀)
-  so_far-end l =
+  so_far_end l =
       let past = windows-past δ w t I.low c I.bound (rw end_is at l) in
       let all_found : I.found ≡ (turbo_steps δ w t).starts = sym (append-nil I.found) ∙ (rw past at I.all-starts) in
       let all_read : letters ≡ (turbo_steps δ w t).letters = omega (arith, rw past at I.all_letters) in
@@ -90,8 +90,8 @@ module _ {δ : Delta} {w t : Word} {F₀ F : List ℕ} {c : Place} {h count lett
     moves : Moves δ w t I.low c
     moves = window_moves δ w t I.low c some-letter I.below I.inside (rw end_is at within)
 
-    pub so_far-longer : c < end
-    so_far-longer = rw end_is moves.longer
+    pub so_far_longer : c < end
+    so_far_longer = rw end_is moves.longer
 
     ahead-one : turbo_windows δ w t I.bound I.low c
         ≡ with_window δ w t I.low c (turbo_windows δ w t (I.bound - 1) (next_low δ w t I.low c) (read_forth δ w t I.low c).place)

@@ -1,7 +1,7 @@
 -- What the readings of a window answer, and all windows together.
 --
---   kept_behind h f   how many letters are kept behind a reading down to a place where h are: h, or none where a letter f failed
---   begins_at c h r   where the reading forward begins, once r was read from the window's end down to c, where h letters are kept: at c with
+--   kept_behind h f  how many letters are kept behind a reading down to a place where h are: h, or none where a letter f failed
+--   begins_at c h r  where the reading forward begins, once r was read from the window's end down to c, where h letters are kept: at c with
 --                    what is kept there, or behind the failing letter with nothing; and the letters that were read
 --   StopsAs w t e c h count F r F'
 --                    a reading forward from c, where h letters are kept, so many finds are listed and the list is F, stops as r says and

@@ -12,13 +12,13 @@ use lib.Seq.{get_or-append-add, ext_get_or}
 use lib.Dec.{leb}
 use borrow.Author.Tests.{leb-true, le-leb}
 use Rattle.words.specs.Words.{Word, Place, letter, part, stands, occurrences}
-use Rattle.words.proofs.Lists.{and-true, entry_in}
+use Rattle.words.proofs.Lists.{and_true, entry_in}
 use Rattle.words.proofs.Words.{part_length, part_at, part_snoc, part_of_part}
 use Rattle.words.proofs.Occurrences.{stands-letters, occurrence_stands, standing_occurs}
 use Rattle.border.specs.Borders.{longest_border, longest_end}
 use Rattle.pieces.specs.Kept.{kept, heard}
 use Rattle.pieces.proofs.Kept.{kept_shorter, kept_closing, kept-within, kept-longest}
-use Rattle.pieces.proofs.OnlyKept.{kept-goes_on, finds-go-on}
+use Rattle.pieces.proofs.OnlyKept.{kept-goes_on, finds_go_on}
 use Rattle.pieces.proofs.OneLetter.{short-kept, short-finds, whole_length, whole-kept, whole-finds}
 use Rattle.turbo_steps.specs.Turbo.{between, kept_at, ends_at}
 
@@ -27,7 +27,7 @@ use Rattle.turbo_steps.specs.Turbo.{between, kept_at, ends_at}
 module _ (w t : Word) (low c : Place) where
   pub ends-told : ends_at w t low c ≡ true → (low + length w ≤ c) × (stands w t (c - length w) ≡ true)
   ends-told e =
-      let both = and-true {a = leb (low + length w) c} {b = stands w t (c - length w)} e in
+      let both = and_true {a = leb (low + length w) c} {b = stands w t (c - length w)} e in
       (leb-true _ _ both.0, both.1)
 
   pub told-ends : low + length w ≤ c → stands w t (c - length w) ≡ true → ends_at w t low c ≡ true
@@ -124,7 +124,7 @@ module _ (w t : Word) {low c : Place} (some-letter : 1 ≤ length w) (below : lo
   then_kept = ap (kept w) between_more ∙ kept-goes_on w y (letter t c ∷ []) some-letter
 
   then_found : occurrences w (between t low (suc c)) ≡ occurrences w y ++ map (λ q. length y - h + q) (occurrences w x)
-  then_found = ap (occurrences w) between_more ∙ finds-go-on w y (letter t c ∷ []) some-letter
+  then_found = ap (occurrences w) between_more ∙ finds_go_on w y (letter t c ∷ []) some-letter
 
   short : h < length w
   short = kept-short w t low c some-letter
@@ -146,8 +146,8 @@ module _ (w t : Word) {low c : Place} (some-letter : 1 ≤ length w) (below : lo
     same-finds : occurrences w (between t low (suc c)) ≡ occurrences w y
     same-finds = then_found ∙ rw (short-finds w h short (letter t c) less) (append-nil (occurrences w y))
 
-    pub short-ends_not : ends_at w t low (suc c) ≡ true → ⊥
-    short-ends_not e =
+    pub short_ends_not : ends_at w t low (suc c) ≡ true → ⊥
+    short_ends_not e =
         let told = ends-told w t low (suc c) e in
         let q = suc c - length w - low in
         let place : low + q ≡ suc c - length w = omega (arith, told.0) in

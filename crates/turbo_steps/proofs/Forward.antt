@@ -18,15 +18,15 @@ use Rattle.border.specs.Borders.{longest_end}
 use Rattle.pieces.specs.Kept.{heard}
 use Rattle.turbo_steps.specs.Turbo.{kept_at, ends_at, found_at, Advance, stops_at, one_letter, goes_on, forward}
 use Rattle.turbo_steps.proofs.Between.{ends-told, told-ends, standing_kept, kept-past, kept-short}
-use Rattle.turbo_steps.proofs.Between.{kept_grows, short-ends_not, whole-size, whole-ends}
+use Rattle.turbo_steps.proofs.Between.{kept_grows, short_ends_not, whole-size, whole-ends}
 
 or_false : (a b : Bool) → a || b ≡ false → a ≡ false
 or_false true b e = e
 or_false false b e = refl
 
-or_false-right : (a b : Bool) → a || b ≡ false → b ≡ false
-or_false-right true b e = true_not_false e
-or_false-right false b e = e
+or_false_right : (a b : Bool) → a || b ≡ false → b ≡ false
+or_false_right true b e = true_not_false e
+or_false_right false b e = e
 
 module _ (w t : Word) (low e : Place) where
   pub forward-done : (c : Place) → forward w t low e 0 c ≡ stops_at c
@@ -74,7 +74,7 @@ module _ (w t : Word) (low e : Place) where
       (r.place ≡ length t) ⊎ (2 * kept_at w t low r.place < length w)
   forward_why = forward-induction (λ c r. (r.place ≡ length t) ⊎ (2 * kept_at w t low r.place < length w))
       (λ c s. inl s)
-      (λ c s q. inr (leb-false _ _ (or_false-right (ltb c e) _ q)))
+      (λ c s q. inr (leb-false _ _ (or_false_right (ltb c e) _ q)))
       (λ c r s q R. R)
 
   -- it stopped at no place before, from the window's end on: there half the word was kept
@@ -127,7 +127,7 @@ module _ (w t : Word) (low : Place) (some-letter : 1 ≤ length w) where
 
     letter-passes : end < length w → still_ahead c ≡ found_at w t low (suc c) ++ still_ahead (suc c)
     letter-passes less = test_cases (ends_at w t low (suc c))
-        (λ q. absurd (short-ends_not w t some-letter below more less q))
+        (λ q. absurd (short_ends_not w t some-letter below more less q))
         (λ q. rw q (since-later w t (c - h) (suc c - h') (omega (arith, kept_grows w t some-letter below more)) passed))
       where
         passed : (j : Place) → c - h ≤ j → j < suc c - h' → stands w t j ≡ true → ⊥
@@ -135,7 +135,7 @@ module _ (w t : Word) (low : Place) (some-letter : 1 ≤ length w) where
             (λ b. none_before j (omega (arith, fits.1)) b u g)
             (λ b.
             let place : j ≡ suc c - length w = omega (arith, fits.0) in
-            short-ends_not w t some-letter below more less
+            short_ends_not w t some-letter below more less
             (told-ends w t low (suc c) (omega (arith, fits.1)) (rw place at g)))
 
     letter-starts : still_ahead c ≡ found_at w t low (suc c) ++ still_ahead (suc c)

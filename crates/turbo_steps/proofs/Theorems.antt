@@ -15,7 +15,7 @@ use Rattle.oracle.specs.SuffixRule.{oracle}
 use Rattle.backward.specs.Steps.{nothing, backward}
 use Rattle.backward.proofs.Theorems.{oracle_walker, search-lists-occurrences}
 use Rattle.turbo_steps.specs.Turbo.{kept_at, ends_at, turbo}
-use Rattle.turbo_steps.proofs.Between.{short-ends_not, whole-keeps}
+use Rattle.turbo_steps.proofs.Between.{short_ends_not, whole-keeps}
 use Rattle.turbo_steps.proofs.Windows.{steps-letters, steps-short, steps-list}
 
 module _ (w t : Word) (some-letter : 1 ≤ length w) where
@@ -28,18 +28,18 @@ module _ (w t : Word) (some-letter : 1 ≤ length w) where
   turbo_rises = rw turbo-lists-occurrences (occurrences_rise w t)
 
   -- the list is that of the backward search
-  pub turbo-lists_as_backward : (turbo w t).starts ≡ (backward w t).starts
-  turbo-lists_as_backward = turbo-lists-occurrences ∙ sym (search-lists-occurrences w t)
+  pub turbo_lists_as_backward : (turbo w t).starts ≡ (backward w t).starts
+  turbo_lists_as_backward = turbo-lists-occurrences ∙ sym (search-lists-occurrences w t)
 
   -- the letters read, backward and forward, are at most 2n
-  pub turbo-letters-most : (turbo w t).letters ≤ 2 * length t
+  pub turbo_letters_most : (turbo w t).letters ≤ 2 * length t
   unfolding turbo
-  turbo-letters-most = steps-letters (oracle (mirror w)) w t some-letter
+  turbo_letters_most = steps-letters (oracle (mirror w)) w t some-letter
 
   -- after a find h is the longest border
   pub turbo-after_find : (low c : Place) → low ≤ c → c < length t → ends_at w t low (suc c) ≡ true → kept_at w t low (suc c) ≡ longest_border w
   turbo-after_find low c below more e = by_cases (dec_lt _ (length w))
-      (λ less. absurd (short-ends_not w t some-letter below more less e))
+      (λ less. absurd (short_ends_not w t some-letter below more less e))
       (λ all. whole-keeps w t some-letter below more (omega arith))
 
 -- a text shorter than the word is not read at all

@@ -16,7 +16,7 @@ use Rattle.words.proofs.Lists.{option_cases}
 use Rattle.words.proofs.Occurrences.{since-start, since-past, since-later}
 use Rattle.oracle.specs.Arrows.{State, Delta}
 use Rattle.backward.specs.Steps.{Sweep, nothing}
-use Rattle.backward.proofs.Reading.{failed-place, reading-letters-most}
+use Rattle.backward.proofs.Reading.{failed-place, reading_letters_most}
 use Rattle.backward.proofs.Windows.{Walker, reading_loses_none}
 use Rattle.turbo_steps.specs.Turbo.{kept_at, window_end, read_back, next_low, next_place, read_forth, turbo_windows, turbo_steps}
 use Rattle.turbo_steps.proofs.Between.{kept-short, kept-past, kept_fresh}
@@ -70,7 +70,7 @@ module _ (δ : Delta) (w t : Word) (low c : Place) where
         below = a;
         on = b;
         within = d;
-        read = omega (arith, reading-letters-most δ t c (window_end w t low c - c) 0, longer);
+        read = omega (arith, reading_letters_most δ t c (window_end w t low c - c) 0, longer);
         reads = let c' = next_place δ w t low c in
             forward-counts w t (next_low δ w t low c) (window_end w t low c) h (length t - c') c' (omega (arith, d));
       }

@@ -4,23 +4,23 @@
 -- letter.
 --
 --   between t low c           the letters of t from place low up to place c
---   kept_at w t low c          h: the longest beginning of w, short of all of it, that ends at c and starts no sooner than low
---   ends_at w t low c          whether w itself ends at c and starts no sooner than low
---   found_at w t low c         the find that ends at c, where there is one
+--   kept_at w t low c         h: the longest beginning of w, short of all of it, that ends at c and starts no sooner than low
+--   ends_at w t low c         whether w itself ends at c and starts no sooner than low
+--   found_at w t low c        the find that ends at c, where there is one
 --   Advance                   what a reading forward finds, the place where it stops, and the letters it read
---   stops_at c                 no letter more is read
---   one_letter l r             one letter is read, at which the finds l end, and then the others as r says
---   goes_on w t low e c        whether a letter more is read at c: up to e, and on while 2h is at least m
+--   stops_at c                no letter more is read
+--   one_letter l r            one letter is read, at which the finds l end, and then the others as r says
+--   goes_on w t low e c       whether a letter more is read at c: up to e, and on while 2h is at least m
 --   forward w t low e k c     reads forward from c, where k letters of the text are left
---   window_end w t low c       where the window ends that starts at c - h
---   read_back δ w t low c      its letters, read from its end down to c
+--   window_end w t low c      where the window ends that starts at c - h
+--   read_back δ w t low c     its letters, read from its end down to c
 --   behind x f                x, or the place behind the failing letter where there is one
 --   next_low δ w t low c, next_place δ w t low c
 --                             low and c behind that reading
---   read_forth δ w t low c     its letters, read forward from there
+--   read_forth δ w t low c    its letters, read forward from there
 --   turbo_windows δ w t k low c
 --                             the windows from c on; k bounds how many there are
---   turbo_steps δ w t          all windows, with the arrows δ
+--   turbo_steps δ w t         all windows, with the arrows δ
 --   turbo w t                 the search: with the oracle of the mirrored word
 --
 -- 02, 'Linear on hostile text'.

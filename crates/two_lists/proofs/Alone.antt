@@ -11,7 +11,7 @@ use Rattle.words.specs.Words.{Place}
 use Rattle.finds.specs.Finds.{filled}
 use Rattle.two_lists.specs.TwoLists.{fit_both, filled_to}
 use Rattle.two_lists.specs.FindRecord.{Find, starts_of, numbers_of, of_mark, Lists, lists, listed, alone}
-use Rattle.two_lists.proofs.Filling.{filled_to-length, both-nil}
+use Rattle.two_lists.proofs.Filling.{filled_to-length, both_nil}
 
 -- ── A part of a list, filled ───────────────────────────────────────────────
 
@@ -43,8 +43,8 @@ take-replicate zero k a = rw (min-zero-left k)
 take-replicate (suc n) zero a = rw (min-zero-right (suc n))
 take-replicate (suc n) (suc k) a = rw (min-suc n k, take-replicate n k a)
 
-drop-least : (n : ℕ) (F : List ℕ) → drop (min (length F) n) F ≡ drop n F
-drop-least n F = by (dec_le (length F) n)
+drop_least : (n : ℕ) (F : List ℕ) → drop (min (length F) n) F ≡ drop n F
+drop_least n F = by (dec_le (length F) n)
   where
     by : Dec (length F ≤ n) → drop (min (length F) n) F ≡ drop n F
     by (yes h) = drop_of_length-le F {i = min (length F) n} (omega arith) ∙ sym (drop_of_length-le F {i = n} h)
@@ -63,7 +63,7 @@ pub filled-zeros : (n : ℕ) (F : List ℕ) {e : ℕ} → e ≡ min (length F) n
 unfolding filled
 filled-zeros n F {e} i =
     let size : length (take e F) ≡ min (length F) n = length-take-le e F (omega arith) ∙ i in
-    rw (size, take-replicate (length F) n 0, length-replicate {A = ℕ} n 0, i, drop-least n F)
+    rw (size, take-replicate (length F) n 0, length-replicate {A = ℕ} n 0, i, drop_least n F)
 
 -- ── One mark ───────────────────────────────────────────────────────────────
 
@@ -106,7 +106,7 @@ listed-numbers-length l F = filled_to-length (fit_both F.starts F.numbers) (numb
 pub listed-nothing : (F : Lists) → listed [] F ≡ F
 unfolding listed
 listed-nothing F =
-    let b = both-nil F.starts F.numbers in
+    let b = both_nil F.starts F.numbers in
     ap2_lists (sym b.one) (sym b.other)
   where
     ap2_lists : {A B C D : List ℕ} → A ≡ C → B ≡ D → lists A B ≡ lists C D

@@ -38,22 +38,22 @@ module _ {n : ℕ} (l F₀ : List ℕ) (a : ℕ) {F : List ℕ} (list : F ≡ fi
 
 -- ── Both ───────────────────────────────────────────────────────────────────
 
-pub both-nil : (S G : List ℕ) → Both [] [] S G S G
-both-nil S G = record { one = filled_to-nil (fit_both S G) S; other = filled_to-nil (fit_both S G) G }
+pub both_nil : (S G : List ℕ) → Both [] [] S G S G
+both_nil S G = record { one = filled_to-nil (fit_both S G) S; other = filled_to-nil (fit_both S G) G }
 
 module _ {count : ℕ} {l j S G A B : List ℕ} (number : length l ≡ count) (number' : length j ≡ count) (both : Both l j S G A B) where
   one_size : length A ≡ length S
   one_size = ap length both.one ∙ filled_to-length (fit_both S G) l S
 
-  other-size : length B ≡ length G
-  other-size = ap length both.other ∙ filled_to-length (fit_both S G) j G
+  other_size : length B ≡ length G
+  other_size = ap length both.other ∙ filled_to-length (fit_both S G) j G
 
   -- there is an entry in both
-  pub both-inside : (a b : ℕ) → count < length A → count < length B
+  pub both_inside : (a b : ℕ) → count < length A → count < length B
       → Both (l ++ (a ∷ [])) (j ++ (b ∷ [])) S G (set A count a) (set B count b)
-  both-inside a b h k = record {
-    one = rw (← number) (to_inside l S a both.one (omega (arith, one_size, other-size)) (omega arith));
-    other = rw (← number') (to_inside j G b both.other (omega (arith, one_size, other-size)) (omega arith));
+  both_inside a b h k = record {
+    one = rw (← number) (to_inside l S a both.one (omega (arith, one_size, other_size)) (omega arith));
+    other = rw (← number') (to_inside j G b both.other (omega (arith, one_size, other_size)) (omega arith));
   }
 
   -- one of them is full
@@ -66,5 +66,5 @@ module _ {count : ℕ} {l j S G A B : List ℕ} (number : length l ≡ count) (n
   pub one-past : (a b : ℕ) → length A ≤ count → Both (l ++ (a ∷ [])) (j ++ (b ∷ [])) S G A B
   one-past a b h = past a b (omega (arith, one_size))
 
-  pub other-past : (a b : ℕ) → length B ≤ count → Both (l ++ (a ∷ [])) (j ++ (b ∷ [])) S G A B
-  other-past a b h = past a b (omega (arith, other-size))
+  pub other_past : (a b : ℕ) → length B ≤ count → Both (l ++ (a ∷ [])) (j ++ (b ∷ [])) S G A B
+  other_past a b h = past a b (omega (arith, other_size))

@@ -1,7 +1,7 @@
 -- Two lists of the caller's that are filled side by side.
 --
---   fit_both S G       how many entries fit both lists: as many as the shorter one has
---   filled_to n l F    the list F with the first of l in it, n at most, and its other entries as they were
+--   fit_both S G      how many entries fit both lists: as many as the shorter one has
+--   filled_to n l F   the list F with the first of l in it, n at most, and its other entries as they were
 --   Both l j S G A B  where the lists were S and G, they are A and B: l and j are in them, as many of each as fit both
 --
 -- 01, 'The backward search'; 02, 'Salvage lister'.

@@ -58,9 +58,9 @@ unfolding least_saved
 saved-some = omega arith
 
 -- some word is saved
-pub least-below-longest : least_saved ≤ longest_word
+pub least_below_longest : least_saved ≤ longest_word
 unfolding least_saved longest_word
-least-below-longest = omega arith
+least_below_longest = omega arith
 
 -- five bytes a letter and one more are room enough
 pub file-room : 5 * longest_word + 1 ≤ greatest_file

@@ -15,9 +15,9 @@ use Rattle.words.specs.Lists.{at, from, only, first, Rising, end, up}
 
 -- ── Tests and options ──────────────────────────────────────────────────────
 
-pub and-true : {a b : Bool} → a && b ≡ true → (a ≡ true) × (b ≡ true)
-and-true {a = true} e = (refl, e)
-and-true {a = false} e = (e, cc)
+pub and_true : {a b : Bool} → a && b ≡ true → (a ≡ true) × (b ≡ true)
+and_true {a = true} e = (refl, e)
+and_true {a = false} e = (e, cc)
 
 pub true_not_false : {C : Type 0} → ◌≡◌ {A = Bool} true false → C
 true_not_false e = let z : ◌≡◌ {A = ℕ} 0 1 = cc in absurd (omega arith)
@@ -102,28 +102,28 @@ from_snoc a (suc k) =
     let e : suc a + k ≡ a + suc k = omega arith in
     ap {B = List ℕ} (λ l. a ∷ l) (from_snoc (suc a) k ∙ rw e)
 
-pub from-length : (a k : ℕ) → length (from a k) ≡ k
+pub from_length : (a k : ℕ) → length (from a k) ≡ k
 unfolding from
-from-length a zero = refl
-from-length a (suc k) = ap suc (from-length (suc a) k)
+from_length a zero = refl
+from_length a (suc k) = ap suc (from_length (suc a) k)
 
 -- j + k numbers are the first j of them, and k behind those
-pub from-append : (a j k : ℕ) → from a (j + k) ≡ from a j ++ from (a + j) k
+pub from_append : (a j k : ℕ) → from a (j + k) ≡ from a j ++ from (a + j) k
 unfolding from
-from-append a zero k = rw (zero-add k, add-zero a)
-from-append a (suc j) k =
+from_append a zero k = rw (zero-add k, add-zero a)
+from_append a (suc j) k =
     let n : suc j + k ≡ suc (j + k) = omega arith in
     let e : suc a + j ≡ a + suc j = omega arith in
-    rw (n, from) (ap {B = List ℕ} (λ l. a ∷ l) (from-append (suc a) j k ∙ rw e))
+    rw (n, from) (ap {B = List ℕ} (λ l. a ∷ l) (from_append (suc a) j k ∙ rw e))
 
 -- entry i of a function's values at a, a + 1, ..
-pub map-from-at : (f : ℕ → ℕ) (a k i d : ℕ) → i < k → get_or (map f (from a k)) i d ≡ f (a + i)
+pub map_from_at : (f : ℕ → ℕ) (a k i d : ℕ) → i < k → get_or (map f (from a k)) i d ≡ f (a + i)
 unfolding from
-map-from-at f a zero i d h = absurd (omega arith)
-map-from-at f a (suc k) zero d h = rw (add-zero a)
-map-from-at f a (suc k) (suc i) d h =
+map_from_at f a zero i d h = absurd (omega arith)
+map_from_at f a (suc k) zero d h = rw (add-zero a)
+map_from_at f a (suc k) (suc i) d h =
     let e : suc a + i ≡ a + suc i = omega arith in
-    map-from-at f (suc a) k i d (omega arith) ∙ ap f e
+    map_from_at f (suc a) k i d (omega arith) ∙ ap f e
 
 pub from_in : (a k : ℕ) {j : ℕ} → Memᴰ j (from a k) → (a ≤ j) × (j < a + k)
 unfolding from
@@ -148,18 +148,18 @@ module _ {A : Type 0} (P : A → Bool) where
   unfolding only
   only_not a l e = rw e
 
-  pub only-append : (l r : List A) → only P (l ++ r) ≡ only P l ++ only P r
+  pub only_append : (l r : List A) → only P (l ++ r) ≡ only P l ++ only P r
   unfolding only
-  only-append [] r = refl
-  only-append (a ∷ l) r = test_cases (P a) (λ e. rw (e, only-append l r)) (λ e. rw (e, only-append l r))
+  only_append [] r = refl
+  only_append (a ∷ l) r = test_cases (P a) (λ e. rw (e, only_append l r)) (λ e. rw (e, only_append l r))
 
   -- no more than were tried
-  pub only-few : (l : List A) → length (only P l) ≤ length l
+  pub only_few : (l : List A) → length (only P l) ≤ length l
   unfolding only
-  only-few [] = omega arith
-  only-few (a ∷ l) = test_cases (P a)
-      (λ e. rw e (omega (arith, only-few l)))
-      (λ e. rw e (omega (arith, only-few l)))
+  only_few [] = omega arith
+  only_few (a ∷ l) = test_cases (P a)
+      (λ e. rw e (omega (arith, only_few l)))
+      (λ e. rw e (omega (arith, only_few l)))
 
   pub only_in : (l : List A) {a : A} → Memᴰ a (only P l) → Memᴰ a l × (P a ≡ true)
   unfolding only
@@ -180,25 +180,25 @@ module _ {A : Type 0} (P : A → Bool) where
 
 module _ (P : ℕ → Bool) where
   -- the first d numbers may be left out where they fail the test
-  pub only-later : (d s k : ℕ) → ((j : ℕ) → s ≤ j → j < s + d → P j ≡ false) → only P (from s k) ≡ only P (from (s + d) (k - d))
+  pub only_later : (d s k : ℕ) → ((j : ℕ) → s ≤ j → j < s + d → P j ≡ false) → only P (from s k) ≡ only P (from (s + d) (k - d))
   unfolding from
-  only-later zero s k f = rw (add-zero, sub-zero)
-  only-later (suc d) s zero f = rw (zero-sub (suc d))
-  only-later (suc d) s (suc k) f =
+  only_later zero s k f = rw (add-zero, sub-zero)
+  only_later (suc d) s zero f = rw (zero-sub (suc d))
+  only_later (suc d) s (suc k) f =
       only_not P s (from (suc s) k) (f s (le_refl s) (omega arith))
-      ∙ rw (add-suc, ← suc-add, suc-sub-suc) (only-later d (suc s) k (λ j l u. f j (omega arith) (omega arith)))
+      ∙ rw (add-suc, ← suc-add, suc-sub-suc) (only_later d (suc s) k (λ j l u. f j (omega arith) (omega arith)))
 
   -- where no number passes, nothing is listed
   pub only_none : (a k : ℕ) → ((j : ℕ) → a ≤ j → j < a + k → P j ≡ false) → only P (from a k) ≡ []
   unfolding from only
-  only_none a k f = let e : k - k ≡ 0 = omega arith in only-later k a k f ∙ rw e
+  only_none a k f = let e : k - k ≡ 0 = omega arith in only_later k a k f ∙ rw e
 
 -- ── first ──────────────────────────────────────────────────────────────────
 
 module _ {A : Type 0} (P : A → Bool) where
-  pub first-yes : (a : A) (l : List A) → P a ≡ true → first P (a ∷ l) ≡ some a
+  pub first_yes : (a : A) (l : List A) → P a ≡ true → first P (a ∷ l) ≡ some a
   unfolding first
-  first-yes a l e = rw e
+  first_yes a l e = rw e
 
   pub first_not : (a : A) (l : List A) → P a ≡ false → first P (a ∷ l) ≡ first P l
   unfolding first
@@ -211,14 +211,14 @@ module _ {A : Type 0} (P : A → Bool) where
   first-none (a ∷ l) f = first_not a l (f a (mathlib.Core.List.Memᴰ.head refl)) ∙ first-none l (λ b m. f b (mathlib.Core.List.Memᴰ.tail m))
 
   -- the only one that passes is the first
-  pub first-only : (l : List A) {a : A} → Memᴰ a l → P a ≡ true → ((b : A) → Memᴰ b l → P b ≡ true → b ≡ a)
+  pub first_only : (l : List A) {a : A} → Memᴰ a l → P a ≡ true → ((b : A) → Memᴰ b l → P b ≡ true → b ≡ a)
       → first P l ≡ some a
   unfolding first
-  first-only [] {a = a} m e f = elim m [ ]
-  first-only (b ∷ l) (mathlib.Core.List.Memᴰ.head q) e f = rw q (first-yes b l (rw q at e))
-  first-only (b ∷ l) (mathlib.Core.List.Memᴰ.tail m) e f = test_cases (P b)
-      (λ g. first-yes b l g ∙ ap {B = Option A} some (f b (mathlib.Core.List.Memᴰ.head refl) g))
-      (λ g. first_not b l g ∙ first-only l m e (λ d n. f d (mathlib.Core.List.Memᴰ.tail n)))
+  first_only [] {a = a} m e f = elim m [ ]
+  first_only (b ∷ l) (mathlib.Core.List.Memᴰ.head q) e f = rw q (first_yes b l (rw q at e))
+  first_only (b ∷ l) (mathlib.Core.List.Memᴰ.tail m) e f = test_cases (P b)
+      (λ g. first_yes b l g ∙ ap {B = Option A} some (f b (mathlib.Core.List.Memᴰ.head refl) g))
+      (λ g. first_not b l g ∙ first_only l m e (λ d n. f d (mathlib.Core.List.Memᴰ.tail n)))
 
 -- ── Lists that rise ────────────────────────────────────────────────────────
 

@@ -10,8 +10,8 @@ use lib.ListN.{length, length-take, length-drop}
 use lib.Seq.{ext_get_or}
 use Rattle.words.specs.Lists.{from, only, Rising}
 use Rattle.words.specs.Words.{Word, Place, letter, part, stands, occurrences}
-use Rattle.words.proofs.Lists.{only_yes, only_in, in_only, only-later, only_none, from_in, in_from, rising_from}
-use Rattle.words.proofs.Lists.{only-few, from-length}
+use Rattle.words.proofs.Lists.{only_yes, only_in, in_only, only_later, only_none, from_in, in_from, rising_from}
+use Rattle.words.proofs.Lists.{only_few, from_length}
 use Rattle.words.proofs.Words.{same_true, same_refl, part_length, part_at}
 
 -- ── stands ─────────────────────────────────────────────────────────────────
@@ -63,7 +63,7 @@ module _ (v t : Word) where
   unfolding occurrences
   occurrences-few =
       let tried = suc (length t) - length v in
-      omega (arith, only-few (stands v t) (from 0 tried), from-length 0 tried)
+      omega (arith, only_few (stands v t) (from 0 tried), from_length 0 tried)
 
 -- ── From a place on ────────────────────────────────────────────────────────
 
@@ -93,4 +93,4 @@ module _ (v t : Word) where
       let k = suc (length t) - (s + length v) in
       let q : s + (s' - s) ≡ s' = omega arith in
       let c : k - (s' - s) ≡ suc (length t) - (s' + length v) = omega arith in
-      rw (q, c) at (only-later (stands v t) (s' - s) s k (λ j l u. (not-eq-not {b = false}).0 (f j l (omega arith))))
+      rw (q, c) at (only_later (stands v t) (s' - s) s k (λ j l u. (not-eq-not {b = false}).0 (f j l (omega arith))))

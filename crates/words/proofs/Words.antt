@@ -11,7 +11,7 @@ use lib.Seq.{take-suc, take-add, take_all, drop-cons, drop-drop, get_or-take, ge
 use lib.Dec.{eqb}
 use borrow.Author.Tests.{eqb-true, eq-eqb}
 use Rattle.words.specs.Words.{Word, letter, part, mirror, same}
-use Rattle.words.proofs.Lists.{and-true}
+use Rattle.words.proofs.Lists.{and_true}
 
 -- ── same ───────────────────────────────────────────────────────────────────
 
@@ -21,7 +21,7 @@ same_true [] [] e = refl
 same_true [] (d ∷ v) e = cc
 same_true (c ∷ u) [] e = cc
 same_true (c ∷ u) (d ∷ v) e =
-    let r = and-true {a = eqb c d} {b = same u v} e in
+    let r = and_true {a = eqb c d} {b = same u v} e in
     cc (eqb-true c d r.0, same_true u v r.1)
 
 pub same_refl : (u : Word) → same u u ≡ true
@@ -66,9 +66,9 @@ module _ (p : Word) where
           ∙ sym (part_at (a + b) k i g)
 
   -- where a part is u and then v, v stands in the word behind u
-  pub part-ends_in : (a n : ℕ) (u v : Word) → a + n ≤ length p → part p a n ≡ u ++ v
+  pub part_ends_in : (a n : ℕ) (u v : Word) → a + n ≤ length p → part p a n ≡ u ++ v
       → (length u + length v ≡ n) × (part p (a + length u) (length v) ≡ v)
-  part-ends_in a n u v h e = (size, behind)
+  part_ends_in a n u v h e = (size, behind)
     where
       size : length u + length v ≡ n
       size = sym (length-append u v) ∙ ap length (sym e) ∙ part_length a n h

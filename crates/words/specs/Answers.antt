@@ -1,7 +1,7 @@
 -- What the answers of code mean: for each case of an enum, the state or the lack of one that it stands for.
 --
---   arrow_to o     the answer to where an arrow leads
---   supply_of o    the answer to what a supply is
+--   arrow_to o    the answer to where an arrow leads
+--   supply_of o   the answer to what a supply is
 use Rattle.std.proofs.Math.Option.{Option, none, some}
 use Rattle.std.specs.Prelude.{ℕ}
 use Rattle.words.specs.declared.Leads.{Leads}

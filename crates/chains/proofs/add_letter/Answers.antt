@@ -3,7 +3,7 @@
 use mathlib.Core.Path.{sym, ◌∙◌}
 use native.Mathlib.Omega.{arith}
 use lib.ListN.{length-set}
-use Rattle.chains.proofs.Climbing.{added-first, start-ready, begun-zero, added-at_once, letter-added, rest-start, rest-on}
+use Rattle.chains.proofs.Climbing.{added-first, start-ready, begun-zero, added_at_once, letter-added, rest-start, rest_on}
 use Rattle.chains.proofs.add_letter.Goals as goal
 
 -- ── Before the walk ────────────────────────────────────────────────────────
@@ -24,7 +24,7 @@ look-found-requires c =
 pub returns-in-To : goal.returns-in-To
 returns-in-To c =
     let B = c.requires.begun.0 in
-    added-at_once B c.supply_at-supply.ensures c.in-Of.is c.look-found.ensures c.in-To.is
+    added_at_once B c.supply_at-supply.ensures c.in-Of.is c.look-found.ensures c.in-To.is
 
 -- ── The walk ───────────────────────────────────────────────────────────────
 pub loop-slot-init : goal.loop-slot-init
@@ -63,4 +63,4 @@ loop-slot-smaller c =
 pub loop-slot-preserved : goal.loop-slot-preserved
 loop-slot-preserved c =
     let rested = rw c.in-Rests.is at c.climb-climbed.ensures in
-    rest-on c.loop-slot.invariant rested.1
+    rest_on c.loop-slot.invariant rested.1

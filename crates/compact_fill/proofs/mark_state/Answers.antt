@@ -27,9 +27,9 @@ mark-requires c =
 pub loop-j-preserved : goal.loop-j-preserved
 loop-j-preserved c =
     let p = word_in c.args.table.now c.args.m in
-    let its-letter = c.letter_into-c.ensures ∙ ap (letter_into p) c.arrow_target-y.ensures in (
+    let its_letter = c.letter_into-c.ensures ∙ ap (letter_into p) c.arrow_target-y.ensures in (
       omega (arith, c.loop-j-test.true),
-      marked-one c.loop-j.invariant.1 its-letter (c.requires.0.bytes _) c.mark.ensures,
+      marked-one c.loop-j.invariant.1 its_letter (c.requires.0.bytes _) c.mark.ensures,
     )
 
 pub shape_of-sets : goal.shape_of-sets

@@ -5,7 +5,7 @@ use native.Mathlib.Omega.{arith}
 use lib.ListN.{length, length-set}
 use Rattle.compact_fill.proofs.OutArrows.{out-leads}
 use Rattle.compact_fill.proofs.Marking.{pair_marked}
-use Rattle.compact_fill.proofs.Putting.{few-before, letter_of, spine-inside, other-inside, pair_next, pair_word, pair_state}
+use Rattle.compact_fill.proofs.Putting.{few-before, letter_of, spine-inside, other_inside, pair_next, pair_word, pair_state}
 use Rattle.compact_fill.proofs.two_arrows.Goals as goal
 
 pub overflow_add-y : goal.overflow_add-y
@@ -72,7 +72,7 @@ put-requires-2 c =
     let h = c.requires.first_form.1 in
     let counted = c.requires.sets_len.1 in (
       F.few,
-      other-inside F h counted c.requires.first_form.2 c.letter_into-to_y.ensures
+      other_inside F h counted c.requires.first_form.2 c.letter_into-to_y.ensures
           (letter_of F h counted c.arrow_target-z.ensures c.letter_into-to_z.ensures) c.past-2.ensures,
       ap length c.put.ensures ∙ simp length-set (c.few_starts.ensures.size ∙ F.size),
     )

@@ -1,13 +1,13 @@
 -- `compact_search::windows` meets its contract: before each window `SoFar` holds, that is, what is counted and listed is what the steps up
 -- to there count and list. The measure is how much of the text lies behind the window's start.
 use native.Mathlib.Omega.{arith}
-use Rattle.backward.proofs.AfterFind.{after_moves, after-most}
-use Rattle.search.proofs.SoFar.{so_far-start, so_far-length, so_far-end, so-far-find, so_far_miss}
+use Rattle.backward.proofs.AfterFind.{after_moves, after_most}
+use Rattle.search.proofs.SoFar.{so_far_start, so_far_length, so_far_end, so-far-find, so_far_miss}
 use Rattle.search.proofs.SoFar.{letters_fit, find-fits, fails-inside}
 use Rattle.compact_search.proofs.windows.Goals as goal
 
 pub window-init : goal.window-init
-window-init c = so_far-start
+window-init c = so_far_start
 
 -- ── A find ─────────────────────────────────────────────────────────────────
 pub overflow_add-letters : goal.overflow_add-letters
@@ -18,11 +18,11 @@ overflow_add-letters c =
 
 pub overflow_add-on : goal.overflow_add-on
 overflow_add-on c =
-    omega (arith, after-most c.args.word.now c.requires.in_bounds.0)
+    omega (arith, after_most c.args.word.now c.requires.in_bounds.0)
 
 pub overflow_cast-on-in_default : goal.overflow_cast-on-in_default
 overflow_cast-on-in_default c =
-    omega (arith, after-most c.args.word.now c.requires.in_bounds.0, c.requires.in_bounds.2)
+    omega (arith, after_most c.args.word.now c.requires.in_bounds.0, c.requires.in_bounds.2)
 
 pub window-smaller-in_default : goal.window-smaller-in_default
 window-smaller-in_default c =
@@ -63,7 +63,7 @@ window-preserved c =
     so_far_miss c.window.invariant c.window-test.true _ c.read_window-read.ensures _ c.in-Failed.is
 
 pub shape_of-finds : goal.shape_of-finds
-shape_of-finds c = so_far-length c.window.invariant
+shape_of-finds c = so_far_length c.window.invariant
 
 pub returns : goal.returns
-returns c = so_far-end c.window.invariant c.window-test.false
+returns c = so_far_end c.window.invariant c.window-test.false

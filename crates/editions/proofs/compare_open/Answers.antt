@@ -1,7 +1,7 @@
 -- `editions::compare_open` meets its contract: what the arrows show, and then the check of a file that has one.
 use mathlib.Core.Path.{sym, ap, ◌∙◌}
 use Rattle.loaded.specs.Answers.{ending_of}
-use Rattle.editions.proofs.Coding.{checked-ending, other-ending, broken-ending, check-inside}
+use Rattle.editions.proofs.Coding.{checked-ending, other_ending, broken-ending, check-inside}
 use Rattle.editions.proofs.compare_open.Goals as goal
 
 pub read_check-requires : goal.read_check-requires
@@ -20,5 +20,5 @@ returns-in-Broken c =
 
 pub returns-else-is_checked : goal.returns-else-is_checked
 returns-else-is_checked c =
-    other-ending _ _ _ _ (sym c.is_checked.ensures ∙ c.if-is_checked.false)
+    other_ending _ _ _ _ (sym c.is_checked.ensures ∙ c.if-is_checked.false)
     (sym (ap ending_of c.in-Behind.is) ∙ c.compare_open-shown.ensures)

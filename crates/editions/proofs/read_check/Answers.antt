@@ -33,11 +33,11 @@ overflow_add-found c =
     let at = c.args.at in
     omega (arith, known at, known (at + 1))
 
-pub returns-then-found-right : goal.returns-then-found-right
-returns-then-found-right c =
+pub returns-then-found-asked : goal.returns-then-found-asked
+returns-then-found-asked c =
     let fits = le-leb (c.args.at + 2) (length c.args.file.now) (omega arith) in
-    simp (fits, ne_eqb _ _ (λ q. c.if-found-right.true (q ∙ sym c.check-right.ensures)))
+    simp (fits, ne_eqb _ _ (λ q. c.if-found-asked.true (q ∙ sym c.check-right.ensures)))
 
 pub returns : goal.returns
 returns c =
-    simp (le-leb (c.args.at + 2) (length c.args.file.now) (omega arith), eq-eqb _ _ (c.if-found-right.false ∙ c.check-right.ensures))
+    simp (le-leb (c.args.at + 2) (length c.args.file.now) (omega arith), eq-eqb _ _ (c.if-found-asked.false ∙ c.check-right.ensures))

@@ -7,7 +7,7 @@ use lib.ListN.{length}
 use Rattle.words.specs.Lists.{at}
 use borrow.Author.Tests.{eqb-true}
 use Rattle.editions.proofs.Files.{there}
-use Rattle.editions.proofs.Coding.{checked-front, other-front}
+use Rattle.editions.proofs.Coding.{checked-front, other_front}
 use Rattle.editions.proofs.read_front.Goals as goal
 
 pub overflow_add-start : goal.overflow_add-start
@@ -24,4 +24,4 @@ returns-then-is_checked c =
 
 pub returns : goal.returns
 returns c =
-    c.read_front.ensures ∙ other-front _ _ (sym c.is_checked.ensures ∙ c.if-is_checked.false)
+    c.read_front.ensures ∙ other_front _ _ (sym c.is_checked.ensures ∙ c.if-is_checked.false)

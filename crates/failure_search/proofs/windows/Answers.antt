@@ -4,17 +4,17 @@
 use mathlib.Core.Path.{sym, ◌∙◌}
 use Prim.Native.Nat.{◌+◌, ◌-◌}
 use lib.ListN.{length}
-use Rattle.backward.proofs.AfterFind.{after_moves, after-most}
+use Rattle.backward.proofs.AfterFind.{after_moves, after_most}
 use Rattle.failure_search.proofs.States.{few-taken}
 use Rattle.failure_search.proofs.Readings.{compared}
-use Rattle.failure_search.proofs.SoFar.{so_far-start, so_far-length, so_far-end, so-far-find, so_far-unlike, so_far_miss}
+use Rattle.failure_search.proofs.SoFar.{so_far_start, so_far_length, so_far_end, so-far-find, so_far_unlike, so_far_miss}
 use Rattle.failure_search.proofs.SoFar.{letters_fit, window_taken, whole-fits, fails-inside}
 use native.Mathlib.Omega.{arith}
 use Rattle.failure_search.proofs.windows.Goals as goal
 
 pub window-init : goal.window-init
 window-init c =
-    (so_far-start, c.requires.failure_formed.1)
+    (so_far_start, c.requires.failure_formed.1)
 
 pub ask_first-first-requires : goal.ask_first-first-requires
 ask_first-first-requires c =
@@ -59,11 +59,11 @@ note-count-requires c =
 
 pub overflow_add-on : goal.overflow_add-on
 overflow_add-on c =
-    omega (arith, after-most c.args.word.now c.requires.in_bounds.0)
+    omega (arith, after_most c.args.word.now c.requires.in_bounds.0)
 
 pub overflow_cast-on-then-same_bytes : goal.overflow_cast-on-then-same_bytes
 overflow_cast-on-then-same_bytes c =
-    omega (arith, after-most c.args.word.now c.requires.in_bounds.0, c.requires.in_bounds, c.window-test.true)
+    omega (arith, after_most c.args.word.now c.requires.in_bounds.0, c.requires.in_bounds, c.window-test.true)
 
 pub window-smaller-then-same_bytes : goal.window-smaller-then-same_bytes
 window-smaller-then-same_bytes c =
@@ -92,7 +92,7 @@ window-preserved-in_default c =
     let unlike = compared _ _ _ c.same_bytes.ensures c.if-same_bytes.false in
     let says = c.read_window-r.ensures in
     let told = c.in_default.is in (
-      so_far-unlike c.window.invariant.0 c.window-test.true _ says told unlike c.requires.in_bounds.0,
+      so_far_unlike c.window.invariant.0 c.window-test.true _ says told unlike c.requires.in_bounds.0,
       c.ask_first-first.ensures.1,
     )
 
@@ -139,8 +139,8 @@ shape_of-taken c =
 
 pub shape_of-finds : goal.shape_of-finds
 shape_of-finds c =
-    so_far-length c.window.invariant.0
+    so_far_length c.window.invariant.0
 
 pub returns : goal.returns
 returns c =
-    so_far-end c.window.invariant.0 c.window-test.false
+    so_far_end c.window.invariant.0 c.window-test.false

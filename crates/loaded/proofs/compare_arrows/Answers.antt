@@ -3,7 +3,7 @@
 use mathlib.Core.Path.{sym, ap, ◌∙◌}
 use native.Mathlib.Omega.{arith}
 use Rattle.loaded.specs.Answers.{pair_of}
-use Rattle.loaded.proofs.Comparing.{compare_start, compare_next, shows-refused, shows_too_many, shows-other}
+use Rattle.loaded.proofs.Comparing.{compare_start, compare_next, shows-refused, shows_too_many, shows_other}
 use Rattle.loaded.proofs.Comparing.{shows-missing, shows-behind}
 use Rattle.loaded.proofs.compare_arrows.Goals as goal
 
@@ -32,7 +32,7 @@ pub returns-then-not-up-own : goal.returns-then-not-up-own
 returns-then-not-up-own c =
     let read = sym (ap pair_of c.in-Both.is) ∙ c.read_two-two.ensures in
     let own = c.next_step-own.ensures in
-    shows-other c.loop-left.invariant c.loop-left-test.true read own c.if-not-up-own.true
+    shows_other c.loop-left.invariant c.loop-left-test.true read own c.if-not-up-own.true
 
 pub loop-left-preserved : goal.loop-left-preserved
 loop-left-preserved c =

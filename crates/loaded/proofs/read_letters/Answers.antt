@@ -2,13 +2,13 @@
 use mathlib.Core.Path.{sym, ◌∙◌}
 use Rattle.words.proofs.Limits.{least_saved_lem, word_limit}
 use Rattle.number.proofs.Theorems.{number_at-inside}
-use Rattle.loaded.proofs.Fronts.{shows-other-size, shows-cut, shows-letters}
+use Rattle.loaded.proofs.Fronts.{shows_other_size, shows-cut, shows-letters}
 use Rattle.loaded.proofs.read_letters.Goals as goal
 
 pub returns-then-not-m : goal.returns-then-not-m
 returns-then-not-m c =
     let read = sym c.number_at-declared.ensures ∙ c.in-Value.is in
-    shows-other-size _ _ read (rw (least_saved_lem, word_limit) c.if-not-m.true)
+    shows_other_size _ _ read (rw (least_saved_lem, word_limit) c.if-not-m.true)
 
 pub overflow_sub-file : goal.overflow_sub-file
 overflow_sub-file c =

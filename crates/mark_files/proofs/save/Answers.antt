@@ -15,15 +15,15 @@ returns-then-m-lt1 c = sym (says-empty _ _ _ _ c.if-m-lt1.true)
 pub returns-then-m-gt-WORD_LIMIT : goal.returns-then-m-gt-WORD_LIMIT
 returns-then-m-gt-WORD_LIMIT c = sym (says-long _ _ _ _ c.if-m-lt1.false (omega (arith, word_limit, c.if-m-gt-WORD_LIMIT.true)))
 
-pub returns-then-m-lt-LEAST_SAVED : goal.returns-then-m-lt-LEAST_SAVED
-returns-then-m-lt-LEAST_SAVED c =
+pub returns-then-m-least : goal.returns-then-m-least
+returns-then-m-least c =
     let most = c.if-m-gt-WORD_LIMIT.false in
-    let below = c.if-m-lt-LEAST_SAVED.true in
+    let below = c.if-m-least.true in
     sym (says-one_letter _ _ _ _ c.if-m-lt1.false (omega (arith, word_limit, most)) (omega (arith, least_saved_lem, below)))
 
 pub returns-then-tables-need : goal.returns-then-tables-need
 returns-then-tables-need c =
-    let least = c.if-m-lt-LEAST_SAVED.false in
+    let least = c.if-m-least.false in
     let most = c.if-m-gt-WORD_LIMIT.false in
     sym (says-short _ _ _ _ (omega (arith, least_saved_lem, least)) (omega (arith, word_limit, most)) c.if-tables-need.true)
 
@@ -42,17 +42,17 @@ pub file_size-size-requires : goal.file_size-size-requires
 file_size-size-requires c =
     let word = c.args.word.now in
     let tabled = lent_tabled word _ c.fill.ensures in
-    tabled (omega (arith, least_saved_lem, c.if-m-lt-LEAST_SAVED.false)) (omega (arith, word_limit, c.if-m-gt-WORD_LIMIT.false))
+    tabled (omega (arith, least_saved_lem, c.if-m-least.false)) (omega (arith, word_limit, c.if-m-gt-WORD_LIMIT.false))
 
-pub slice_bounds-clear-end-then-out-size : goal.slice_bounds-clear-end-then-out-size
-slice_bounds-clear-end-then-out-size c =
+pub slice_bounds-clear-end-then-out-needed : goal.slice_bounds-clear-end-then-out-needed
+slice_bounds-clear-end-then-out-needed c =
     lent-size c.args.word.now _ c.fill.ensures
 
-pub returns-then-out-size : goal.returns-then-out-size
-returns-then-out-size c =
-    let least = c.if-m-lt-LEAST_SAVED.false in
+pub returns-then-out-needed : goal.returns-then-out-needed
+returns-then-out-needed c =
+    let least = c.if-m-least.false in
     let most = c.if-m-gt-WORD_LIMIT.false in
-    let full = c.if-out-size.true in
+    let full = c.if-out-needed.true in
     wiped _ _ c.fill.ensures _ c.clear.ensures
     ∙ sym (says_full _ _ _ _ (omega (arith, least_saved_lem, least)) (omega (arith, word_limit, most)) c.if-tables-need.false
     (omega (arith, c.file_size-size.ensures, full)))
@@ -64,17 +64,17 @@ slice_bounds-write_file-end-2 c =
 pub write_file-requires : goal.write_file-requires
 write_file-requires c =
     let word = c.args.word.now in
-    let tabled = lent_tabled word _ c.fill.ensures (omega (arith, least_saved_lem, c.if-m-lt-LEAST_SAVED.false)) in
+    let tabled = lent_tabled word _ c.fill.ensures (omega (arith, least_saved_lem, c.if-m-least.false)) in
     record {
       tabled = tabled (omega (arith, word_limit, c.if-m-gt-WORD_LIMIT.false));
-      word_in_bounds = omega (arith, c.file_size-size.ensures, c.if-out-size.false);
+      word_in_bounds = omega (arith, c.file_size-size.ensures, c.if-out-needed.false);
     }
 
 pub returns : goal.returns
 returns c =
-    let least = c.if-m-lt-LEAST_SAVED.false in
+    let least = c.if-m-least.false in
     let most = c.if-m-gt-WORD_LIMIT.false in
-    let fits = c.if-out-size.false in
+    let fits = c.if-out-needed.false in
     put-out _ _ c.fill.ensures _ c.file_size-size.ensures c.write_file.ensures
     ∙ sym (says-done _ _ _ _ (omega (arith, least_saved_lem, least)) (omega (arith, word_limit, most)) c.if-tables-need.false
     (omega (arith, c.file_size-size.ensures, fits)))

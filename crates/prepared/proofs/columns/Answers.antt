@@ -2,7 +2,7 @@
 -- how many letters are left.
 use mathlib.Core.Path.{sym, ◌∙◌}
 use native.Mathlib.Omega.{arith}
-use Rattle.prepared.proofs.Parting.{columns-start, columns-more, columns-end}
+use Rattle.prepared.proofs.Parting.{columns-start, columns_more, columns-end}
 use Rattle.prepared.proofs.columns.Goals as goal
 
 pub loop-i-init : goal.loop-i-init
@@ -26,7 +26,7 @@ bounds-column-c-then-column-c-eq0 c =
 
 pub loop-i-preserved-then-column-c-eq0 : goal.loop-i-preserved-then-column-c-eq0
 loop-i-preserved-then-column-c-eq0 c =
-    (columns-more c.loop-i.invariant.0 (omega arith), omega arith)
+    (columns_more c.loop-i.invariant.0 (omega arith), omega arith)
 
 pub loop-i-preserved : goal.loop-i-preserved
 loop-i-preserved c =

@@ -17,8 +17,8 @@ pub overflow_cast-start : goal.overflow_cast-start
 overflow_cast-start c =
     omega (arith, c.type_inv.column (at c.args.table.now c.args.y.0))
 
-pub returns-then-start-eq0 : goal.returns-then-start-eq0
-returns-then-start-eq0 c = put_no_column
+pub returns-then-start-none : goal.returns-then-start-none
+returns-then-start-none c = put_no_column
 
 pub overflow_add-dense : goal.overflow_add-dense
 overflow_add-dense c =
@@ -40,4 +40,4 @@ bounds-dense-start c =
 
 pub returns : goal.returns
 returns c =
-    put-there c.requires.apart (omega (arith, c.if-d-gt255.false)) c.requires.y_in_bounds.2 c.if-start-eq0.false c.requires.y_in_bounds.1
+    put-there c.requires.apart (omega (arith, c.if-d-gt255.false)) c.requires.y_in_bounds.2 c.if-start-none.false c.requires.y_in_bounds.1

@@ -2,7 +2,7 @@
 use mathlib.Core.Path.{sym, ◌∙◌}
 use Prim.Native.Nat.{◌-◌}
 use native.Mathlib.Omega.{arith}
-use Rattle.rides.proofs.Headers.{allowed-size, too_early, other-size, behind_the_end, listed-cut, listed-whole, data_size-fits}
+use Rattle.rides.proofs.Headers.{allowed-size, too_early, other_size, behind_the_end, listed-cut, listed-whole, data_size-fits}
 use Rattle.rides.proofs.read_header.Goals as goal
 
 pub returns-then-q-lt8 : goal.returns-then-q-lt8
@@ -11,7 +11,7 @@ returns-then-q-lt8 c = sym (too_early _ _ (omega (arith, c.if-q-lt8.true)))
 pub returns-then-not-is_header_size : goal.returns-then-not-is_header_size
 returns-then-not-is_header_size c =
     let late = c.if-q-lt8.false in
-    sym (other-size _ _ late (sym c.is_header_size.ensures ∙ c.if-not-is_header_size.true))
+    sym (other_size _ _ late (sym c.is_header_size.ensures ∙ c.if-not-is_header_size.true))
 
 pub overflow_cast-behind : goal.overflow_cast-behind
 overflow_cast-behind c =
@@ -23,39 +23,39 @@ overflow_add-behind c =
     let size = sym c.is_header_size.ensures ∙ c.if-not-is_header_size.false in
     omega (arith, allowed-size _ size)
 
-pub returns-then-text-behind : goal.returns-then-text-behind
-returns-then-text-behind c =
+pub returns-then-text-least : goal.returns-then-text-least
+returns-then-text-least c =
     let late = c.if-q-lt8.false in
     let size = sym c.is_header_size.ensures ∙ c.if-not-is_header_size.false in
-    sym (behind_the_end _ _ late size (omega (arith, c.if-text-behind.true)))
+    sym (behind_the_end _ _ late size (omega (arith, c.if-text-least.true)))
 
 pub data_size-requires : goal.data_size-requires
 data_size-requires c =
     let size = sym c.is_header_size.ensures ∙ c.if-not-is_header_size.false in
-    omega (arith, allowed-size _ size, c.if-text-behind.false)
+    omega (arith, allowed-size _ size, c.if-text-least.false)
 
 pub overflow_add-end : goal.overflow_add-end
 overflow_add-end c =
     let known = c.type_inv.text in
     let fits = data_size-fits c.args.text.now (c.args.q.0 - 8) (λ i. omega (arith, known i)) in
     let size = sym c.is_header_size.ensures ∙ c.if-not-is_header_size.false in
-    omega (arith, c.if-text-behind.false, allowed-size _ size, c.data_size.ensures, fits)
+    omega (arith, c.if-text-least.false, allowed-size _ size, c.data_size.ensures, fits)
 
 pub overflow_add-end-2 : goal.overflow_add-end-2
 overflow_add-end-2 c =
     let known = c.type_inv.text in
     let fits = data_size-fits c.args.text.now (c.args.q.0 - 8) (λ i. omega (arith, known i)) in
     let size = sym c.is_header_size.ensures ∙ c.if-not-is_header_size.false in
-    omega (arith, c.if-text-behind.false, allowed-size _ size, c.data_size.ensures, fits)
+    omega (arith, c.if-text-least.false, allowed-size _ size, c.data_size.ensures, fits)
 
 pub returns-then-text-end : goal.returns-then-text-end
 returns-then-text-end c =
     let late = c.if-q-lt8.false in
     let size = sym c.is_header_size.ensures ∙ c.if-not-is_header_size.false in
-    sym (listed-cut _ _ late size c.if-text-behind.false (omega (arith, c.data_size.ensures, c.if-text-end.true)))
+    sym (listed-cut _ _ late size c.if-text-least.false (omega (arith, c.data_size.ensures, c.if-text-end.true)))
 
 pub returns : goal.returns
 returns c =
     let late = c.if-q-lt8.false in
     let size = sym c.is_header_size.ensures ∙ c.if-not-is_header_size.false in
-    sym (listed-whole _ _ late size c.if-text-behind.false (omega (arith, c.data_size.ensures, c.if-text-end.false)))
+    sym (listed-whole _ _ late size c.if-text-least.false (omega (arith, c.data_size.ensures, c.if-text-end.false)))

@@ -1,7 +1,7 @@
 -- `saved::write_file` meets its contract: what `PuttingSteps` says holds before each slot. The measure is how many slots are left.
 use native.Mathlib.Omega.{arith}
 use Rattle.saved.proofs.Slots.{own-few}
-use Rattle.saved.proofs.Putting.{room-up, room-over, steps_next}
+use Rattle.saved.proofs.Putting.{room_up, room-over, steps_next}
 use Rattle.saved.proofs.Putting.{room-edition, room-size, room-letters, room-count, steps-start, file-room, file-put}
 use Rattle.saved.proofs.write_file.Goals as goal
 
@@ -44,7 +44,7 @@ next_step-leap-requires c =
 
 pub write-middle-requires : goal.write-middle-requires
 write-middle-requires c =
-    room-up c.loop-slot.invariant c.next_step-leap.ensures
+    room_up c.loop-slot.invariant c.next_step-leap.ensures
 
 pub write-at-requires-in-loop-slot : goal.write-at-requires-in-loop-slot
 write-at-requires-in-loop-slot c =

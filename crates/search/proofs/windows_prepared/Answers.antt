@@ -10,9 +10,9 @@ use mir.Facts.{Fits-widen}
 use borrow.Author.Rules.{scaled_Fits}
 use Rattle.table.specs.Table.{read_arrow}
 use Rattle.backward.specs.Steps.{read_down}
-use Rattle.backward.proofs.AfterFind.{after_moves, after-most}
+use Rattle.backward.proofs.AfterFind.{after_moves, after_most}
 use Rattle.search.specs.Answers.{reading_of}
-use Rattle.search.proofs.SoFar.{so_far-start, so_far-length, so_far-end, so-far-find, so_far_miss}
+use Rattle.search.proofs.SoFar.{so_far_start, so_far_length, so_far_end, so-far-find, so_far_miss}
 use Rattle.search.proofs.SoFar.{letters_fit, find-fits, fails-inside}
 use Rattle.search.proofs.Starting.{last_misses, next_misses, rest-says}
 use Rattle.search.proofs.windows_prepared.Goals as goal
@@ -36,7 +36,7 @@ below_but : {v : ℕ} → v < 65536 → v ≢ 65535 → v < 65535
 below_but h f = omega arith
 
 pub window-init : goal.window-init
-window-init c = so_far-start
+window-init c = so_far_start
 
 pub overflow_add-start : goal.overflow_add-start
 overflow_add-start c =
@@ -163,7 +163,7 @@ overflow_add-letters-in_default c =
 
 pub overflow_add-start-in_default : goal.overflow_add-start-in_default
 overflow_add-start-in_default c =
-    omega (arith, after-most c.args.word.now (omega (arith, c.requires.in_bounds.0)), c.window-test.true)
+    omega (arith, after_most c.args.word.now (omega (arith, c.requires.in_bounds.0)), c.window-test.true)
 
 pub window-smaller-in_default : goal.window-smaller-in_default
 window-smaller-in_default c =
@@ -200,8 +200,8 @@ window-preserved c =
 
 pub shape_of-finds : goal.shape_of-finds
 shape_of-finds c =
-    so_far-length c.window.invariant
+    so_far_length c.window.invariant
 
 pub returns : goal.returns
 returns c =
-    so_far-end c.window.invariant c.window-test.false
+    so_far_end c.window.invariant c.window-test.false

@@ -7,7 +7,7 @@ use lib.Seq.{length-take-le}
 use borrow.Author.Rules.{rules}
 use Rattle.words.proofs.Limits.{streamed_limit, text_limit}
 use Rattle.stream.proofs.Sound.{unsound}
-use Rattle.stream.proofs.Testing.{own-length, its-length, other_word, last_test}
+use Rattle.stream.proofs.Testing.{own-length, its_length, other_word, last_test}
 use Rattle.stream.proofs.can_be_made.Goals as goal
 
 pub returns-then-m-lt1 : goal.returns-then-m-lt1
@@ -56,7 +56,7 @@ pub same_borders-requires : goal.same_borders-requires
 same_borders-requires c =
     let s = c.args.s in
     let row : length s.borders ≡ 64 = search rules in
-    row ∙ sym (its-length s c.fresh-o.ensures c.if-m-gt-STREAMED_LIMIT.false)
+    row ∙ sym (its_length s c.fresh-o.ensures c.if-m-gt-STREAMED_LIMIT.false)
 
 pub returns : goal.returns
 returns c =

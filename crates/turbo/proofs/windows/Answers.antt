@@ -3,27 +3,27 @@
 use mathlib.Core.Path.{refl}
 use native.Mathlib.Omega.{arith}
 use Rattle.words.proofs.Limits.{texts_fit}
-use Rattle.turbo.proofs.SoFar.{so_far-start, so_far-length, so_far-fits, so_far-letters, so_far-end}
-use Rattle.turbo.proofs.SoFar.{so_far-longer, begin_fits, stop-fits, so_far_window}
+use Rattle.turbo.proofs.SoFar.{so_far_start, so_far_length, so_far_fits, so_far_letters, so_far_end}
+use Rattle.turbo.proofs.SoFar.{so_far_longer, begin_fits, stop-fits, so_far_window}
 use Rattle.turbo.proofs.windows.Goals as goal
 
 pub window-init : goal.window-init
 window-init c =
-    (so_far-start c.requires.in_bounds.0, λ h. refl)
+    (so_far_start c.requires.in_bounds.0, λ h. refl)
 
 pub overflow_sub-c : goal.overflow_sub-c
 overflow_sub-c c =
-    so_far-fits c.window.invariant.0 c.requires.in_bounds.0
+    so_far_fits c.window.invariant.0 c.requires.in_bounds.0
 
 pub overflow_sub-end : goal.overflow_sub-end
 overflow_sub-end c =
-    so_far-fits c.window.invariant.0 c.requires.in_bounds.0
+    so_far_fits c.window.invariant.0 c.requires.in_bounds.0
 
 pub read_back-begin-requires : goal.read_back-begin-requires
 read_back-begin-requires c =
     let within = c.window-test.true in
     let asked = c.window.invariant.1 in
-    let longer = so_far-longer c.window.invariant.0 c.requires.in_bounds.0 within in
+    let longer = so_far_longer c.window.invariant.0 c.requires.in_bounds.0 within in
     let prepared = c.requires.formed.1 in
     record {
       c_le_end = (omega (arith, longer), within, c.requires.in_bounds.1);
@@ -51,14 +51,14 @@ overflow_add-letters c =
     let some-letter = c.requires.in_bounds.0 in
     let then = so_far_window c.window.invariant.0 some-letter c.window-test.true c.read_back-begin.ensures
     c.forward-stop.ensures in
-    omega (arith, so_far-letters then some-letter, c.requires.in_bounds.1, texts_fit)
+    omega (arith, so_far_letters then some-letter, c.requires.in_bounds.1, texts_fit)
 
 pub overflow_add-letters-in-window : goal.overflow_add-letters-in-window
 overflow_add-letters-in-window c =
     let some-letter = c.requires.in_bounds.0 in
     let then = so_far_window c.window.invariant.0 some-letter c.window-test.true c.read_back-begin.ensures
     c.forward-stop.ensures in
-    omega (arith, so_far-letters then some-letter, c.requires.in_bounds.1, texts_fit)
+    omega (arith, so_far_letters then some-letter, c.requires.in_bounds.1, texts_fit)
 
 pub window-smaller : goal.window-smaller
 window-smaller c =
@@ -66,7 +66,7 @@ window-smaller c =
     let some-letter = c.requires.in_bounds.0 in
     let within = c.window-test.true in
     let fits = stop-fits so_far some-letter within c.read_back-begin.ensures c.forward-stop.ensures in
-    omega (arith, so_far-longer so_far some-letter within, fits.1, fits.2)
+    omega (arith, so_far_longer so_far some-letter within, fits.1, fits.2)
 
 pub window-preserved : goal.window-preserved
 window-preserved c = (
@@ -76,7 +76,7 @@ window-preserved c = (
 )
 
 pub shape_of-finds : goal.shape_of-finds
-shape_of-finds c = so_far-length c.window.invariant.0
+shape_of-finds c = so_far_length c.window.invariant.0
 
 pub returns : goal.returns
-returns c = so_far-end c.window.invariant.0 c.window-test.false
+returns c = so_far_end c.window.invariant.0 c.window-test.false
