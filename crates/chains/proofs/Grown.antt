@@ -217,7 +217,8 @@ module _ {B : List ℕ} {m : ℕ} (K : Blank B m) where
         test : (y : ℕ) → suc (suc x) ≤ y → y < suc (suc x) + (m - suc x)
             → here y ≡ there y
         test zero h b = absurd (omega arith)
-        test (suc y) h b = ap (λ o. leads_to o (suc y)) (suffix_rule-arrows p supplied x (letter p y) ∙ ap (δ x) (letter_in y (omega arith)))
+        test (suc y) h b =
+            ap (λ o. leads_to o (suc y)) (suffix_rule-arrows p supplied x (letter p y) ∙ ap (δ x) (letter_in y (omega arith)))
 
     counted : (k : ℕ) → length (targets_before (oracle p) p k) ≡ total G.T k
     unfolding targets_before total

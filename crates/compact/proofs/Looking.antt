@@ -50,7 +50,8 @@ module _ {Z L : List ℕ} {m : ℕ} (F : CompactFormed Z L m) (x : State) (c : L
     look_inside = omega (arith, count-passes (in_set Z x) c 256 byte e, F.fits x (omega arith))
 
     -- and the arrow leads to what stands there
-    pub look_some : {r : ℕ} → r ≡ at L (4 * (m + 1) + 4 * x) + how_many (in_set Z x) c → read_compact m Z L x c ≡ some (at L (8 * (m + 1) + r))
+    pub look_some : {r : ℕ} → r ≡ at L (4 * (m + 1) + 4 * x) + how_many (in_set Z x) c
+        → read_compact m Z L x c ≡ some (at L (8 * (m + 1) + r))
     look_some q = reads-some m Z L x c (omega arith) byte e ∙ ap (λ (i : ℕ). some (at L (8 * (m + 1) + i))) (sym q)
 
     -- both of what code counts

@@ -59,7 +59,8 @@ module _ (δ : Delta) where
     pub target_at : (k : ℕ) → g < k → at (targets_up_to δ k) (length (targets_up_to δ g)) ≡ y
     target_at k h =
         let behind = get_or-append-add (targets_up_to δ g) (y ∷ []) 0 0 in
-        let here : at (targets_up_to δ g ++ (y ∷ [])) (length (targets_up_to δ g)) ≡ y = rw (add-zero (length (targets_up_to δ g))) at behind in
+        let here : at (targets_up_to δ g ++ (y ∷ [])) (length (targets_up_to δ g))
+        ≡ y = rw (add-zero (length (targets_up_to δ g))) at behind in
         targets_stay (suc g) k (length (targets_up_to δ g)) (omega arith) (target-inside (suc g) (omega arith))
         ∙ ap (λ (l : List State). at l (length (targets_up_to δ g))) next
         ∙ here
@@ -74,7 +75,8 @@ module _ (δ : Delta) where
 
   pub target_of_lem : (k i : ℕ) → i < length (targets_up_to δ k) → TargetOf k i
   target_of_lem zero i h = absurd (unfold targets_up_to in omega (arith, h))
-  target_of_lem (suc k) i h = by_cases (dec_lt i (length (targets_up_to δ k))) (λ l. later (target_of_lem k i l)) (λ l. by (arrow_at δ k) refl l)
+  target_of_lem (suc k) i h =
+      by_cases (dec_lt i (length (targets_up_to δ k))) (λ l. later (target_of_lem k i l)) (λ l. by (arrow_at δ k) refl l)
     where
       later : TargetOf k i → TargetOf (suc k) i
       later T = record { number = T.number; below = omega (arith, T.below); to = T.to; leads = T.leads; place = T.place }

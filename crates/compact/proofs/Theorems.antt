@@ -208,7 +208,8 @@ module _ (p : Word) where
       by_cases (dec_lt i (2 * (m + 1))) (λ l. row (m + 1) supply_row_lem (omega arith) (omega arith)) (λ l.
       by_cases (dec_lt i (4 * (m + 1))) (λ k. row (2 * (m + 1)) zero-rows (omega arith) (omega arith)) (λ k.
       by_cases (dec_lt i (8 * (m + 1))) (λ j. row (4 * (m + 1)) start_rows_lem (omega arith) (omega arith)) (λ j.
-      by_cases (dec_lt i (10 * (m + 1))) (λ u. row (8 * (m + 1)) target_rows_lem (omega arith) (omega arith)) (λ u. behind (omega arith))))))
+      by_cases (dec_lt i (10 * (m + 1))) (λ u. row (8 * (m + 1)) target_rows_lem (omega arith) (omega arith))
+      (λ u. behind (omega arith))))))
     where
       -- what holds of each of k entries from a on holds of i, if it is one of them
       row : {k : ℕ} (a : ℕ) → ((j : ℕ) → j < k → at L (a + j) < 65536) → a ≤ i → i < a + k → at L i < 65536

@@ -29,7 +29,8 @@
 --   read_compact m Z L x c    where the arrow from x on c leads, read from the words Z and the entries L
 --
 -- The word and the supplies are read as from the first form. 02, 'Compact rows'.
-use Rattle.std.specs.Prelude.{Bool, true, false, cond, ◌&&◌, List, [], ◌∷◌, ◌++◌, map, ℕ, zero, suc, ◌+◌, ◌*◌, ◌/◌, ◌%◌, ◌^◌, length, take, replicate, eqb, ltb, leb}
+use Rattle.std.specs.Prelude.{Bool, true, false, cond, ◌&&◌, List, [], ◌∷◌, ◌++◌, map, ℕ, zero, suc}
+use Rattle.std.specs.Prelude.{◌+◌, ◌*◌, ◌/◌, ◌%◌, ◌^◌, length, take, replicate, eqb, ltb, leb}
 use Rattle.std.proofs.Math.Option.{Option, none, some, get_or}
 use Rattle.words.specs.Lists.{at, from}
 use Rattle.words.specs.Words.{Letter, Word}

@@ -60,7 +60,8 @@ module _ {p : Word} {L : List ℕ} {m : ℕ} (F : FirstForm p L m) (x : State) (
 
   -- where code looks for it: behind the start of its word, and behind the ones of that below its bit
   pub place-counted : (Z : List ℕ) → OwnWords (oracle p) x Z → OwnStarts (oracle p) m x L → {c d : Letter} → d < 256 → c ≡ d
-      → at L (4 * (m + 1) + arrow_number x c / 64) + how_many (bit_at (at Z (arrow_number x c / 64))) (arrow_number x c % 64) ≡ place_of p x d
+      → at L (4 * (m + 1) + arrow_number x c / 64) + how_many (bit_at (at Z (arrow_number x c / 64))) (arrow_number x c % 64)
+      ≡ place_of p x d
   place-counted Z own starts {c} {d} l same = rw same counted
     where
       k : ℕ
@@ -119,7 +120,8 @@ module _ {p : Word} {L : List ℕ} {m : ℕ} (F : FirstForm p L m) (x : State) (
       inside : 8 * (m + 1) + place_of p x (letter_into p y) < length L'
       inside = omega (arith, P.size, F.size, place_inside y leads)
 
-      here : at (set L' (8 * (m + 1) + place_of p x (letter_into p y)) y) (8 * (m + 1) + place_of p x (letter_into p (at (out_targets p x) j)))
+      here : at (set L' (8 * (m + 1) + place_of p x (letter_into p y)) y)
+          (8 * (m + 1) + place_of p x (letter_into p (at (out_targets p x) j)))
           ≡ at (out_targets p x) j
       here = rw (← e) (get_or-set_same L' _ y 0 inside)
 

@@ -147,7 +147,8 @@ module _ (word : Word) (Y T : List ℕ) where
 
   -- 3, for a word that may be built on, exactly where either room is too small
   pub three_for_either : 1 ≤ length word → length word ≤ longest_word
-      → ((compact_build_says word Y T).answer ≡ refused short_room) ↔ ((length Y < 4 * (length word + 1)) ⊎ (length T < 10 * (length word + 1)))
+      → ((compact_build_says word Y T).answer ≡ refused short_room)
+      ↔ ((length Y < 4 * (length word + 1)) ⊎ (length T < 10 * (length word + 1)))
   three_for_either = Build.short-exactly word Y T
 
 -- so many words and entries they are, and the entries have 16 bits

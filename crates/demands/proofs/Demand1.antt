@@ -41,8 +41,8 @@ use Rattle.mark_files.proofs.SearchFileSays
 -- ── 'Any word, text, file and room may be handed to any public entry.' ─────
 
 -- Of the code, crates/marks/src/lib.rt and crates/mark_files/src/lib.rt: an entry has no `requires`, and its one `ensures` says that its
--- answer and every lent buffer as it is left are `build_says`, `save_says`, `search_says`, `load_says` or `search_file_says` of what is handed
--- over. These are functions on all lists of numbers. Files are of either edition; saving in edition 2 is `EditionTwo`'s.
+-- answer and every lent buffer as it is left are `build_says`, `save_says`, `search_says`, `load_says` or `search_file_says` of what is
+-- handed over. These are functions on all lists of numbers. Files are of either edition; saving in edition 2 is `EditionTwo`'s.
 
 -- ── 'Each entry comes to an end with an answer, or refuses with a number from the written table,' ──
 
@@ -69,7 +69,8 @@ module _ (word text : Word) (file R T O : List ℕ) (F : List Place) where
   pub load_numbers : refuses_with (3 ∷ []) (5 ∷ 6 ∷ 7 ∷ 8 ∷ 9 ∷ 10 ∷ 11 ∷ 13 ∷ []) (load_says file R T).answer ≡ true
   load_numbers = FileNumbers.load_numbers file R T
 
-  pub search-file-numbers : refuses_with (4 ∷ 3 ∷ []) (5 ∷ 6 ∷ 7 ∷ 8 ∷ 9 ∷ 10 ∷ 11 ∷ 13 ∷ []) (search_file_says file text R T F).answer ≡ true
+  pub search-file-numbers : refuses_with (4 ∷ 3 ∷ []) (5 ∷ 6 ∷ 7 ∷ 8 ∷ 9 ∷ 10 ∷ 11 ∷ 13 ∷ []) (search_file_says file text R T F).answer
+      ≡ true
   search-file-numbers = FileNumbers.search-file-numbers file text R T F
 
   -- ── 'exactly when the table says and at no other time.' ──────────────────
@@ -107,7 +108,8 @@ module _ (word text : Word) (file R T O : List ℕ) (F : List Place) where
 
     pub save_refusal : (save_says word T O).answer ≡ refused n
         → ((save_says word T O).output ≡ O)
-        × (((save_says word T O).tables ≡ T) ⊎ ((save_says word T O).tables ≡ replicate (room (length word)) 0 ++ drop (room (length word)) T))
+        × (((save_says word T O).tables ≡ T)
+        ⊎ ((save_says word T O).tables ≡ replicate (room (length word)) 0 ++ drop (room (length word)) T))
     save_refusal = SaveSays.refusal_leaves plain word T O
 
     pub search_refusal : (search_says word text T F).answer ≡ refused n
@@ -128,7 +130,8 @@ module _ (word text : Word) (file R T O : List ℕ) (F : List Place) where
       → (r ≡ r') × (T₁ ≡ T₂)
   build_fixed = BuildSays.build_one word T
 
-  pub save_fixed : (r r' : SizeAnswer) (T₁ T₂ O₁ O₂ : List ℕ) → saved_as r T₁ O₁ ≡ save_says word T O → saved_as r' T₂ O₂ ≡ save_says word T O
+  pub save_fixed : (r r' : SizeAnswer) (T₁ T₂ O₁ O₂ : List ℕ) → saved_as r T₁ O₁ ≡ save_says word T O
+      → saved_as r' T₂ O₂ ≡ save_says word T O
       → (r ≡ r') × (T₁ ≡ T₂) × (O₁ ≡ O₂)
   save_fixed = SaveSays.save_one plain word T O
 
@@ -136,7 +139,8 @@ module _ (word text : Word) (file R T O : List ℕ) (F : List Place) where
       → searched r' T₂ F₂ ≡ search_says word text T F → (r ≡ r') × (T₁ ≡ T₂) × (F₁ ≡ F₂)
   search_fixed = SearchSays.search-one word text T F
 
-  pub load_fixed : (r r' : SizeAnswer) (R₁ R₂ T₁ T₂ : List ℕ) → loaded_as r R₁ T₁ ≡ load_says file R T → loaded_as r' R₂ T₂ ≡ load_says file R T
+  pub load_fixed : (r r' : SizeAnswer) (R₁ R₂ T₁ T₂ : List ℕ) → loaded_as r R₁ T₁ ≡ load_says file R T
+      → loaded_as r' R₂ T₂ ≡ load_says file R T
       → (r ≡ r') × (R₁ ≡ R₂) × (T₁ ≡ T₂)
   load_fixed = LoadSays.load_one file R T
 

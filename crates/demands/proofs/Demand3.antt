@@ -38,8 +38,8 @@ use Rattle.mark_files.proofs.LoadTheorems
 -- ── 'Given enough room, a saved file is accepted exactly when it is the one spelling of some word of 1 [2] to 1,024 [4,096] bytes with
 --    that word's oracle,' ──
 
--- s is bytes, as whatever a caller hands over is; `spell_in e` is the spelling in the edition e, of which 02 has two, and `SavedIn e s` says
--- that s is that of some word within the limits
+-- s is bytes, as whatever a caller hands over is; `spell_in e` is the spelling in the edition e, of which 02 has two, and `SavedIn e s`
+-- says that s is that of some word within the limits
 pub accepted-exactly : (s R T : List ℕ) → Bytes s
     → ((m : ℕ) × ((load_says s R T).answer ≡ done m))
     ↔ ((e : Edition) × (f : SavedIn e s) × (length f.word ≤ length R) × (room (length f.word) ≤ length T))
@@ -71,7 +71,8 @@ module _ (e : Edition) (word : Word) (R T : List ℕ) (least : least_saved ≤ l
   pub cut-file-refused : (n : ℕ) → n < length (spell_in e word) → (load_says (take n (spell_in e word)) R T).answer ≡ refused_at 5 n
   cut-file-refused = LoadTheorems.cut-refused R T e word least most fits enough
 
-  pub longer-file-refused : (b : ℕ) (l : List ℕ) → (load_says (spell_in e word ++ b ∷ l) R T).answer ≡ refused_at 11 (length (spell_in e word))
+  pub longer-file-refused : (b : ℕ) (l : List ℕ)
+      → (load_says (spell_in e word ++ b ∷ l) R T).answer ≡ refused_at 11 (length (spell_in e word))
   longer-file-refused = LoadTheorems.longer_refused_11 R T e word least most fits enough
 
   -- ── 'that word and oracle are handed over,' ──────────────────────────────

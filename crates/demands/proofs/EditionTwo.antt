@@ -174,8 +174,8 @@ seven_reached = let f = Editions.least_checked in (f.0, f.1, omega (arith, f.2, 
 
 -- ── 'Saving has one entry for each edition.' ───────────────────────────────
 
--- `save` writes edition 1, as it did (`save_says`, of which demands 1 and 3 speak); `save_checked` of crates/checked_files writes edition 2,
--- and all that demand 1 says of an entry holds of it
+-- `save` writes edition 1, as it did (`save_says`, of which demands 1 and 3 speak); `save_checked` of crates/checked_files writes edition
+-- 2, and all that demand 1 says of an entry holds of it
 module _ (word : Word) (T O : List ℕ) where
   pub save_checked_numbers : refuses_only (1 ∷ 2 ∷ 17 ∷ 3 ∷ 12 ∷ []) (save_checked_says word T O).answer ≡ true
   save_checked_numbers = FileNumbers.save_numbers checked word T O

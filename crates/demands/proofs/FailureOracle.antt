@@ -18,7 +18,8 @@ use Rattle.backward.proofs.AfterFind.{after_is}
 use Rattle.backward.proofs.Theorems.{search-lists-occurrences}
 use Rattle.failure.specs.FailureRule.{failure_of, OneFailure, here, further, ask, Asking, leads, path_end, FailureArrows, symbols, ask_in}
 use Rattle.failure.specs.FailureRule.{with_failure, with_symbol, repair, after_suffix, failure_rule, failure_walk}
-use Rattle.failure.specs.FailureSteps.{FailureReading, read_both, read_window_both, FailureSweep, no_window, failure_windows, failure_steps_with}
+use Rattle.failure.specs.FailureSteps.{FailureReading, read_both, read_window_both, FailureSweep}
+use Rattle.failure.specs.FailureSteps.{no_window, failure_windows, failure_steps_with}
 use Rattle.failure.specs.FailureSteps.{failure_steps}
 use Rattle.failure.proofs.Windows.{both_fails, both_goes, windows-past, windows-one, windows-enough}
 use Rattle.failure.proofs.Theorems as Theorems
@@ -230,7 +231,8 @@ module _ (w t : Word) where
       (ap (λ r. r.letters) q, ap (λ r. r.failures) q)
 
   pub failing-letter-counts : (s : Place) (k : ℕ) (x : State) → leads reading x (letter t (s + k)) ≡ none
-      → ((read_both reading t s (suc k) x).letters ≡ 1) × ((read_both reading t s (suc k) x).failures ≡ (reading x (letter t (s + k))).taken)
+      → ((read_both reading t s (suc k) x).letters ≡ 1)
+      × ((read_both reading t s (suc k) x).failures ≡ (reading x (letter t (s + k))).taken)
   failing-letter-counts s k x e =
       let q = both_fails reading t s k x e in
       (ap (λ r. r.letters) q, ap (λ r. r.failures) q)

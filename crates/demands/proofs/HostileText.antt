@@ -83,7 +83,8 @@ module _ (w t : Word) (some-letter : 1 ≤ length w) where
     -- ── 'On a missing arrow at f, set c to f+1 and h to 0.' ────────────────
 
     pub set-behind : (δ : Delta) (f : Place) → window_end w t low c ≤ n → (read_back δ w t low c).failed ≡ some f
-        → (next_place δ w t low c ≡ f + 1) × (next_low δ w t low c ≡ f + 1) × (kept_at w t (next_low δ w t low c) (next_place δ w t low c) ≡ 0)
+        → (next_place δ w t low c ≡ f + 1) × (next_low δ w t low c ≡ f + 1)
+        × (kept_at w t (next_low δ w t low c) (next_place δ w t low c) ≡ 0)
     set-behind δ f l e =
         let p = failed-place δ t c (window_end w t low c - c) 0 f e in
         let inside' : f + 1 ≤ n = omega (arith, p.before-end, h_is_longest.0, h_is_longest.1) in
@@ -143,11 +144,13 @@ module _ (w t : Word) (T : List ℕ) (F : List Place) where
   exactly_when = turbo_is w t T F
 
   -- a refusal changes nothing
-  pub refusal_leaves : {k : ℕ} → (turbo_says w t T F).answer ≡ refused k → ((turbo_says w t T F).tables ≡ T) × ((turbo_says w t T F).finds ≡ F)
+  pub refusal_leaves : {k : ℕ} → (turbo_says w t T F).answer ≡ refused k
+      → ((turbo_says w t T F).tables ≡ T) × ((turbo_says w t T F).finds ≡ F)
   refusal_leaves = turbo_refusal_leaves w t T F
 
   -- room and list are left as a search leaves them
-  pub leaves_as_a_search : ((turbo_says w t T F).tables ≡ (search_says w t T F).tables) × ((turbo_says w t T F).finds ≡ (search_says w t T F).finds)
+  pub leaves_as_a_search : ((turbo_says w t T F).tables ≡ (search_says w t T F).tables)
+      × ((turbo_says w t T F).finds ≡ (search_says w t T F).finds)
   leaves_as_a_search = turbo-leaves w t T F
 
   -- where it is not refused it answers with demand 2's number of finds, and the letters of its steps

@@ -172,7 +172,8 @@ module _ (t : Word) (T : List ℕ) (S : List Place) (K : List ℕ) (short : leng
   -- the tables are as a search for `.FIT` leaves them
   pub as_after_a_search : (F : List Place) → left.tables ≡ (search_says dot_fit t T F).tables
   as_after_a_search F =
-      let search = Search.says-done dot_fit t T F (omega (arith, dot_fit-length)) (omega (arith, dot_fit-length, word_limit)) short enough in
+      let search =
+      Search.says-done dot_fit t T F (omega (arith, dot_fit-length)) (omega (arith, dot_fit-length, word_limit)) short enough in
       ap (λ o. o.tables) (Salvage.given t T S K (accepted short enough)) ∙ sym (ap (λ o. o.tables) search)
 
 -- ── 'text over the limit is 4, then short tables are 3.' ────────────────────

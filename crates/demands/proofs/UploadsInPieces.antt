@@ -97,11 +97,13 @@ pub opens_empty : (w : Word) → 1 ≤ length w → (searcher_of w []).keep ≡ 
 opens_empty w h = holds_kept w [] ∙ kept-nothing w h
 
 -- every searcher that can be made is that of a word that has taken a text, and each of these can be made
-pub made_has : {s : Searcher} → Made s → (w : Word) × (t : Word) × (1 ≤ length w) × (length w ≤ longest_streamed) × (length t ≤ longest_text)
+pub made_has : {s : Searcher} → Made s → (w : Word) × (t : Word) × (1 ≤ length w) × (length w ≤ longest_streamed)
+    × (length t ≤ longest_text)
     × (s ≡ searcher_of w t)
 made_has made = let K = made-took made in (K.word, K.text, K.some-letter, K.few, K.inside, K.is)
 
-pub has_made : (w t : Word) → Bytes w → Bytes t → 1 ≤ length w → length w ≤ longest_streamed → length t ≤ longest_text → Made (searcher_of w t)
+pub has_made : (w t : Word) → Bytes w → Bytes t → 1 ≤ length w → length w ≤ longest_streamed → length t ≤ longest_text
+    → Made (searcher_of w t)
 has_made w t word_bytes text-bytes some few inside = took-made (record {
   word = w;
   text = t;

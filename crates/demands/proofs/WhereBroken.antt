@@ -71,11 +71,13 @@ module _ (file : List ℕ) (text : Word) (R T : List ℕ) (F : List Place) where
   pub load_carries : refuses_with (3 ∷ []) (5 ∷ 6 ∷ 7 ∷ 8 ∷ 9 ∷ 10 ∷ 11 ∷ 13 ∷ []) (load_says file R T).answer ≡ true
   load_carries = Demand1.load_numbers [] [] file R T [] []
 
-  pub search_file_carries : refuses_with (4 ∷ 3 ∷ []) (5 ∷ 6 ∷ 7 ∷ 8 ∷ 9 ∷ 10 ∷ 11 ∷ 13 ∷ []) (search_file_says file text R T F).answer ≡ true
+  pub search_file_carries : refuses_with (4 ∷ 3 ∷ []) (5 ∷ 6 ∷ 7 ∷ 8 ∷ 9 ∷ 10 ∷ 11 ∷ 13 ∷ []) (search_file_says file text R T F).answer
+      ≡ true
   search_file_carries = Demand1.search-file-numbers [] text file R T [] F
 
   -- a search with a file carries the one of loading
-  pub same-offset : {r : ℕ} {p : Place} → (search_file_says file text R T F).answer ≡ refused_at r p → (load_says file R T).answer ≡ refused_at r p
+  pub same-offset : {r : ℕ} {p : Place} → (search_file_says file text R T F).answer ≡ refused_at r p
+      → (load_says file R T).answer ≡ refused_at r p
   same-offset = search_load file text R T F
 
   -- ── 'of the faulty field's first byte (an arrow's two numbers are one field), or of that byte for 5 and 6; for 10 with missing arrows
@@ -162,7 +164,8 @@ abbrev no_arrows_of_ab : List ℕ
 no_arrows_of_ab = 1 ∷ 2 ∷ 97 ∷ 98 ∷ 0 ∷ []
 
 pub wrong-before : FaultAt no_arrows_of_ab 10 5 5 × (Begins no_arrows_of_ab 5 → ⊥)
-unfolding from only first target walk spine far mend missing extras_after extra_arrows suffix_rule leads_to extra_targets extras_before file_arrows
+unfolding from only first target walk spine far mend missing extras_after extra_arrows suffix_rule leads_to extra_targets extras_before
+    file_arrows
     refuses see see_number number_at edition steps_from own_steps least_saved longest_word
 wrong-before = (fault, Theorems.wrong-behind no_arrows_of_ab bytes fault (λ e. omega arith))
   where

@@ -45,7 +45,8 @@ two_read s o e =
     rw single at (number_at-spelled s o 2 (drop (suc o) s) (omega arith) stands)
 
 pub read-two : (s : List ℕ) (o : Place) {j : Place} → Bytes s → Reads s o 2 j → at s o ≡ 2
-read-two s o {j} bytes r = first_byte_lem s o ((number_at_stood s o bytes r).spelled ∙ ap (λ l. l ++ drop j s) (spelling-single 2 (omega arith)))
+read-two s o {j} bytes r =
+    first_byte_lem s o ((number_at_stood s o bytes r).spelled ∙ ap (λ l. l ++ drop j s) (spelling-single 2 (omega arith)))
 
 module _ (s : List ℕ) (other : at s 0 ≡ 2 → ⊥) where
   -- a file that does not say 2 shows what it always showed, under every limit

@@ -1,5 +1,5 @@
--- The ways of `specs/EitherCases` are those that `ending_either` and `verdict_either` go: some way leads to what is shown, and every way that
--- applies leads there. Up to the letters they are those of edition 1.
+-- The ways of `specs/EitherCases` are those that `ending_either` and `verdict_either` go: some way leads to what is shown, and every way
+-- that applies leads there. Up to the letters they are those of edition 1.
 use mathlib.Core.Path.{◌≡◌, refl}
 use mathlib.Core.Bool.{Bool, true, false, cond}
 use mathlib.Core.Logic.{◌↔◌}

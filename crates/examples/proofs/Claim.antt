@@ -19,7 +19,8 @@ use Rattle.failure_table.specs.FailureTable.{word_alone, slotted, lay_failures, 
 use Rattle.storacle.specs.StoracleRule.{first_in, until_walked, storacle_after, storacle_rule}
 use Rattle.storacle_table.specs.StoracleTable.{cell_of, blank, storacle_table_from, storacle_table}
 use Rattle.storacle_entries.specs.StoracleBuild.{storacle_build_says}
-use Rattle.compact.specs.Compact.{is_arrow, as_list, from_bits, set_word, targets_up_to, sets_from, compact_from, compact_sets, compact_table}
+use Rattle.compact.specs.Compact.{is_arrow, as_list, from_bits, set_word, targets_up_to}
+use Rattle.compact.specs.Compact.{sets_from, compact_from, compact_sets, compact_table}
 use Rattle.compact_entries.specs.CompactBuild.{compact_build_says}
 use Rattle.compact_entries.specs.CompactSearch.{compact_search_says}
 use Rattle.number.specs.Number.{groups, spell_number, refuses, see, see_number, number_at}
@@ -51,11 +52,13 @@ unfolding from only first same stands occurrences longest_word longest_text long
     failure_of ask path_end ask_in repair after_suffix failure_rule failure_walk read_both failure_windows failure_steps_with failure_steps
     word_alone slotted lay_failures lay_arrows failure_table_from failure_table
     first_in until_walked storacle_after storacle_rule cell_of blank storacle_table_from storacle_table storacle_build_says
-    is_arrow as_list from_bits set_word targets_up_to sets_from compact_from compact_sets compact_table compact_build_says compact_search_says
+    is_arrow as_list from_bits set_word targets_up_to sets_from compact_from compact_sets compact_table compact_build_says
+    compact_search_says
     groups spell_number refuses see see_number number_at edition steps_from spell_steps own_steps body spell
     front_within two_at arrows_at ending as_plain ending_either verdict_either load_within save_in
     shifted fed digits bits_of check sealed
     filled_to dot_fit allowed data_size header_inside in_header kind_of rides_at rides salvage_says
-    is is_none walked empty has fails_to joined gives is_refused is_refused_at load_in_rooms leaves refuses_in refuses_to_save shows is_done_with
+    is is_none walked empty has fails_to joined gives is_refused is_refused_at load_in_rooms leaves refuses_in refuses_to_save shows
+    is_done_with
     is_tallied taken_in_turn holds all_hold word digit bytes table
 examples_hold = tt

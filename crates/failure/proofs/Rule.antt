@@ -79,7 +79,8 @@ module _ (p : Word) where
       stuck = both_stuck p G h.state (letter p k) (H.lacks b)
 
       -- arrows by which that letter leads from the path's end to k + 1 are enough
-      arrow-added : {A' : FailureArrows} → OneByOne p A' (suc i) → Grows p A A' → Goes (symbol_to p A') (failure_to A') (letter p k) (suc k) j
+      arrow-added : {A' : FailureArrows} → OneByOne p A' (suc i) → Grows p A A'
+          → Goes (symbol_to p A') (failure_to A') (letter p k) (suc k) j
           → SuffixesWalked p A' (suc i)
       arrow-added {A'} G' E g =
           let onto_spine = goes_both p G' h.state (letter p k) (suc k) (stuck-goes E stuck g) in

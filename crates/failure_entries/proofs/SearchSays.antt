@@ -107,7 +107,8 @@ module _ (word text : Word) (T : List ℕ) (F : List Place) where
         → F' ≡ filled (failure_steps_with (read_ask m (take (failure_room m) (P ++ R))) word text).starts F
         → R ≡ drop (failure_room m) T
         → failure_outcome (done t) (P ++ R) F'
-        ≡ failure_outcome (done (found word text)) (failure_table (mirror word) ++ drop (failure_room m) T) (filled (occurrences word text) F)
+        ≡ failure_outcome (done (found word text)) (failure_table (mirror word) ++ drop (failure_room m) T)
+        (filled (occurrences word text) F)
     scan_counts t f r = rw (t, f, lent-table, scan_steps word some-letter text, search-lists word text, filled_in, r)
 
 -- ── Scratch ────────────────────────────────────────────────────────────────

@@ -48,4 +48,5 @@ failure_search_says word text T F =
     (cond (ltb longest_word m) (failure_outcome (refused long_word) T F)
     (cond (ltb longest_text (length text)) (failure_outcome (refused long_text) T F)
     (cond (ltb (length T) (failure_room m)) (failure_outcome (refused short_room) T F)
-    (failure_outcome (done (found word text)) (failure_table (mirror word) ++ drop (failure_room m) T) (filled (occurrences word text) F)))))
+    (failure_outcome (done (found word text)) (failure_table (mirror word) ++ drop (failure_room m) T)
+    (filled (occurrences word text) F)))))

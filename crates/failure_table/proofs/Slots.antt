@@ -72,6 +72,7 @@ module _ {m : ℕ} {L L' : List ℕ} {u : ℕ} (S : SameSlots m L L' u) where
       same-letter l = S.letters (x + 1) (omega arith)
 
 -- a state whose failure entry is the same has the same failure arrow
-pub failure-alike : (m : ℕ) (L L' : List ℕ) (x : State) → failure_entry m L' x ≡ failure_entry m L x → read_failure m L' x ≡ read_failure m L x
+pub failure-alike : (m : ℕ) (L L' : List ℕ) (x : State) → failure_entry m L' x ≡ failure_entry m L x
+    → read_failure m L' x ≡ read_failure m L x
 unfolding read_failure
 failure-alike m L L' x e = rw e

@@ -173,7 +173,8 @@ module _ {p : Word} {m : ℕ} {L : List ℕ} {u i : ℕ} (S : Stage p m L u i) w
 
   -- ── A letter more ────────────────────────────────────────────────────────
 
-  module _ {k : ℕ} {x : State} (W : Walking p i k x) (more : k < m) (r : Answered) (says : r ≡ answered_as (read_ask m L x (byte_of k))) where
+  module _ {k : ℕ} {x : State} (W : Walking p i k x) (more : k < m) (r : Answered) (says : r
+      ≡ answered_as (read_ask m L x (byte_of k))) where
     -- what code was answered is what the arrows say
     said : r ≡ answered_as (ask_in p A x (letter p k))
     said = says ∙ rw (stage_letter k more, S.table, ← S.long, steps-read p arrow-set)

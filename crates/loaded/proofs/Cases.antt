@@ -1,5 +1,5 @@
--- The ways of `specs/Cases` are those that `front_at`, `arrows_at`, `ending` and `verdict` go: for each, first that some way leads to what it
--- shows, then that every way that applies leads there.
+-- The ways of `specs/Cases` are those that `front_at`, `arrows_at`, `ending` and `verdict` go: for each, first that some way leads to what
+-- it shows, then that every way that applies leads there.
 use mathlib.Core.Path.{◌≡◌, refl}
 use mathlib.Core.Bool.{Bool, true, false, ◌&&◌, cond}
 use mathlib.Core.Logic.{inl, inr}

@@ -81,8 +81,10 @@ module _ (e : Edition) (word : Word) (T O : List ℕ) where
           → SaveCase e word T O (save_in e word T O)
       by (yes h) d b e f = rw (says-empty h) (SaveCase.on_empty_word h)
       by (no h) (yes l) b e f = rw (says-long (omega arith) l) (SaveCase.on_long_word (omega arith) l)
-      by (no h) (no l) (yes b) e f = rw (says-one_letter (omega arith) (omega arith) b) (SaveCase.on_short_word (omega arith) (omega arith) b)
-      by (no h) (no l) (no b) (yes s) f = rw (says-short (omega arith) (omega arith) s) (SaveCase.on_short_room (omega arith) (omega arith) s)
+      by (no h) (no l) (yes b) e f =
+          rw (says-one_letter (omega arith) (omega arith) b) (SaveCase.on_short_word (omega arith) (omega arith) b)
+      by (no h) (no l) (no b) (yes s) f =
+          rw (says-short (omega arith) (omega arith) s) (SaveCase.on_short_room (omega arith) (omega arith) s)
       by (no h) (no l) (no b) (no s) (yes o) =
           rw (says_full (omega arith) (omega arith) (omega arith) o) (SaveCase.on_short_output (omega arith) (omega arith) (omega arith) o)
       by (no h) (no l) (no b) (no s) (no o) =
@@ -170,7 +172,8 @@ module _ (word : Word) {P : List ℕ} (R : List ℕ) (filled_in : P ≡ table_of
   wiped O c = rw (c, ← lent-size, drop_at P R (room (length word)) sized)
 
   pub put-out : {n : ℕ} (O : List ℕ) {O' : List ℕ} → n ≡ length (spell word) → O' ≡ spell word ++ drop (length (spell word)) O
-      → outcome (done n) (P ++ R) O' ≡ outcome (done (length (spell word))) (table_of word ++ R) (spell word ++ drop (length (spell word)) O)
+      → outcome (done n) (P ++ R) O' ≡ outcome (done (length (spell word))) (table_of word ++ R)
+      (spell word ++ drop (length (spell word)) O)
   put-out O n o = rw (n, o, filled_in)
 
 -- ── One outcome ────────────────────────────────────────────────────────────

@@ -132,7 +132,8 @@ module _ (file : List ℕ) (text : Word) (R T : List ℕ) (F : List Place) where
   -- ── What the code's steps come to ────────────────────────────────────────
 
   -- once the code was told what loading says
-  module _ (short : length text ≤ longest_text) (said : SizeAnswer) {R' T' : List ℕ} (told : loaded_as said R' T' ≡ load_says file R T) where
+  module _ (short : length text ≤ longest_text) (said : SizeAnswer) {R' T' : List ℕ} (told : loaded_as said R' T'
+      ≡ load_says file R T) where
     says_loaded : search_file_says file text R T F ≡ after_load (size_answer said) text R' T' F
     says_loaded = says-after short (sym told)
 

@@ -1,5 +1,5 @@
--- THE THEOREMS on `build_says`: each refusal exactly where it is tabled, what a refusal and a success leave, and that the promise allows one
--- outcome.
+-- THE THEOREMS on `build_says`: each refusal exactly where it is tabled, what a refusal and a success leave, and that the promise allows
+-- one outcome.
 use mathlib.Core.Path.{◌≡◌, refl, sym, ap, ◌∙◌}
 use mathlib.Core.Logic.{◌↔◌}
 use mathlib.Core.List.{List, ◌++◌}

@@ -51,7 +51,8 @@ failures-refused {why = why} {v = v} {w = w} {f = f} e q =
     )
 
 -- with an offset besides
-pub load_refused_lem : (p : Place) {answer : SizeAnswer} {why : Refusal} {n v : ℕ} {q : Place} → answer ≡ SizeRefused why → n ≡ number_of why
+pub load_refused_lem : (p : Place) {answer : SizeAnswer} {why : Refusal} {n v : ℕ} {q : Place} → answer ≡ SizeRefused why
+    → n ≡ number_of why
     → q ≡ place_given p why
     → (n ≡ result_of (size_answer answer)) × (v ≡ size_given v (size_answer answer)) × (q ≡ offset_given p (size_answer answer))
 load_refused_lem p {why = why} {v = v} e a b =

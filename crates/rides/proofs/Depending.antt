@@ -61,7 +61,8 @@ module _ {t u : Word} {s : Place} (same : SameBut t u s) where
 
   -- either r is s, or its first 12 bytes are none of the four, or no header begins there
   apart : (r : Place) → HeaderAt t r → (r ≡ s) ⊎ ((r + 12 ≤ s + 4) ⊎ (s + 8 ≤ r))
-  apart r h = by_cases (ℕ_discrete r s) inl (λ n. inr (by_cases (dec_le (r + 12) (s + 4)) inl (λ a. inr (by_cases (dec_le (s + 8) r) (λ b. b)
+  apart r h =
+      by_cases (ℕ_discrete r s) inl (λ n. inr (by_cases (dec_le (r + 12) (s + 4)) inl (λ a. inr (by_cases (dec_le (s + 8) r) (λ b. b)
       (λ b. absurd ((same.alone r n (omega arith) (omega arith)).0 h))))))
 
   header_kept : (r : Place) → HeaderAt t r → HeaderAt u r

@@ -1,5 +1,5 @@
--- THE THEOREMS on `salvage_says`: each refusal exactly where it is tabled, what a refusal and a success leave, what the code's listing comes
--- to, and that the promise allows one outcome.
+-- THE THEOREMS on `salvage_says`: each refusal exactly where it is tabled, what a refusal and a success leave, what the code's listing
+-- comes to, and that the promise allows one outcome.
 use mathlib.Core.Path.{◌≡◌, refl, sym, ap, ◌∙◌}
 use mathlib.Core.Bool.{true}
 use mathlib.Core.Logic.{◌↔◌}

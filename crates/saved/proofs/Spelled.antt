@@ -40,7 +40,8 @@ edition-number = refl
 
 -- the edition takes one byte
 pub file-length : (p : Word) → length (spell p)
-    ≡ 1 + (length (spell_number (length p)) + (length p + (length (spell_number (length (own_steps p))) + length (spell_steps (own_steps p)))))
+    ≡ 1 + (length (spell_number (length p)) +
+    (length p + (length (spell_number (length (own_steps p))) + length (spell_steps (own_steps p)))))
 unfolding spell body
 file-length p = rw (edition-number, spelling-single 1 (omega arith)) (simp length-append (omega arith))
 

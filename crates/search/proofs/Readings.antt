@@ -55,7 +55,8 @@ module _ {δ : Delta} {t : Word} {s m : ℕ} {from : State} where
       one = omega arith
 
       -- the last of them has no arrow
-      pub letter-fails : δ x (letter t (s + (left - 1))) ≡ none → Failed (record { 0 = s + (left - 1) }) ≡ reading_of (read_down δ t s m from)
+      pub letter-fails : δ x (letter t (s + (left - 1))) ≡ none
+          → Failed (record { 0 = s + (left - 1) }) ≡ reading_of (read_down δ t s m from)
       letter-fails e = let q = rw (one, read-fails δ t s (left - 1) x e) at R.same in rw q
 
       -- it has one

@@ -56,7 +56,8 @@ module _ (w t : Word) (s : Place) {L F P C D : List ℕ} {rows : ℕ} (Q : Prepa
 
   module _ {G₀ G : List ℕ} {count letters : ℕ} (I : SoFar arrows w t G₀ G s count letters) (h : s + length w ≤ length t) where
     -- where the window failed, so many letters before its end, the next one starts behind that
-    misses_at : {f read : ℕ} → f + read ≡ s + length w → 1 ≤ read → Failed (record { 0 = f }) ≡ reading_of (read_down arrows t s (length w) 0)
+    misses_at : {f read : ℕ} → f + read ≡ s + length w → 1 ≤ read
+        → Failed (record { 0 = f }) ≡ reading_of (read_down arrows t s (length w) 0)
         → SoFar arrows w t G₀ G (f + 1) count (letters + read)
     misses_at {f} {read} e one says =
         let letters-read : s + length w - f ≡ read = omega arith in

@@ -31,6 +31,7 @@ pub record LeftIn (B : List ℕ) (s : Searcher) : Type 0 where
 
 pub data TakeCase (B : List ℕ) (v : Word) (F : List Place) : TakeBytes.Outcome → Type 0 where
   not_left : ((s : Searcher) → LeftIn B s → ⊥) → TakeCase B v F (TakeBytes.outcome (refused unmade) B F)
-  on_long_text : {s : Searcher} → LeftIn B s → longest_text < s.taken + length v → TakeCase B v F (TakeBytes.outcome (refused long_text) B F)
+  on_long_text : {s : Searcher} → LeftIn B s → longest_text < s.taken + length v
+      → TakeCase B v F (TakeBytes.outcome (refused long_text) B F)
   accepted : {s : Searcher} → LeftIn B s → s.taken + length v ≤ longest_text
       → TakeCase B v F (TakeBytes.outcome (done (length (finds s v))) (packed (after s v) ++ drop searcher_bytes B) (filled (finds s v) F))

@@ -50,7 +50,8 @@ module _ (word : Word) (T : List ℕ) where
       of : {o : Outcome} → StoracleBuildCase word T o → StoracleBuildCase word T (storacle_build_says word T)
       of c = rw (given c) c
 
-      by : Dec (m < 1) → Dec (longest_storacle < m) → Dec (length T < storacle_room m) → StoracleBuildCase word T (storacle_build_says word T)
+      by : Dec (m < 1) → Dec (longest_storacle < m) → Dec (length T < storacle_room m)
+          → StoracleBuildCase word T (storacle_build_says word T)
       by (yes h) d e = of (StoracleBuildCase.on_empty_word h)
       by (no h) (yes l) e = of (StoracleBuildCase.on_long_word (omega arith) l)
       by (no h) (no l) (yes s) = of (StoracleBuildCase.on_short_room (omega arith) (omega arith) s)

@@ -84,7 +84,8 @@ module _ (L : List ℕ) (c : Letter) (b s e : ℕ) where
   slot-hit h l q = rw (one_more h l) (first_yes _ (at L (b + s)) _ (eq-eqb (at L (at L (b + s))) c q))
 
   -- it has not: the next slot
-  pub slot_next : s < e → b + s < length L → at L (at L (b + s)) ≢ c → first_of L c (b + s) (e - s) ≡ first_of L c (b + (s + 1)) (e - (s + 1))
+  pub slot_next : s < e → b + s < length L → at L (at L (b + s)) ≢ c
+      → first_of L c (b + s) (e - s) ≡ first_of L c (b + (s + 1)) (e - (s + 1))
   slot_next h l q = rw (one_more h l) (first_not _ (at L (b + s)) _ (ne_eqb (at L (at L (b + s))) c q))
 
   -- no slot is left
@@ -141,7 +142,8 @@ module _ (A R : List ℕ) (m : ℕ) (F : Formed A m) where
       slots : end ≤ m + 1 → Dec (start < end)
           → first_of (A ++ R) c (3 * (m + 1) + start) (end - start) ≡ first_of A c (3 * (m + 1) + start) (end - start)
       slots b (yes l) = slots_more c (end - start) start (omega arith)
-      slots b (no l) = slot_end_lem (A ++ R) c (3 * (m + 1)) start end (omega arith) ∙ sym (slot_end_lem A c (3 * (m + 1)) start end (omega arith))
+      slots b (no l) = slot_end_lem (A ++ R) c (3 * (m + 1)) start end (omega arith)
+          ∙ sym (slot_end_lem A c (3 * (m + 1)) start end (omega arith))
 
       by : Dec (x < m) → Dec (at A (x + 1) ≡ c) → read_arrow m (A ++ R) x c ≡ read_arrow m A x c
       by (no h) d = arrow-far (A ++ R) m x c (omega arith) ∙ sym (arrow-far A m x c (omega arith))

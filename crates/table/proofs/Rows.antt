@@ -1,5 +1,5 @@
--- THE ENTRIES OF A TABLE, row by row: what `table_from p δ S` holds at each place. A list of the same size with the same entries is the same
--- table, and where letters, supplies and targets are small, so is every entry.
+-- THE ENTRIES OF A TABLE, row by row: what `table_from p δ S` holds at each place. A list of the same size with the same entries is the
+-- same table, and where letters, supplies and targets are small, so is every entry.
 use mathlib.Core.Path.{◌≡◌, refl, sym, ap, ◌∙◌}
 use mathlib.Core.List.{List, ◌∷◌, ◌++◌, map}
 use Prim.Native.Nat.{ℕ, zero, suc, ◌+◌, ◌*◌, ◌-◌, ◌≤◌, ◌<◌}

@@ -48,7 +48,8 @@ module _ (w t : Word) (low e : Place) where
       : (P : Place → Advance → Type 0)
       → ((c : Place) → c ≡ length t → P c (stops_at c))
       → ((c : Place) → c ≤ length t → goes_on w t low e c ≡ false → P c (stops_at c))
-      → ((c : Place) (r : Advance) → c < length t → goes_on w t low e c ≡ true → P (suc c) r → P c (one_letter (found_at w t low (suc c)) r))
+      → ((c : Place) (r : Advance) → c < length t → goes_on w t low e c ≡ true → P (suc c) r
+      → P c (one_letter (found_at w t low (suc c)) r))
       → (k : ℕ) (c : Place) → k + c ≡ length t → P c (forward w t low e k c)
   forward-induction P ends stops goes zero c s = rw (forward-done c) (ends c (omega arith))
   forward-induction P ends stops goes (suc k) c s = test_cases (goes_on w t low e c)

@@ -37,7 +37,8 @@ module _ (w t : Word) (some-letter : 1 ≤ length w) where
   turbo_letters_most = steps-letters (oracle (mirror w)) w t some-letter
 
   -- after a find h is the longest border
-  pub turbo-after_find : (low c : Place) → low ≤ c → c < length t → ends_at w t low (suc c) ≡ true → kept_at w t low (suc c) ≡ longest_border w
+  pub turbo-after_find : (low c : Place) → low ≤ c → c < length t → ends_at w t low (suc c) ≡ true
+      → kept_at w t low (suc c) ≡ longest_border w
   turbo-after_find low c below more e = by_cases (dec_lt _ (length w))
       (λ less. absurd (short_ends_not w t some-letter below more less e))
       (λ all. whole-keeps w t some-letter below more (omega arith))

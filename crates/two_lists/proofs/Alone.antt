@@ -55,7 +55,14 @@ pub filled-part : (n : ℕ) (l F : List ℕ) → n ≤ length F → filled l (ta
 unfolding filled filled_to
 filled-part n l F h =
     let front : take (length F) (take n l) ≡ take n l = take_all (length F) (take n l) (simp length-take (omega arith)) in
-    rw (length-take-le n F h, front, length-take n l, append_assoc (take n l) (drop (length l) (take n F)) (drop n F), drop-part n (length l) F h)
+    rw (
+      length-take-le n F h,
+      front,
+      length-take n l,
+      append_assoc (take n l) (drop (length l) (take n F)) (drop n F),
+      drop-part n
+          (length l) F h,
+    )
 
 -- zeros in the first entries that there are for them
 pub filled-zeros : (n : ℕ) (F : List ℕ) {e : ℕ} → e ≡ min (length F) n

@@ -135,7 +135,8 @@ pub in_from : (a k j : ℕ) → a ≤ j → j < a + k → Memᴰ j (from a k)
 unfolding from
 in_from a zero j h l = absurd (omega arith)
 in_from a (suc k) j h l =
-    by_cases (ℕ_discrete j a) (λ e. mathlib.Core.List.Memᴰ.head e) (λ e. mathlib.Core.List.Memᴰ.tail (in_from (suc a) k j (omega arith) (omega arith)))
+    by_cases (ℕ_discrete j a) (λ e. mathlib.Core.List.Memᴰ.head e)
+    (λ e. mathlib.Core.List.Memᴰ.tail (in_from (suc a) k j (omega arith) (omega arith)))
 
 -- ── only ───────────────────────────────────────────────────────────────────
 
@@ -174,7 +175,8 @@ module _ {A : Type 0} (P : A → Bool) where
   unfolding only
   in_only [] {a = a} m e = elim m [ ]
   in_only (x ∷ l) (mathlib.Core.List.Memᴰ.head q) e = rw (only_yes x l (rw q at e)) (mathlib.Core.List.Memᴰ.head q)
-  in_only (x ∷ l) (mathlib.Core.List.Memᴰ.tail m) e = test_cases (P x) (λ f. rw f (mathlib.Core.List.Memᴰ.tail (in_only l m e))) (λ f. rw f (in_only l m e))
+  in_only (x ∷ l) (mathlib.Core.List.Memᴰ.tail m) e =
+      test_cases (P x) (λ f. rw f (mathlib.Core.List.Memᴰ.tail (in_only l m e))) (λ f. rw f (in_only l m e))
 
 -- ── only of from ───────────────────────────────────────────────────────────
 

@@ -13,7 +13,8 @@ pub returns-then-m-lt1 : goal.returns-then-m-lt1
 returns-then-m-lt1 c = sym (given _ _ _ (CompactBuildCase.on_empty_word c.if-m-lt1.true))
 
 pub returns-then-m-gt-WORD_LIMIT : goal.returns-then-m-gt-WORD_LIMIT
-returns-then-m-gt-WORD_LIMIT c = sym (given _ _ _ (CompactBuildCase.on_long_word c.if-m-lt1.false (omega (arith, word_limit, c.if-m-gt-WORD_LIMIT.true))))
+returns-then-m-gt-WORD_LIMIT c =
+    sym (given _ _ _ (CompactBuildCase.on_long_word c.if-m-lt1.false (omega (arith, word_limit, c.if-m-gt-WORD_LIMIT.true))))
 
 pub returns-then-sets-room : goal.returns-then-sets-room
 returns-then-sets-room c =

@@ -20,7 +20,8 @@ fill-requires c =
 pub finish-requires : goal.finish-requires
 finish-requires c =
     let word = c.args.word.now in
-    let asked = finish_asked (word) refl c.requires.0 (λ i. omega (arith, c.type_inv.word i)) c.requires.2 c.clear.ensures c.fill.ensures c.args.sets.now c.requires.1 in
+    let asked = finish_asked (word) refl c.requires.0
+    (λ i. omega (arith, c.type_inv.word i)) c.requires.2 c.clear.ensures c.fill.ensures c.args.sets.now c.requires.1 in
     record { first_form = asked.0; sets_len = asked.1 }
 
 pub returns : goal.returns

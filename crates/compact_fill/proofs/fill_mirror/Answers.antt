@@ -22,7 +22,8 @@ pub finish-requires : goal.finish-requires
 finish-requires c =
     let word = c.args.word.now in
     let bytes = mirror-bytes word (λ i. omega (arith, c.type_inv.word i)) in
-    let asked = finish_asked (mirror word) (length-reverse word) c.requires.0 bytes c.requires.2 c.clear.ensures c.fill_mirror.ensures c.args.sets.now c.requires.1 in
+    let asked = finish_asked (mirror word)
+    (length-reverse word) c.requires.0 bytes c.requires.2 c.clear.ensures c.fill_mirror.ensures c.args.sets.now c.requires.1 in
     record { first_form = asked.0; sets_len = asked.1 }
 
 pub returns : goal.returns

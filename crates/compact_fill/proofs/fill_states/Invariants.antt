@@ -7,7 +7,8 @@ use Rattle.compact_fill.proofs.fill_states.Given as goal
 
 abbrev pub invariant-loop-x : goal.invariant-loop-x
 invariant-loop-x l =
-    (l.x ≤ l.m) × MarkedUpTo (oracle (word_in l.initial.table l.m)) l.m l.sets l.x × FilledUpTo (word_in l.initial.table l.m) l.m l.initial.table l.table l.before l.x
+    (l.x ≤ l.m) × MarkedUpTo (oracle (word_in l.initial.table l.m)) l.m l.sets l.x
+    × FilledUpTo (word_in l.initial.table l.m) l.m l.initial.table l.table l.before l.x
 
 abbrev pub decreases-loop-x : goal.decreases-loop-x
 decreases-loop-x l = l.m - l.x

@@ -24,7 +24,8 @@ place_for-requires c =
     let o = out-leads c.requires.first_form.0 x h c.loop-j.j
     (omega (arith, c.loop-j-test.true, c.arrow_count-k.ensures)) in
     let there = target_told F h c.loop-j.j c.arrow_target-y.ensures in
-    let asked = place-asked F h c.args.sets.now (rw there o.leads) c.requires.m_in_bounds.0 c.requires.m_in_bounds.1 (starts-kept c.requires.first_form.0 x h c.requires.m_in_bounds.2 P) in
+    let asked = place-asked F h c.args.sets.now (rw there o.leads) c.requires.m_in_bounds.0 c.requires.m_in_bounds.1
+    (starts-kept c.requires.first_form.0 x h c.requires.m_in_bounds.2 P) in
     record { first_form = asked.0; m_in_bounds = asked.1 }
 
 pub put-requires : goal.put-requires

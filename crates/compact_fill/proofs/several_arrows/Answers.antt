@@ -20,7 +20,8 @@ start_state-next-requires c =
 
 pub put_state-requires : goal.put_state-requires
 put_state-requires c =
-    let asked = targets-asked c.requires.first_form.0 c.requires.first_form.1 c.start_state-next.ensures.1 c.requires.sets_len.2 c.requires.sets_len.1 c.mark_state.ensures (omega (arith, c.requires.sets_len.0)) in
+    let asked = targets-asked c.requires.first_form.0 c.requires.first_form.1 c.start_state-next.ensures.1 c.requires.sets_len.2
+    c.requires.sets_len.1 c.mark_state.ensures (omega (arith, c.requires.sets_len.0)) in
     record { first_form = asked.0; m_in_bounds = asked.1 }
 
 pub shape_of-sets : goal.shape_of-sets

@@ -42,7 +42,8 @@ few_starts-requires c =
     let counted = c.requires.sets_len.1 in
     record {
       first_form = (F, h, few-before F h counted);
-      by_index = pair_word F h counted c.requires.first_form.2 c.letter_into-to_y.ensures (letter_of F h counted c.arrow_target-z.ensures c.letter_into-to_z.ensures);
+      by_index = pair_word F h counted c.requires.first_form.2 c.letter_into-to_y.ensures
+          (letter_of F h counted c.arrow_target-z.ensures c.letter_into-to_z.ensures);
     }
 
 pub past-requires : goal.past-requires

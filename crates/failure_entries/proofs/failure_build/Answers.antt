@@ -12,11 +12,13 @@ pub returns-then-word-lt1 : goal.returns-then-word-lt1
 returns-then-word-lt1 c = sym (given _ _ (FailureBuildCase.on_empty_word c.if-word-lt1.true))
 
 pub returns-then-word-gt-WORD_LIMIT : goal.returns-then-word-gt-WORD_LIMIT
-returns-then-word-gt-WORD_LIMIT c = sym (given _ _ (FailureBuildCase.on_long_word c.if-word-lt1.false (omega (arith, word_limit, c.if-word-gt-WORD_LIMIT.true))))
+returns-then-word-gt-WORD_LIMIT c =
+    sym (given _ _ (FailureBuildCase.on_long_word c.if-word-lt1.false (omega (arith, word_limit, c.if-word-gt-WORD_LIMIT.true))))
 
 pub returns-then-tables-room : goal.returns-then-tables-room
 returns-then-tables-room c =
-    sym (given _ _ (FailureBuildCase.on_short_room c.if-word-lt1.false (omega (arith, word_limit, c.if-word-gt-WORD_LIMIT.false)) c.if-tables-room.true))
+    sym (given _ _ (FailureBuildCase.on_short_room c.if-word-lt1.false
+    (omega (arith, word_limit, c.if-word-gt-WORD_LIMIT.false)) c.if-tables-room.true))
 
 pub slice_bounds-fill-end-2 : goal.slice_bounds-fill-end-2
 slice_bounds-fill-end-2 c = sym (length-take-le _ _ c.if-tables-room.false)

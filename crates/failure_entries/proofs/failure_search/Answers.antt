@@ -13,20 +13,23 @@ pub returns-then-m-lt1 : goal.returns-then-m-lt1
 returns-then-m-lt1 c = sym (given _ _ _ _ (FailureSearchCase.on_empty_word c.if-m-lt1.true))
 
 pub returns-then-m-gt-WORD_LIMIT : goal.returns-then-m-gt-WORD_LIMIT
-returns-then-m-gt-WORD_LIMIT c = sym (given _ _ _ _ (FailureSearchCase.on_long_word c.if-m-lt1.false (omega (arith, word_limit, c.if-m-gt-WORD_LIMIT.true))))
+returns-then-m-gt-WORD_LIMIT c =
+    sym (given _ _ _ _ (FailureSearchCase.on_long_word c.if-m-lt1.false (omega (arith, word_limit, c.if-m-gt-WORD_LIMIT.true))))
 
 pub returns-then-text-gt-TEXT_LIMIT : goal.returns-then-text-gt-TEXT_LIMIT
 returns-then-text-gt-TEXT_LIMIT c =
     let most = c.if-m-gt-WORD_LIMIT.false in
     sym (given _ _ _ _
-    (FailureSearchCase.on_long_text c.if-m-lt1.false (omega (arith, word_limit, most)) (omega (arith, text_limit, c.if-text-gt-TEXT_LIMIT.true))))
+    (FailureSearchCase.on_long_text c.if-m-lt1.false (omega (arith, word_limit, most))
+    (omega (arith, text_limit, c.if-text-gt-TEXT_LIMIT.true))))
 
 pub returns-then-tables-need : goal.returns-then-tables-need
 returns-then-tables-need c =
     let most = c.if-m-gt-WORD_LIMIT.false in
     let short = c.if-text-gt-TEXT_LIMIT.false in
     sym (given _ _ _ _
-    (FailureSearchCase.on_short_room c.if-m-lt1.false (omega (arith, word_limit, most)) (omega (arith, text_limit, short)) c.if-tables-need.true))
+    (FailureSearchCase.on_short_room c.if-m-lt1.false (omega (arith, word_limit, most))
+    (omega (arith, text_limit, short)) c.if-tables-need.true))
 
 pub slice_bounds-step_after_find-end-2 : goal.slice_bounds-step_after_find-end-2
 slice_bounds-step_after_find-end-2 c = sym (length-take-le _ _ (omega (arith, c.if-tables-need.false)))

@@ -1,4 +1,5 @@
--- `failure_table::add_arrow` meets its contract: where the test comes out true it writes a failure arrow, else a slot, as `with_arrow` does.
+-- `failure_table::add_arrow` meets its contract: where the test comes out true it writes a failure arrow, else a slot, as `with_arrow`
+-- does.
 use mathlib.Core.Path.{refl}
 use native.Mathlib.Omega.{arith}
 use lib.ListN.{length-set}

@@ -13,7 +13,8 @@ pub returns-then-m-lt1 : goal.returns-then-m-lt1
 returns-then-m-lt1 c = sym (given _ _ _ _ (TurboCase.on_empty_word c.if-m-lt1.true))
 
 pub returns-then-m-gt-WORD_LIMIT : goal.returns-then-m-gt-WORD_LIMIT
-returns-then-m-gt-WORD_LIMIT c = sym (given _ _ _ _ (TurboCase.on_long_word c.if-m-lt1.false (omega (arith, word_limit, c.if-m-gt-WORD_LIMIT.true))))
+returns-then-m-gt-WORD_LIMIT c =
+    sym (given _ _ _ _ (TurboCase.on_long_word c.if-m-lt1.false (omega (arith, word_limit, c.if-m-gt-WORD_LIMIT.true))))
 
 pub returns-then-text-gt-TEXT_LIMIT : goal.returns-then-text-gt-TEXT_LIMIT
 returns-then-text-gt-TEXT_LIMIT c =
@@ -26,7 +27,8 @@ returns-then-tables-need c =
     let least = c.if-m-lt1.false in
     let most = c.if-m-gt-WORD_LIMIT.false in
     let short = c.if-text-gt-TEXT_LIMIT.false in
-    sym (given _ _ _ _ (TurboCase.on_short_room least (omega (arith, word_limit, most)) (omega (arith, text_limit, short)) c.if-tables-need.true))
+    sym (given _ _ _ _ (TurboCase.on_short_room least (omega (arith, word_limit, most))
+    (omega (arith, text_limit, short)) c.if-tables-need.true))
 
 pub slice_bounds-fill_mirror-end-2 : goal.slice_bounds-fill_mirror-end-2
 slice_bounds-fill_mirror-end-2 c = sym (length-take-le _ _ c.if-tables-need.false)

@@ -1,6 +1,6 @@
--- Each return is a case of `search_says`: the tests on the way there are the case's premises. Behind them the room's part is lent and filled
--- with the mirrored word's table, a spare row of it is scratch for the step after a find, and it is lent again to the scan, whose steps
--- over it are the published ones (`scan_counts`).
+-- Each return is a case of `search_says`: the tests on the way there are the case's premises. Behind them the room's part is lent and
+-- filled with the mirrored word's table, a spare row of it is scratch for the step after a find, and it is lent again to the scan, whose
+-- steps over it are the published ones (`scan_counts`).
 use mathlib.Core.Path.{sym, ◌∙◌}
 use lib.Seq.{length-take-le}
 use Rattle.words.proofs.Limits.{word_limit, text_limit}
@@ -19,7 +19,8 @@ returns-then-m-gt-WORD_LIMIT c = sym (says-long _ _ _ _ c.if-m-lt1.false (omega 
 pub returns-then-text-gt-TEXT_LIMIT : goal.returns-then-text-gt-TEXT_LIMIT
 returns-then-text-gt-TEXT_LIMIT c =
     let most = c.if-m-gt-WORD_LIMIT.false in
-    sym (says-long_text _ _ _ _ c.if-m-lt1.false (omega (arith, word_limit, most)) (omega (arith, text_limit, c.if-text-gt-TEXT_LIMIT.true)))
+    sym (says-long_text _ _ _ _ c.if-m-lt1.false (omega (arith, word_limit, most))
+    (omega (arith, text_limit, c.if-text-gt-TEXT_LIMIT.true)))
 
 pub returns-then-tables-need : goal.returns-then-tables-need
 returns-then-tables-need c =

@@ -158,7 +158,8 @@ read_on-read-requires c =
 
 pub overflow_add-letters-in_default : goal.overflow_add-letters-in_default
 overflow_add-letters-in_default c =
-    let fits = find-fits c.window.invariant c.window-test.true _ (window-says (goal.at.overflow_add-letters-in_default c).Joined-asked-eq0) c.in_default.is in
+    let fits = find-fits c.window.invariant c.window-test.true _
+    (window-says (goal.at.overflow_add-letters-in_default c).Joined-asked-eq0) c.in_default.is in
     omega (arith, fits c.requires.formed.0.small c.requires.in_bounds.1)
 
 pub overflow_add-start-in_default : goal.overflow_add-start-in_default
@@ -171,27 +172,32 @@ window-smaller-in_default c =
 
 pub window-preserved-in_default : goal.window-preserved-in_default
 window-preserved-in_default c =
-    so-far-find c.window.invariant c.window-test.true _ (window-says (goal.at.window-preserved-in_default c).Joined-asked-eq0) c.in_default.is
+    so-far-find c.window.invariant c.window-test.true _
+    (window-says (goal.at.window-preserved-in_default c).Joined-asked-eq0) c.in_default.is
     (omega (arith, c.requires.in_bounds.0)) c.requires.in_bounds.2 c.note-count.ensures.0 c.note-count.ensures.1
 
 pub overflow_sub-deep : goal.overflow_sub-deep
 overflow_sub-deep c =
-    let inside = fails-inside c.window.invariant c.window-test.true _ (window-says (goal.at.overflow_sub-deep c).Joined-asked-eq0) _ c.in-Failed.is in
+    let inside = fails-inside c.window.invariant c.window-test.true _
+    (window-says (goal.at.overflow_sub-deep c).Joined-asked-eq0) _ c.in-Failed.is in
     omega arith
 
 pub overflow_add-letters-in-window : goal.overflow_add-letters-in-window
 overflow_add-letters-in-window c =
-    let missed = so_far_miss c.window.invariant c.window-test.true _ (window-says (goal.at.overflow_add-letters-in-window c).Joined-asked-eq0) _ c.in-Failed.is in
+    let missed = so_far_miss c.window.invariant c.window-test.true _
+    (window-says (goal.at.overflow_add-letters-in-window c).Joined-asked-eq0) _ c.in-Failed.is in
     omega (arith, letters_fit missed c.requires.formed.0.small c.requires.in_bounds.1)
 
 pub overflow_add-start-in-window : goal.overflow_add-start-in-window
 overflow_add-start-in-window c =
-    let inside = fails-inside c.window.invariant c.window-test.true _ (window-says (goal.at.overflow_add-start-in-window c).Joined-asked-eq0) _ c.in-Failed.is in
+    let inside = fails-inside c.window.invariant c.window-test.true _
+    (window-says (goal.at.overflow_add-start-in-window c).Joined-asked-eq0) _ c.in-Failed.is in
     omega (arith, c.window-test.true, c.requires.in_bounds.1)
 
 pub window-smaller : goal.window-smaller
 window-smaller c =
-    let inside = fails-inside c.window.invariant c.window-test.true _ (window-says (goal.at.window-smaller c).Joined-asked-eq0) _ c.in-Failed.is in
+    let inside =
+    fails-inside c.window.invariant c.window-test.true _ (window-says (goal.at.window-smaller c).Joined-asked-eq0) _ c.in-Failed.is in
     omega (arith, c.window-test.true, c.requires.in_bounds.0)
 
 pub window-preserved : goal.window-preserved

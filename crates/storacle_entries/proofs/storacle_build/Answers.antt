@@ -12,14 +12,16 @@ pub returns-then-m-lt1 : goal.returns-then-m-lt1
 returns-then-m-lt1 c = sym (given _ _ (StoracleBuildCase.on_empty_word c.if-m-lt1.true))
 
 pub returns-then-limit-m : goal.returns-then-limit-m
-returns-then-limit-m c = sym (given _ _ (StoracleBuildCase.on_long_word c.if-m-lt1.false (omega (arith, storacle_limit, c.if-limit-m.true))))
+returns-then-limit-m c =
+    sym (given _ _ (StoracleBuildCase.on_long_word c.if-m-lt1.false (omega (arith, storacle_limit, c.if-limit-m.true))))
 
 pub overflow_mul-room : goal.overflow_mul-room
 overflow_mul-room c = omega (arith, room_fits c.if-limit-m.false (omega arith))
 
 pub returns-then-tables-room : goal.returns-then-tables-room
 returns-then-tables-room c =
-    sym (given _ _ (StoracleBuildCase.on_short_room c.if-m-lt1.false (omega (arith, storacle_limit, c.if-limit-m.false)) c.if-tables-room.true))
+    sym (given _ _ (StoracleBuildCase.on_short_room c.if-m-lt1.false
+    (omega (arith, storacle_limit, c.if-limit-m.false)) c.if-tables-room.true))
 
 pub slice_bounds-fill-end-2 : goal.slice_bounds-fill-end-2
 slice_bounds-fill-end-2 c = sym (length-take-le _ _ c.if-tables-room.false)
