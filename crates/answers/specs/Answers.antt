@@ -9,23 +9,24 @@
 --                    whether a is done, or refused with one of the numbers l and nothing but the number, or with one of the numbers k and
 --                    a place
 --   refuses_only l a the same where no refusal has a place
+--   flaw_number f    the number of the code's flaw f of a file
 --   number_of r      the number of the code's refusal r
 --   refused_as r     what it means
---   size_answer r    what the code's answer r means: the letters of a word, the bytes of a file, or a number of finds
+--   answer_of r      what the code's result r means
+--   size_answer r    the same of the letters of a word, the bytes of a file, or a number of finds
 --   tally_answer r   the same of a search: finds and letters read
 --
 -- 01, 'When the library says no'; 02, 'Uploads in pieces', 'Where in the file is it broken?', 'One-letter marks' and 'Edition 2 with a
 -- check'.
-use Rattle.std.specs.Prelude.{◌≡◌, Bool, true, false, ◌||◌, List, [], ◌∷◌, ℕ, eqb}
+use Rattle.std.specs.Prelude.{◌≡◌, Bool, true, false, ◌||◌, List, [], ◌∷◌, ℕ, eqb, Result, Ok, Err}
 use Prim.Native.String.{String}
 use Rattle.words.specs.Words.{Place}
 use Rattle.finds.specs.declared.Tally.{Tally}
+use Rattle.answers.specs.declared.Flaw.{Flaw}
+use Rattle.answers.specs.declared.Flaw.TheVariants.{EndsEarly, Misspelled, OtherEdition, WordSize}
+use Rattle.answers.specs.declared.Flaw.TheVariants.{ManyArrows, OtherArrow, Leftovers, OtherCheck}
 use Rattle.answers.specs.declared.Refusal.{Refusal as Why}
-use Rattle.answers.specs.declared.Refusal.TheVariants.{Numbered, Placed}
-use Rattle.answers.specs.declared.SizeAnswer.{SizeAnswer}
-use Rattle.answers.specs.declared.SizeAnswer
-use Rattle.answers.specs.declared.TallyAnswer.{TallyAnswer}
-use Rattle.answers.specs.declared.TallyAnswer
+use Rattle.answers.specs.declared.Refusal.TheVariants.{EmptyWord, LongWord, ShortRoom, LongText, ShortOutput, Unmade, ShortWord, InFile}
 
 -- ── The table ──────────────────────────────────────────────────────────────
 
@@ -41,7 +42,7 @@ short_room = 3
 abbrev pub long_text : ℕ
 long_text = 4
 
--- 5 to 11 and 13 are what a file shows, where it is read
+-- 5 to 11 and 13 are what a file shows: `flaw_number`
 abbrev pub short_output : ℕ
 short_output = 12
 
@@ -103,18 +104,42 @@ refuses_only l a = refuses_with l [] a
 
 -- ── What the code's answers mean ───────────────────────────────────────────
 
+abbrev pub flaw_number : Flaw → ℕ
+flaw_number EndsEarly = 5
+flaw_number Misspelled = 6
+flaw_number OtherEdition = 7
+flaw_number WordSize = 8
+flaw_number ManyArrows = 9
+flaw_number OtherArrow = 10
+flaw_number Leftovers = 11
+flaw_number OtherCheck = 13
+
 abbrev pub number_of : Why → ℕ
-number_of (Numbered n) = n
-number_of (Placed n p) = n
+number_of EmptyWord = empty_word
+number_of LongWord = long_word
+number_of ShortRoom = short_room
+number_of LongText = long_text
+number_of ShortOutput = short_output
+number_of Unmade = unmade
+number_of ShortWord = short_word
+number_of (InFile f) = flaw_number f.flaw
 
 abbrev pub refused_as : {A : Type 0} → Why → Answer A
-refused_as (Numbered n) = refused n
-refused_as (Placed n p) = refused_at n p
+refused_as EmptyWord = refused empty_word
+refused_as LongWord = refused long_word
+refused_as ShortRoom = refused short_room
+refused_as LongText = refused long_text
+refused_as ShortOutput = refused short_output
+refused_as Unmade = refused unmade
+refused_as ShortWord = refused short_word
+refused_as (InFile f) = refused_at (flaw_number f.flaw) f.place
 
-abbrev pub size_answer : SizeAnswer → Answer ℕ
-size_answer (SizeAnswer.TheVariants.Done n) = done n
-size_answer (SizeAnswer.TheVariants.Refused r) = refused_as r
+abbrev pub answer_of : {A : Type 0} → Result A Why → Answer A
+answer_of (Ok v) = done v
+answer_of (Err r) = refused_as r
 
-abbrev pub tally_answer : TallyAnswer → Answer Tally
-tally_answer (TallyAnswer.TheVariants.Done t) = done t
-tally_answer (TallyAnswer.TheVariants.Refused r) = refused_as r
+abbrev pub size_answer : Result ℕ Why → Answer ℕ
+size_answer r = answer_of r
+
+abbrev pub tally_answer : Result Tally Why → Answer Tally
+tally_answer r = answer_of r

@@ -1,52 +1,92 @@
-// What an entry answers: done with a value, or refused with a number of the table in docs/PROMISES.md. One way for all entries; serves them
-// and whoever calls them.
+// What an entry answers: done with a value, or refused for a reason of the table in docs/PROMISES.md. One error type for all entries;
+// serves them and whoever calls them.
 #![tactic(auto)]
 
 ghost use Rattle.std.specs.Prelude.{◌≡◌};
-ghost use Rattle.answers.specs.Answers.{number_of};
+ghost use Rattle.answers.specs.Answers.{flaw_number, number_of};
+ghost use Rattle.answers.specs.declared.Refusal.TheVariants.{InFile};
 
-// Numbers of the table. What a file shows, 5 to 11 and 13, is numbered where the file is read.
-pub const EMPTY_WORD: u8 = 1;
+// What of a file is wrong.
+#[derive(Clone, Copy, Debug, PartialEq, Eq)]
+pub enum Flaw {
+    EndsEarly,
+    Misspelled,
+    OtherEdition,
+    WordSize,
+    ManyArrows,
+    OtherArrow,
+    Leftovers,
+    OtherCheck,
+}
 
-pub const LONG_WORD: u8 = 2;
+// What is wrong, and where in the file it shows.
+#[derive(Clone, Copy, Debug, PartialEq, Eq)]
+pub struct Fault {
+    pub flaw: Flaw,
+    pub place: usize,
+}
 
-pub const SHORT_ROOM: u8 = 3;
-
-pub const LONG_TEXT: u8 = 4;
-
-pub const SHORT_OUTPUT: u8 = 12;
-
-pub const UNMADE: u8 = 16;
-
-pub const SHORT_WORD: u8 = 17;
-
-// A number, alone or with the place of the file where it shows.
-#[derive(Clone, Copy)]
+// Why an entry refuses.
+#[derive(Clone, Copy, Debug, PartialEq, Eq)]
 pub enum Refusal {
-    Numbered(u8),
-    Placed(u8, usize),
+    EmptyWord,
+    LongWord,
+    ShortRoom,
+    LongText,
+    ShortOutput,
+    Unmade,
+    ShortWord,
+    InFile(Fault),
 }
 
-// The letters of a word, the bytes of a file, or a number of finds.
-#[derive(Clone, Copy)]
-pub enum SizeAnswer {
-    Done(usize),
-    Refused(Refusal),
+// A fault of a file is a reason to refuse it, so that `?` hands it on.
+impl From<Fault> for Refusal {
+    ghost from_gives = { λ fault refusal. refusal ≡ InFile fault };
+
+    fn from(shown: Fault) -> Refusal {
+        Refusal::InFile(shown)
+    }
 }
 
-// How often a word was found, and how many letters were read.
-#[derive(Clone, Copy)]
-pub enum TallyAnswer {
-    Done(finds::Tally),
-    Refused(Refusal),
+impl Flaw {
+    // The fault that it is where it shows.
+    pub fn at(self, place: usize) -> Fault
+        ensures { result ≡ record { flaw = self; place = place } }
+    {
+        Fault { flaw: self, place }
+    }
+
+    // The number of the table.
+    pub fn number(self) -> u8
+        ensures { result ≡ flaw_number self }
+    {
+        match self {
+            Flaw::EndsEarly => 5,
+            Flaw::Misspelled => 6,
+            Flaw::OtherEdition => 7,
+            Flaw::WordSize => 8,
+            Flaw::ManyArrows => 9,
+            Flaw::OtherArrow => 10,
+            Flaw::Leftovers => 11,
+            Flaw::OtherCheck => 13,
+        }
+    }
 }
 
-// The number of a refusal.
-pub fn number(why: Refusal) -> u8
-    ensures { result ≡ number_of why }
-{
-    match why {
-        Refusal::Numbered(n) => n,
-        Refusal::Placed(n, place) => n,
+impl Refusal {
+    // The number of the table.
+    pub fn number(self) -> u8
+        ensures { result ≡ number_of self }
+    {
+        match self {
+            Refusal::EmptyWord => 1,
+            Refusal::LongWord => 2,
+            Refusal::ShortRoom => 3,
+            Refusal::LongText => 4,
+            Refusal::InFile(fault) => fault.flaw.number(),
+            Refusal::ShortOutput => 12,
+            Refusal::Unmade => 16,
+            Refusal::ShortWord => 17,
+        }
     }
 }

@@ -9,15 +9,12 @@ use lib.ListN.{length}
 use Rattle.words.specs.Lists.{at}
 use Rattle.words.specs.Words.{Word, Letter, letter, part}
 use Rattle.border.specs.Borders.{longest_border, longest_end, Known}
-use Rattle.border.proofs.Beginnings.{EndsIn, ends_itself, ends_through, shorter_ends}
+use Rattle.border.proofs.Beginnings.{EndsIn, ends_through, shorter_ends}
 use Rattle.border.proofs.Beginnings.{beginning_shorter, beginning_ends, beginning_longest, end-longest, end_none}
 
 pub record Falling (w : Word) (n : ℕ) (c : Letter) (h : ℕ) : Type 0 where
   pub ends : EndsIn w n h
   pub most : (k : ℕ) → k < length w → EndsIn w n k → letter w k ≡ c → k ≤ h
-
-pub falling_start : {w : Word} {n : ℕ} {c : Letter} → Falling w n c n
-falling_start {w} {n} = record { ends = ends_itself w n; most = λ k l E e. omega (arith, E.sum) }
 
 module _ {w : Word} {n : ℕ} {c : Letter} {h : ℕ} (inside : n < length w) (F : Falling w n c h) where
   pub falling_low : h ≤ n

@@ -3,7 +3,7 @@
 
 ghost use Rattle.std.specs.Prelude.{◌≡◌, [], ◌∷◌, ◌++◌, ◌<◌, ◌≤◌, length};
 ghost use Rattle.words.specs.Words.{part};
-ghost use Rattle.border.specs.Borders.{borders, longest_end, Known};
+ghost use Rattle.border.specs.Borders.{borders, longest_border, longest_end, Known};
 
 // The length of the longest beginning of the word that ends with c, where the letters before c are the first `start` of the word. The row
 // has the longest borders of the beginnings up to there.
@@ -17,7 +17,7 @@ pub fn extend(word: &[u8], row: &[u16], start: usize, c: words::Letter) -> usize
         if h == 0 {
             return 0;
         }
-        h = row[h - 1] as usize;
+        h = usize::from(row[h - 1]);
     }
     h + 1
 }
@@ -29,11 +29,34 @@ pub fn fill(word: &[u8], row: &mut [u16])
 {
     row[0] = 0;
     let mut border = 0;
-    let mut k = 1;
-    while k < word.len() {
-        let c = word[k];
-        border = extend(word, row, border, words::Letter(c));
+    for k in 1..word.len() {
+        border = extend(word, row, border, words::Letter(word[k]));
         row[k] = border as u16;
-        k += 1;
+    }
+}
+
+// A word and the longest borders of all its beginnings.
+#[derive(Clone, Copy)]
+pub struct Borders<'a> {
+    pub word: &'a [u8],
+    pub row: &'a [u16],
+    ghost nonempty: { 1 ≤ length word.now },
+    ghost all: { row.now ≡ borders word.now },
+}
+
+impl<'a> Borders<'a> {
+    // The length of the word's longest border.
+    pub fn longest(&self) -> usize
+        ensures { result ≡ longest_border self.now.word.now }
+    {
+        usize::from(self.row[self.word.len() - 1])
+    }
+
+    // The length of the longest beginning of the word that ends with c, where the letters before c are the first `start` of the word.
+    pub fn extend(&self, start: usize, c: words::Letter) -> usize
+        requires { start < length self.now.word.now }
+        ensures { result ≡ longest_end self.now.word.now (part self.now.word.now 0 start ++ (c.0 ∷ [])) }
+    {
+        extend(self.word, self.row, start, c)
     }
 }

@@ -12,32 +12,29 @@ use Rattle.words.specs.Lists.{at}
 use Rattle.words.specs.Words.{Letter}
 use Rattle.words.specs.Answers.{arrow_to, supply_of}
 use Rattle.words.specs.declared.State.{State as Stated}
-use Rattle.words.specs.declared.Supply.{Supply}
-use Rattle.words.specs.declared.Supply.TheVariants.{Of, Without}
-use Rattle.words.specs.declared.Leads.{Leads}
-use Rattle.words.specs.declared.Leads.TheVariants.{To, Missing}
+use Rattle.words.specs.Answers.{MaybeState}
+use Rattle.std.specs.Prelude.{Some, None}
 use Rattle.oracle.specs.Arrows.{State}
 use Rattle.oracle.specs.SuffixPath.{SuffixPath, ended, falls}
 use Rattle.oracle.proofs.LetterRule.{path_agree}
 use Rattle.chains.specs.Chains.{supply_in, Chain, look_in, Looks, pushed}
 use Rattle.chains.specs.Letters.{Ready, Climbing, Climbs, finds, runs_out, goes_on, Resting, ClimbSays}
 use Rattle.chains.specs.Letters.{Begun, Added, first-letter, later_letter}
-use Rattle.chains.specs.declared.Climbed.{Climbed}
-use Rattle.chains.specs.declared.Climbed.TheVariants.{Ended, Rests}
+use Rattle.std.proofs.Common.{ControlFlow, Break, Continue}
 use Rattle.chains.proofs.Looking.{chain-one, supply-none, supply-some, chain-states, look_same}
 use Rattle.chains.proofs.Pushing.{Pushable, push_low, other_chain, push_heads, push_chained}
 
 -- ── What an answer says of a supply ────────────────────────────────────────
 
-module _ (L : List ℕ) (n : ℕ) (x : State) (r : Supply) (says : r ≡ supply_of (supply_in L n x)) where
-  pub supply-told : (s : Stated) → r ≡ Of s → (x ≢ 0) × (s.0 ≡ at L (n + x))
+module _ (L : List ℕ) (n : ℕ) (x : State) (r : MaybeState) (says : r ≡ supply_of (supply_in L n x)) where
+  pub supply-told : (s : Stated) → r ≡ Some s → (x ≢ 0) × (s.0 ≡ at L (n + x))
   supply-told s e = by (ℕ_discrete x 0)
     where
       by : Dec (x ≡ 0) → (x ≢ 0) × (s.0 ≡ at L (n + x))
       by (yes z) = let q : ◌≡◌ {A = ℕ} 0 1 = cc (supply-none L n x z) in absurd (omega arith)
       by (no z) = (z, cc (supply-some L n x z))
 
-  pub supply-untold : r ≡ Without → x ≡ 0
+  pub supply-untold : r ≡ None → x ≡ 0
   supply-untold e = by (ℕ_discrete x 0)
     where
       by : Dec (x ≡ 0) → x ≡ 0
@@ -83,7 +80,7 @@ module _ {L : List ℕ} {n t u : ℕ} {k : State} (R : Ready L n t u k) where
       }
 
   -- and so is the arrow of state 0
-  pub zero-kept : {c : Letter} {r : Leads} → k ≢ 0 → Looks L n t 0 c r → Looks (pushed L n u k (suc t)) n t 0 c r
+  pub zero-kept : {c : Letter} {r : MaybeState} → k ≢ 0 → Looks L n t 0 c r → Looks (pushed L n u k (suc t)) n t 0 c r
   zero-kept {c} {r} f Z = record { says = λ l C. by l C (R.chained.chain 0 (omega (arith, R.inside))) }
     where
       L' : List ℕ
@@ -102,12 +99,12 @@ module _ {L : List ℕ} {n t u : ℕ} {k : State} (R : Ready L n t u k) where
 -- ── In the code's sums ─────────────────────────────────────────────────────
 
 -- k got an arrow to t + 1, and r tells its supply
-module _ {n t : ℕ} {c : Letter} {z : Leads} {L L₁ : List ℕ} {u : ℕ} {k : State} (K : Climbing n t c z L u k)
-    (e : L₁ ≡ pushed L n u k (t + 1)) {r : Supply} (says : r ≡ supply_of (supply_in L n k)) where
-  pub climb-out : r ≡ Without → Climbs n t c L u k L₁ (u + 1) 0
+module _ {n t : ℕ} {c : Letter} {z : MaybeState} {L L₁ : List ℕ} {u : ℕ} {k : State} (K : Climbing n t c z L u k)
+    (e : L₁ ≡ pushed L n u k (t + 1)) {r : MaybeState} (says : r ≡ supply_of (supply_in L n k)) where
+  pub climb-out : r ≡ None → Climbs n t c L u k L₁ (u + 1) 0
   climb-out q = runs_out (supply-untold L n k r says q) refl K.missing (rw (add-one t) at e) (add-one u)
 
-  module _ {s : Stated} (q : r ≡ Of s) where
+  module _ {s : Stated} (q : r ≡ Some s) where
     of_k : (k ≢ 0) × (s.0 ≡ at L (n + k))
     of_k = supply-told L n k r says s q
 
@@ -122,11 +119,11 @@ module _ {n t : ℕ} {c : Letter} {z : Leads} {L L₁ : List ℕ} {u : ℕ} {k :
         let p : 0 < k = omega (arith, of_k.0) in
         goes_on p K.missing (rw (e, of_k.1, add-one t, add-one u) at C)
 
-    pub climb-found : {l : Leads} → Looks L₁ n t s.0 c l → {y : Stated} → l ≡ To y → Climbs n t c L u k L₁ (u + 1) y.0
+    pub climb-found : {l : MaybeState} → Looks L₁ n t s.0 c l → {y : Stated} → l ≡ Some y → Climbs n t c L u k L₁ (u + 1) y.0
     climb-found h i = onward (finds (rw i at h) refl refl)
 
     -- the supply is smaller, and where it has no arrow the climb can rest there
-    pub climb_rests : {l : Leads} → Looks L₁ n t s.0 c l → l ≡ Missing → (s.0 < k) × Resting n t c z L u k L₁ (u + 1) s.0
+    pub climb_rests : {l : MaybeState} → Looks L₁ n t s.0 c l → l ≡ None → (s.0 < k) × Resting n t c z L u k L₁ (u + 1) s.0
     climb_rests h i = (
       omega (arith, of_k.0, of_k.1, K.ready.down k (omega (arith, K.ready.below))),
       record { there = record { ready = ready_again; zero = zero_again; missing = rw i at h }; onward = onward },
@@ -134,15 +131,15 @@ module _ {n t : ℕ} {c : Letter} {z : Leads} {L L₁ : List ℕ} {u : ℕ} {k :
 
 -- ── A climb in parts ───────────────────────────────────────────────────────
 
-pub rest_on : {n t : ℕ} {c : Letter} {z : Leads} {L L₁ L₂ : List ℕ} {u u₁ u₂ : ℕ} {k k₁ k₂ : State} → Resting n t c z L u k L₁ u₁ k₁
+pub rest_on : {n t : ℕ} {c : Letter} {z : MaybeState} {L L₁ L₂ : List ℕ} {u u₁ u₂ : ℕ} {k k₁ k₂ : State} → Resting n t c z L u k L₁ u₁ k₁
     → Resting n t c z L₁ u₁ k₁ L₂ u₂ k₂ → Resting n t c z L u k L₂ u₂ k₂
 rest_on R S = record { there = S.there; onward = λ C. R.onward (S.onward C) }
 
 -- what a climb from a rest says, it says from where it came to rest
-pub says_on : {n t : ℕ} {c : Letter} {z : Leads} {L L₁ : List ℕ} {u u₁ : ℕ} {k k₁ : State} → (k₁ < k) × Resting n t c z L u k L₁ u₁ k₁
-    → (L' : List ℕ) (r : Climbed) → ClimbSays n t c z L₁ u₁ k₁ L' r → ClimbSays n t c z L u k L' r
-says_on R L' (Ended u' y) C = R.1.onward C
-says_on R L' (Rests u' k') S = (omega (arith, R.0, S.0), rest_on R.1 S.1)
+pub says_on : {n t : ℕ} {c : Letter} {z : MaybeState} {L L₁ : List ℕ} {u u₁ : ℕ} {k k₁ : State} → (k₁ < k) × Resting n t c z L u k L₁ u₁ k₁
+    → (L' : List ℕ) (u' : ℕ) (r : ControlFlow Stated Stated) → ClimbSays n t c z L₁ u₁ k₁ L' u' r → ClimbSays n t c z L u k L' u' r
+says_on R L' u' (Break y) C = R.1.onward C
+says_on R L' u' (Continue k') S = (omega (arith, R.0, S.0), rest_on R.1 S.1)
 
 -- ── One letter ─────────────────────────────────────────────────────────────
 
@@ -171,15 +168,15 @@ module _ {L : List ℕ} {n t u : ℕ} (B : Begun L n t u) where
   letter_in_row : at L (t + 1) % 256 ≡ at L (suc t)
   letter_in_row = rw (add-one t) (mod-eq_of_lt B.letter)
 
-  pub begun-zero : {z : Leads} → Looks L n t 0 (at L (t + 1)) z → Looks L n t 0 (at L (t + 1) % 256) z
+  pub begun-zero : {z : MaybeState} → Looks L n t 0 (at L (t + 1)) z → Looks L n t 0 (at L (t + 1) % 256) z
   begun-zero Z = rw letter_in_row (rw (add-one t) at Z)
 
   -- r tells the supply of the last state
-  module _ {r : Supply} (says : r ≡ supply_of (supply_in L n t)) where
-    pub added-first : r ≡ Without → Added n t L u L u
+  module _ {r : MaybeState} (says : r ≡ supply_of (supply_in L n t)) where
+    pub added-first : r ≡ None → Added n t L u L u
     added-first q = first-letter (supply-untold L n t r says q) refl refl
 
-    module _ {k : Stated} (q : r ≡ Of k) where
+    module _ {k : Stated} (q : r ≡ Some k) where
       of_t : (t ≢ 0) × (k.0 ≡ at L (n + t))
       of_t = supply-told L n t r says k q
 
@@ -193,11 +190,11 @@ module _ {L : List ℕ} {n t u : ℕ} (B : Begun L n t u) where
           later_letter L₁ y p (rw (letter_in_row, of_t.1) at C) (rw (add-one t))
 
       -- it has an arrow: no climb
-      pub added_at_once : {l : Leads} → Looks L n t k.0 (at L (t + 1) % 256) l → {y : Stated} → l ≡ To y
+      pub added_at_once : {l : MaybeState} → Looks L n t k.0 (at L (t + 1) % 256) l → {y : Stated} → l ≡ Some y
           → Added n t L u (set L (n + (t + 1)) y.0) u
       added_at_once h i = letter-added (finds (rw i at h) refl refl)
 
       -- it has none
-      pub rest-start : {z l : Leads} → Looks L n t 0 (at L (t + 1)) z → Looks L n t k.0 (at L (t + 1) % 256) l → l ≡ Missing
+      pub rest-start : {z l : MaybeState} → Looks L n t 0 (at L (t + 1)) z → Looks L n t k.0 (at L (t + 1) % 256) l → l ≡ None
           → Resting n t (at L (t + 1) % 256) z L u k.0 L u k.0
       rest-start Z h i = record { there = record { ready = start-ready; zero = begun-zero Z; missing = rw i at h }; onward = λ C. C }

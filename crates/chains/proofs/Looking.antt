@@ -12,9 +12,8 @@ use borrow.Author.Tests.{lt-ltb, le-ltb, eq-eqb, ne_eqb}
 use Rattle.words.specs.Lists.{at, first}
 use Rattle.words.specs.Words.{Letter}
 use Rattle.words.specs.Answers.{arrow_to, supply_of}
-use Rattle.words.specs.declared.Leads.{Leads}
-use Rattle.words.specs.declared.Leads.TheVariants.{To, Missing}
-use Rattle.words.specs.declared.Supply.TheVariants.{Of, Without}
+use Rattle.words.specs.Answers.{MaybeState}
+use Rattle.std.specs.Prelude.{Some, None}
 use Rattle.words.proofs.Lists.{first_yes, first_not}
 use Rattle.oracle.specs.Arrows.{State}
 use Rattle.chains.specs.Chains.{supply_in, Chain, ends, links, Chained, look_in, Looks}
@@ -34,11 +33,11 @@ chain-inside b (links p h y g o r) = h
 -- ── Supplies ───────────────────────────────────────────────────────────────
 
 module _ (L : List ℕ) (n : ℕ) (x : State) where
-  pub supply-none : x ≡ 0 → Without ≡ supply_of (supply_in L n x)
+  pub supply-none : x ≡ 0 → None ≡ supply_of (supply_in L n x)
   unfolding supply_in
   supply-none e = rw (eq-eqb x 0 e)
 
-  pub supply-some : x ≢ 0 → Of (record { 0 = at L (n + x) }) ≡ supply_of (supply_in L n x)
+  pub supply-some : x ≢ 0 → Some (record { 0 = at L (n + x) }) ≡ supply_of (supply_in L n x)
   unfolding supply_in
   supply-some e = rw (ne_eqb x 0 e)
 
@@ -96,10 +95,10 @@ pub record Slot (L : List ℕ) (n j : ℕ) : Type 0 where
   pub older : at L (4 * n + j) < j
 
 module _ {L : List ℕ} {n : ℕ} {x : State} {c : Letter} where
-  pub looks_zero : {t : ℕ} {r : Leads} → x ≡ 0 → Looks L n t 0 c r → Looks L n t x c r
+  pub looks_zero : {t : ℕ} {r : MaybeState} → x ≡ 0 → Looks L n t 0 c r → Looks L n t x c r
   looks_zero e R = rw e R
 
-  pub looks_spine : {t : ℕ} → x < t → at L (x + 1) ≡ c → Looks L n t x c (To (record { 0 = x + 1 }))
+  pub looks_spine : {t : ℕ} → x < t → at L (x + 1) ≡ c → Looks L n t x c (Some (record { 0 = x + 1 }))
   looks_spine {t} h e = record { says = λ l C. rw (add-one x) (ap arrow_to (sym (look_spine (at L) t l x c h (rw (add-one x) at e)))) }
 
   pub chase_start : Chained L n → x < n → at L (x + 1) ≢ c → Chasing L n x c (at L (2 * n + x))
@@ -117,7 +116,7 @@ module _ {L : List ℕ} {n : ℕ} {x : State} {c : Letter} where
   chased : {j t : ℕ} {y : Option State} → x < t → (R : Chasing L n x c j) → first (has L c) R.rest ≡ y → Looks L n t x c (arrow_to y)
   chased {t = t} h R e = record { says = λ l C. ap arrow_to (sym (look_chain (at L) t l x c h R.off_spine ∙ R.same l C ∙ e)) }
 
-  pub chase_end : {j t : ℕ} → x < t → Chasing L n x c j → j ≡ 0 → Looks L n t x c Missing
+  pub chase_end : {j t : ℕ} → x < t → Chasing L n x c j → j ≡ 0 → Looks L n t x c None
   unfolding first
   chase_end {j} h R z = chased h R (by R.chain)
     where
@@ -133,7 +132,7 @@ module _ {L : List ℕ} {n : ℕ} {x : State} {c : Letter} where
         by (ends e) = absurd (f e)
         by (links p h y g o r) = record { state = omega arith; older = o }
 
-    pub chase_hit : {t : ℕ} → x < t → at L (at L (5 * n + j)) ≡ c → Looks L n t x c (To (record { 0 = at L (5 * n + j) }))
+    pub chase_hit : {t : ℕ} → x < t → at L (at L (5 * n + j)) ≡ c → Looks L n t x c (Some (record { 0 = at L (5 * n + j) }))
     chase_hit h e = chased h R (by R.chain)
       where
         by : {r : List State} → Chain L n j r → first (has L c) r ≡ some (at L (5 * n + j))

@@ -14,7 +14,7 @@ use borrow.Author.Tests.{eq-eqb, ne_eqb}
 use Rattle.words.specs.Lists.{at}
 use Rattle.words.specs.Words.{Letter}
 use Rattle.words.specs.Answers.{arrow_to}
-use Rattle.words.specs.declared.Leads.{Leads}
+use Rattle.words.specs.Answers.{MaybeState}
 use Rattle.words.proofs.Answers.{arrow-told, arrow-untold}
 use Rattle.oracle.specs.Arrows.{State, Delta}
 use Rattle.oracle.proofs.Grow.{Climb, stop, out, go}
@@ -150,7 +150,7 @@ look_held a {L} t c {T = T} {k = k} H same b = look_same (at L) a t (T k) k c sa
 module _ (a : State → Letter) {n t : ℕ} {c : Letter} where
   -- what the code finds is the arrow
   arrow-held : {L : List ℕ} {u : ℕ} {T : Targets} {k : State} → Ready L n t u k → Held L n u T → ((z : State) → z < n → at L z ≡ a z)
-      → {r : Leads} → Looks L n t k c r → r ≡ arrow_to (arrows_of a t T k c)
+      → {r : MaybeState} → Looks L n t k c r → r ≡ arrow_to (arrows_of a t T k c)
   arrow-held {T = T} {k = k} R H same s =
       s.says (T k) (H.chain k (ready_push R).source)
       ∙ ap arrow_to (look_held a t c H same (omega (arith, R.below, R.inside)))

@@ -12,7 +12,7 @@ use Rattle.std.proofs.Math.Option.{Option, none, some}
 use Rattle.words.specs.Lists.{at, first}
 use Rattle.words.specs.Words.{Letter}
 use Rattle.words.specs.Answers.{arrow_to}
-use Rattle.words.specs.declared.Leads.{Leads}
+use Rattle.words.specs.Answers.{MaybeState}
 use Rattle.oracle.specs.Arrows.{State}
 
 unfoldable pub supply_in : List ℕ → ℕ → State → Option State
@@ -31,7 +31,7 @@ pub record Chained (L : List ℕ) (n : ℕ) : Type 0 where
 unfoldable pub look_in : (State → Letter) → ℕ → List State → State → Letter → Option State
 look_in a t l x c = cond (ltb x t) (cond (eqb (a (suc x)) c) (some (suc x)) (first (λ y. eqb (a y) c) l)) none
 
-pub record Looks (L : List ℕ) (n t : ℕ) (x : State) (c : Letter) (r : Leads) : Type 0 where
+pub record Looks (L : List ℕ) (n t : ℕ) (x : State) (c : Letter) (r : MaybeState) : Type 0 where
   pub says : (l : List State) → Chain L n (at L (2 * n + x)) l → r ≡ arrow_to (look_in (at L) t l x c)
 
 unfoldable pub pushed : List ℕ → ℕ → ℕ → State → State → List ℕ

@@ -1,43 +1,37 @@
 // The table of an oracle while letters are added: six rows of n entries, of which this room fills four. Row 0 holds the letters from the
 // start, row 1 gets the supplies, and each state's extra arrows are a chain of slots, newest first: row 2 has a state's first slot, row 4
 // the next slot, row 5 the target. Serves the table's room, which lays the chains out.
+// The table and n go side by side: the caller's fixed memory is lent by `&mut`, and no fact on its entries holds at every write. A slot of
+// 0 is none: docs/TABLE.md fixes the rows.
 #![tactic(auto)]
 
 ghost use Rattle.std.specs.Prelude.{◌≡◌, ◌+◌, ◌*◌, ◌<◌, ◌≤◌, length};
 ghost use Rattle.words.specs.Lists.{at};
 ghost use Rattle.words.specs.Answers.{supply_of};
 ghost use Rattle.chains.specs.Chains.{supply_in, Chained, Looks, pushed};
-ghost use Rattle.chains.specs.Letters.{Climbing, ClimbSays, Begun, Added, Blank, ChainsOf, zero_arrow};
+ghost use Rattle.chains.specs.Letters.{Climbing, ClimbSays, Begun, Added, Blank, ChainsOf};
+
+use std::ops::ControlFlow;
 
 // A walk takes so many states at most in one go: its stack does not grow with the word.
 const STATES_IN_ONE_GO: usize = 64;
 
-// The last slot that is used, and the new state's supply; or the state where the walk rests.
-#[derive(Clone, Copy)]
-pub enum Climbed {
-    Ended(u16, words::State),
-    Rests(u16, words::State),
+// The last slot that is used, and where the walk is: over, with the new state's supply, or resting at a state.
+#[derive(Clone, Copy, Debug, PartialEq, Eq)]
+struct Climbed {
+    slot: u16,
+    walk: ControlFlow<words::State, words::State>,
 }
 
-fn supply_at(table: &[u16], n: usize, x: words::State) -> words::Supply
+fn supply_at(table: &[u16], n: usize, x: words::State) -> Option<words::State>
     requires { (x.0 < n) × (2 * n ≤ length table.now) }
     ensures { result ≡ supply_of (supply_in table.now n x.0) }
 {
     let of = x.0 as usize;
     if of == 0 {
-        return words::Supply::Without;
+        return None;
     }
-    words::Supply::Of(words::State(table[n + of]))
-}
-
-// State 0 may have an arrow on every letter, so its arrows are told by the first state that has the letter, which is 0 where none has.
-fn zero_arrow(first: words::State) -> words::Leads
-    ensures { result ≡ zero_arrow first.0 }
-{
-    if first.0 == 0 {
-        return words::Leads::Missing;
-    }
-    words::Leads::To(first)
+    Some(words::State(table[n + of]))
 }
 
 // The arrow from x on c, where t is the last state and x another; that from state 0 is known.
@@ -45,10 +39,10 @@ fn look(
     table: &[u16],
     n: usize,
     t: words::State,
-    zero: words::Leads,
+    zero: Option<words::State>,
     x: words::State,
     c: words::Letter,
-) -> words::Leads
+) -> Option<words::State>
     requires n_bound { (n ≤ 65536) × (t.0 < n) × (x.0 < t.0) }
     requires chained { Chained table.now n × Looks table.now n t.0 0 c.0 zero }
     ensures { Looks table.now n t.0 x.0 c.0 result }
@@ -59,18 +53,18 @@ fn look(
         return zero;
     }
     if table[from + 1] == on {
-        return words::Leads::To(words::State((from + 1) as u16));
+        return Some(words::State((from + 1) as u16));
     }
     let mut slot = table[2 * n + from] as usize;
     while slot != 0 {
         let y = table[5 * n + slot];
         let at = y as usize;
         if table[at] == on {
-            return words::Leads::To(words::State(y));
+            return Some(words::State(y));
         }
         slot = table[4 * n + slot] as usize;
     }
-    words::Leads::Missing
+    None
 }
 
 // An extra arrow from x to y, in the slot behind the used ones.
@@ -94,29 +88,38 @@ fn climb(
     n: usize,
     t: words::State,
     used: usize,
-    zero: words::Leads,
+    zero: Option<words::State>,
     c: words::Letter,
     k: words::State,
     left: usize,
 ) -> Climbed
     requires n_bound { n ≤ 65536 }
     requires climbing { Climbing n t.0 c.0 zero table.old used k.0 }
-    ensures { ClimbSays n t.0 c.0 zero table.old used k.0 table.new result }
+    ensures { ClimbSays n t.0 c.0 zero table.old used k.0 table.new result.slot result.walk }
 {
     let next = supply_at(table, n, k);
     push(table, n, used, k, words::State(t.0 + 1));
     let slot = (used + 1) as u16;
-    let words::Supply::Of(s) = next else {
-        return Climbed::Ended(slot, words::State(0));
+    let Some(s) = next else {
+        return Climbed {
+            slot,
+            walk: ControlFlow::Break(words::State(0)),
+        };
     };
     let found = look(table, n, t, zero, s, c);
-    let words::Leads::To(y) = found else {
+    let Some(y) = found else {
         if left <= 1 {
-            return Climbed::Rests(slot, s);
+            return Climbed {
+                slot,
+                walk: ControlFlow::Continue(s),
+            };
         }
         return climb(table, n, t, used + 1, zero, c, s, left - 1);
     };
-    Climbed::Ended(slot, y)
+    Climbed {
+        slot,
+        walk: ControlFlow::Break(y),
+    }
 }
 
 // State t + 1, with the letter that stands in row 0; the arrow from state 0 on it is known. A letter that finds an arrow at once climbs
@@ -126,20 +129,20 @@ fn add_letter(
     n: usize,
     t: words::State,
     used: usize,
-    zero: words::Leads,
+    zero: Option<words::State>,
 ) -> usize
     requires n_bound { n ≤ 65536 }
     requires begun { Begun table.old n t.0 used × Looks table.old n t.0 0 (at table.old (t.0 + 1)) zero }
     ensures { Added n t.0 table.old used table.new result }
 {
     let supply = supply_at(table, n, t);
-    let words::Supply::Of(k) = supply else {
+    let Some(k) = supply else {
         return used;
     };
     let added = t.0 as usize + 1;
     let c = words::Letter((table[added] % 256) as u8);
     let found = look(table, n, t, zero, k, c);
-    if let words::Leads::To(y) = found {
+    if let Some(y) = found {
         table[n + added] = y.0;
         return used;
     }
@@ -147,15 +150,13 @@ fn add_letter(
     let mut so_far = used;
     loop {
         let climbed = climb(table, n, t, so_far, zero, c, from, STATES_IN_ONE_GO);
-        match climbed {
-            Climbed::Ended(slot, s) => {
+        so_far = climbed.slot as usize;
+        match climbed.walk {
+            ControlFlow::Break(s) => {
                 table[n + added] = s.0;
-                return slot as usize;
+                return so_far;
             }
-            Climbed::Rests(slot, there) => {
-                so_far = slot as usize;
-                from = there;
-            }
+            ControlFlow::Continue(there) => from = there,
         }
     }
 }
@@ -167,23 +168,14 @@ pub fn add_letters(table: &mut [u16], m: usize) -> usize
     ensures { ChainsOf table.old m table.new result }
 {
     let n = m + 1;
-    let mut firsts = [0u16; 256];
-    let mut t = 0;
+    // State 0 may have an arrow on every letter, so its arrows are told by the first state that has the letter.
+    let mut firsts = [None; 256];
     let mut used = 0;
-    while t < m {
+    for t in 0..m {
         let c = (table[t + 1] % 256) as usize;
         let first = firsts[c];
-        used = add_letter(
-            table,
-            n,
-            words::State(t as u16),
-            used,
-            zero_arrow(words::State(first)),
-        );
-        t += 1;
-        if first == 0 {
-            firsts[c] = t as u16;
-        }
+        used = add_letter(table, n, words::State(t as u16), used, first);
+        firsts[c] = first.or(Some(words::State((t + 1) as u16)));
     }
     used
 }

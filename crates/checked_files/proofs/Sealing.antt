@@ -14,10 +14,9 @@ use Rattle.crc.specs.Check.{sealed}
 use Rattle.editions.specs.Editions.{plain, checked, spell_in}
 use Rattle.editions.proofs.Files.{unsealed, unsealed_is, spell_is}
 use Rattle.editions.proofs.Theorems.{checked-length}
+use Rattle.std.specs.Prelude.{Ok, Err}
 use Rattle.answers.specs.declared.Refusal.{Refusal}
-use Rattle.answers.specs.declared.Refusal.TheVariants.{Numbered, Placed}
-use Rattle.answers.specs.declared.SizeAnswer.{SizeAnswer}
-use Rattle.answers.specs.declared.SizeAnswer.TheVariants.{Done, Refused}
+use Rattle.answers.specs.declared.Refusal.TheVariants.{EmptyWord, LongWord, ShortRoom, LongText, ShortOutput, Unmade, ShortWord, InFile}
 use Rattle.answers.specs.Answers.{done, refused_as}
 use Rattle.answers.proofs.Answers.{done_not_refused, done_not_placed}
 use Rattle.mark_files.specs.Save.{Outcome, outcome, saved_as, save_in}
@@ -50,15 +49,20 @@ module _ (word : Word) (T O : List ℕ) (lent : ℕ) (short : lent ≡ length O 
       rw rejoined (sym (says_full checked word T O h l s (omega (arith, o, lent_length, checked-length word))))
   refused_too (SaveCase.accepted h l s o) d = absurd (d _ refl)
 
-  pub says-refused : (said : SizeAnswer) {T' P' : List ℕ} → saved_as said T' P' ≡ save_in plain word T part-lent → (r : Refusal)
-      → said ≡ Refused r → outcome (refused_as r) T' (P' ++ drop lent O) ≡ save_in checked word T O
-  says-refused said {T'} {P'} told r q =
-      let e : outcome (refused_as r) T' P' ≡ save_in plain word T part-lent = ap (λ (s : SizeAnswer). saved_as s T' P') (sym q) ∙ told in
-      ap put e ∙ refused_too ((save_is plain word T part-lent _).0 refl) (λ n a. not_done r (ap (λ o. o.answer) e ∙ a))
+  pub says-refused : (r : Refusal) {T' P' : List ℕ} → saved_as (Err r) T' P' ≡ save_in plain word T part-lent
+      → outcome (refused_as r) T' (P' ++ drop lent O) ≡ save_in checked word T O
+  says-refused r told =
+      ap put told ∙ refused_too ((save_is plain word T part-lent _).0 refl) (λ n a. not_done r (ap (λ o. o.answer) told ∙ a))
     where
       not_done : (r : Refusal) {n : ℕ} → refused_as r ≡ done n → ⊥
-      not_done (Numbered k) q = done_not_refused (sym q)
-      not_done (Placed k p) q = done_not_placed (sym q)
+      not_done EmptyWord q = done_not_refused (sym q)
+      not_done LongWord q = done_not_refused (sym q)
+      not_done ShortRoom q = done_not_refused (sym q)
+      not_done LongText q = done_not_refused (sym q)
+      not_done ShortOutput q = done_not_refused (sym q)
+      not_done Unmade q = done_not_refused (sym q)
+      not_done ShortWord q = done_not_refused (sym q)
+      not_done (InFile f) q = done_not_placed (sym q)
 
   some : 1 ≤ length (spell word)
   some = omega (arith, ap {B = ℕ} length (spell_is word))
@@ -75,10 +79,8 @@ module _ (word : Word) (T O : List ℕ) (lent : ℕ) (short : lent ≡ length O 
     pub tables : T' ≡ table_of word ++ drop (room (length word)) T
     pub output : P' ++ drop lent O ≡ spell word ++ drop n O
 
-  pub says-written : (said : SizeAnswer) {T' P' : List ℕ} → saved_as said T' P' ≡ save_in plain word T part-lent → {n : ℕ}
-      → said ≡ Done n → Written n T' P'
-  says-written said {T'} {P'} told {n} e =
-      by ((save_is plain word T part-lent _).0 (sym told)) (ap (λ (s : SizeAnswer). saved_as s T' P') e)
+  pub says-written : {n : ℕ} {T' P' : List ℕ} → saved_as (Ok n) T' P' ≡ save_in plain word T part-lent → Written n T' P'
+  says-written {n} {T'} {P'} told = by ((save_is plain word T part-lent _).0 (sym told)) refl
     where
       by : {o : Outcome} → SaveCase plain word T part-lent o → o ≡ outcome (done n) T' P' → Written n T' P'
       by (SaveCase.on_empty_word h) q = done_not_refused (sym (ap (λ o. o.answer) q))

@@ -2,32 +2,18 @@
 // docs/PROMISES.md, and its one promise fixes the answer and every entry of every lent buffer, for refusals too.
 #![tactic(auto)]
 
-ghost use Rattle.std.specs.Prelude.{◌≡◌, ◌-◌};
+ghost use Rattle.std.specs.Prelude.{◌≡◌};
 ghost use Rattle.mark_files.specs.Save.{saved_as, save_checked_says};
 
-use answers::SizeAnswer;
-
-fn but_two(n: usize) -> usize
-    ensures { result ≡ n - 2 }
-{
-    if n < 2 {
-        return 0;
-    }
-    n - 2
-}
+use answers::Refusal;
 
 // The file of a word in edition 2, at the front of the output: that of edition 1, short of two bytes at the end, and then sealed.
-pub fn save_checked(word: &[u8], tables: &mut [u16], out: &mut [u8]) -> SizeAnswer
+pub fn save_checked(word: &[u8], tables: &mut [u16], out: &mut [u8]) -> Result<usize, Refusal>
     ensures { saved_as result tables.new out.new
         ≡ save_checked_says word.now tables.old out.old }
 {
-    let room = but_two(out.len());
-    let said = mark_files::save(word, tables, &mut out[..room]);
-    match said {
-        SizeAnswer::Refused(why) => SizeAnswer::Refused(why),
-        SizeAnswer::Done(size) => {
-            editions::seal(out, size);
-            SizeAnswer::Done(size + 2)
-        }
-    }
+    let room = out.len().saturating_sub(2);
+    let size = mark_files::save(word, tables, &mut out[..room])?;
+    editions::seal(out, size);
+    Ok(size + 2)
 }

@@ -2,7 +2,7 @@
 -- the number of members below the mask's end. What one number or two alone pass is told without counting, and so is a single one.
 use mathlib.Core.Path.{◌≡◌, refl, sym, ap, ap₂, ◌∙◌}
 use mathlib.Core.Logic.{◌≢◌, by_cases}
-use mathlib.Core.Bool.{Bool, true, false, cond, ◌||◌}
+use mathlib.Core.Bool.{Bool, true, false, cond, not, ◌||◌}
 use Prim.Native.Nat.{ℕ, zero, suc, ◌+◌, ◌-◌, ◌*◌, ◌/◌, ◌%◌, ◌^◌, ◌≤◌, ◌<◌}
 use native.Mathlib.Nat.{add_comm, add-zero, add-suc, mod-lt, mod-eq_of_lt}
 use native.Mathlib.Numerals.{one-add}
@@ -14,6 +14,7 @@ use lib.Count.{ones, ones_cat, ones_step}
 use lib.Dec.{eqb, ltb, lit<}
 use lib.Pow.{pow_pos, mod-pow-add, shl_exact}
 use borrow.Author.Tests.{eq-eqb, ne_eqb, eqb-true, lt-ltb, le-ltb}
+use Rattle.std.specs.Int.{from_bool}
 use Rattle.compact.specs.Compact.{bit_at, how_many}
 use Rattle.compact.proofs.Bits.{bit_told}
 
@@ -140,12 +141,15 @@ single-one w l e = by w w (omega arith) l e
         (λ q. even w q apart (by k (w / 2) (omega arith) (omega arith)))
         (λ q. odd w (omega arith) apart)
 
+-- and 0 has none: both told by a test
+pub few_ones : (w : ℕ) → bit_and w (w - 1) ≡ 0 → from_bool (not (eqb w 0)) ≡ ones w
+few_ones w e = by_cases (ℕ_discrete w 0)
+    (λ q. rw q (sym no_ones))
+    (λ q. rw (ne_eqb w 0 q) (sym (single-one w (omega arith) e)))
+
 -- a mask as code makes it
 pub shifted_one : (k : ℕ) → k < 64 → 1 * 2 ^ k % 2 ^ 64 ≡ 2 ^ k
 shifted_one k h = shl_exact 1 k 64 (lit< tt) (omega arith) ∙ omega arith
-
-pub shifted-some : (k : ℕ) → k < 64 → 0 < 1 * 2 ^ k % 2 ^ 64
-shifted-some k h = rw (shifted_one k h) (pow_pos k)
 
 pub remained_ones : (w k : ℕ) → k < 64 → ones (w % (1 * 2 ^ k % 2 ^ 64)) ≡ how_many (bit_at w) k
 remained_ones w k h = ap (λ (n : ℕ). ones (w % n)) (shifted_one k h) ∙ masked_ones w k

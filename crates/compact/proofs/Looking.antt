@@ -1,5 +1,5 @@
--- A LOOKUP in formed rows, in the terms that code has: past the last state, along the spine, at a letter that is not in the state's set,
--- and at one that is, whose target stands where its word's targets start and behind those of the ones below it.
+-- A LOOKUP in formed rows, in the terms that code has: past the last state, at a letter that is not in the state's set, and at one that is,
+-- whose target stands where its word's targets start and behind those of the ones below it.
 use mathlib.Core.Path.{◌≡◌, sym, ap, ◌∙◌}
 use mathlib.Core.Logic.{by_cases}
 use mathlib.Core.Bool.{true, false}
@@ -23,10 +23,6 @@ module _ {Z L : List ℕ} {m : ℕ} (F : CompactFormed Z L m) (x : State) (c : L
   look_far h = by_cases (ℕ_discrete m x)
       (λ e. rw (← e) (reads_none m Z L m c (omega arith) byte (F.last c byte)))
       (λ e. beyond_state m Z L x c (omega arith))
-
-  -- along the spine
-  pub look_spine : x < m → at L (x + 1) ≡ c → read_compact m Z L x c ≡ some (x + 1)
-  look_spine h e = rw e at (F.spine x h)
 
   -- not in the set
   pub look_none : x < m → in_set Z x c ≡ false → read_compact m Z L x c ≡ none

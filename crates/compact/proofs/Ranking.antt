@@ -35,14 +35,6 @@ module _ {w i c : ℕ} where
     part = λ _ l. let all : c - 64 * i ≡ 64 = omega arith in rw all e;
   }
 
-  -- some are
-  pub some_below : {r : ℕ} → 64 * i < c → c < 64 * i + 64 → r ≡ how_many (bit_at w) (c - 64 * i) → OnesBelow w i c r
-  some_below h l e = record {
-    nothing = λ k. absurd (omega arith);
-    whole = λ k. absurd (omega arith);
-    part = λ _ _. e;
-  }
-
   -- no more than it has
   pub few-below : {r : ℕ} → OnesBelow w i c r → r ≤ 64
   few-below B = by_cases (dec_le c (64 * i))

@@ -30,8 +30,8 @@ its_state x c h = omega arith
 pub its_letter : (x : State) (c : Letter) → c < 256 → arrow_number x c % 256 ≡ c
 its_letter x c h = omega arith
 
-pub arrow_of : (δ : Delta) (x : State) (c : Letter) → c < 256 → arrow_at δ (arrow_number x c) ≡ δ x c
-arrow_of δ x c h = ap₂ δ (its_state x c h) (its_letter x c h)
+pub arrow_at-number : (δ : Delta) (x : State) (c : Letter) → c < 256 → arrow_at δ (arrow_number x c) ≡ δ x c
+arrow_at-number δ x c h = ap₂ δ (its_state x c h) (its_letter x c h)
 
 -- bit d of word i tells of the arrow of number 64i + d
 pub word-told : (δ : Delta) (i d : ℕ) → d < 64 → bit_at (set_word δ i) d ≡ there δ (64 * i + d)
@@ -51,7 +51,7 @@ module _ (δ : Delta) (m : ℕ) (Z : List ℕ) (told : (i : ℕ) → i < 4 * (m 
 
   module _ (x : State) (h : x ≤ m) where
     pub set_told : (c : Letter) → c < 256 → in_set Z x c ≡ is_arrow (δ x c)
-    set_told c l = number-told (arrow_number x c) (omega arith) ∙ ap is_arrow (arrow_of δ x c l)
+    set_told c l = number-told (arrow_number x c) (omega arith) ∙ ap is_arrow (arrow_at-number δ x c l)
 
     -- those of smaller letters
     pub count-told : (c : Letter) → c ≤ 256
@@ -116,7 +116,7 @@ module _ (p : Word) (δ : Delta) (S : State → State) (few : length (targets_up
       by : (o : Option State) → δ x c ≡ o → read_compact m Z L x c ≡ o
       by none e = reads_none m Z L x c h l (unfold is_arrow in member e)
       by (some y) e =
-          let leads = arrow_of δ x c l ∙ e in
+          let leads = arrow_at-number δ x c l ∙ e in
           let g = arrow_number x c in
           let inside = target-inside δ g leads (256 * (m + 1)) (omega arith) in
           reads-some m Z L x c h l (unfold is_arrow in member e)

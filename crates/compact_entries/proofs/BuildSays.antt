@@ -17,9 +17,10 @@ use Rattle.oracle.specs.Supply.{supply}
 use Rattle.table.specs.Table.{read_word, read_supply}
 use Rattle.compact.specs.Compact.{sets_room, compact_room, compact_sets, compact_table, read_compact}
 use Rattle.compact.proofs.Theorems.{compact_arrow, compact_word, compact_supply}
-use Rattle.answers.specs.declared.SizeAnswer.{SizeAnswer}
+use Rattle.std.specs.Prelude.{Result}
+use Rattle.answers.specs.declared.Refusal.{Refusal}
 use Rattle.answers.specs.Answers.{done, refused, short_room, refuses_only, one_of}
-use Rattle.answers.proofs.Answers.{done_not_refused, size_answer-one}
+use Rattle.answers.proofs.Answers.{done_not_refused, answer_of-one}
 use Rattle.compact_entries.specs.CompactBuild.{Outcome, outcome, compact_built, compact_build_says}
 use Rattle.compact_entries.specs.Cases.{TooSmall, CompactBuildCase}
 use Rattle.compact_entries.proofs.Rooms.{Rooms, small, enough, rooms, short-told, enough-told}
@@ -129,8 +130,8 @@ module _ (word : Word) (Z T : List ℕ) where
 -- ── One outcome ────────────────────────────────────────────────────────────
 
 -- two outcomes that the promise of compact_build allows are equal
-pub compact_build_one : (word : Word) (Z T : List ℕ) (r s : SizeAnswer) (X Y A B : List ℕ)
+pub compact_build_one : (word : Word) (Z T : List ℕ) (r s : Result ℕ Refusal) (X Y A B : List ℕ)
     → compact_built r X A ≡ compact_build_says word Z T → compact_built s Y B ≡ compact_build_says word Z T → (r ≡ s) × (X ≡ Y) × (A ≡ B)
 compact_build_one word Z T r s X Y A B e f =
     let g : compact_built r X A ≡ compact_built s Y B = e ∙ sym f in
-    (size_answer-one r s (ap (λ o. o.answer) g), ap (λ o. o.sets) g, ap (λ o. o.tables) g)
+    (answer_of-one r s (ap (λ o. o.answer) g), ap (λ o. o.sets) g, ap (λ o. o.tables) g)

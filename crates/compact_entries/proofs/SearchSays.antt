@@ -22,9 +22,10 @@ use Rattle.search.specs.Answers.{tally_of}
 use Rattle.compact.specs.Compact.{sets_room, compact_room, compact_sets, compact_table, read_compact}
 use Rattle.compact.specs.CompactFormed.{CompactFormed}
 use Rattle.compact.proofs.Theorems.{compact_agrees_all, compact_formed}
-use Rattle.answers.specs.declared.TallyAnswer.{TallyAnswer}
+use Rattle.std.specs.Prelude.{Result}
+use Rattle.answers.specs.declared.Refusal.{Refusal}
 use Rattle.answers.specs.Answers.{done, refused, refuses_only, one_of}
-use Rattle.answers.proofs.Answers.{done_not_refused, tally_answer-one}
+use Rattle.answers.proofs.Answers.{done_not_refused, answer_of-one}
 use Rattle.marks.specs.Search.{found}
 use Rattle.compact_entries.specs.CompactSearch.{Outcome, outcome, compact_searched, compact_search_says}
 use Rattle.compact_entries.specs.Cases.{CompactSearchCase}
@@ -115,24 +116,27 @@ module _ (word : Word) {Y P : List ℕ} (R S : List ℕ) (filled_in : (Y ≡ com
   pub lent-formed : size < 30000 → CompactFormed (take (sets_room size) (Y ++ R)) (take (compact_room size) (P ++ S)) size
   lent-formed h = rw (lent-words, lent-entries, ← length-reverse word) (compact_formed (mirror word) (rw (length-reverse word) h) bytes)
 
-  pub scan_counts : (text : Word) (F : List Place) {t : Tally} {F' : List Place}
-      → t ≡ tally_of (steps (read_compact size (take (sets_room size) (Y ++ R)) (take (compact_room size) (P ++ S))) word text)
-      → F' ≡ filled (steps (read_compact size (take (sets_room size) (Y ++ R)) (take (compact_room size) (P ++ S))) word text).starts F
+  -- w is the word as it is sought
+  pub scan_counts : (text : Word) (F : List Place) {w : Word} → w ≡ word → {t : Tally} {F' : List Place}
+      → t ≡ tally_of (steps (read_compact size (take (sets_room size) (Y ++ R)) (take (compact_room size) (P ++ S))) w text)
+      → F' ≡ filled (steps (read_compact size (take (sets_room size) (Y ++ R)) (take (compact_room size) (P ++ S))) w text).starts F
       → {S' : List ℕ} → S ≡ S'
       → outcome (done t) (Y ++ R) (P ++ S) F'
       ≡ outcome (done (found word text)) (compact_sets (mirror word) ++ R) (compact_table (mirror word) ++ S')
       (filled (occurrences word text) F)
-  scan_counts text F t f kept = rw (
-    t,
-    f,
-    lent-words,
-    lent-entries,
-    compact_steps word text bytes,
-    search-lists-occurrences word text,
-    filled_in.0,
-    filled_in.1,
-    kept,
-  )
+  scan_counts text F sought t f kept =
+      let t = rw sought at t in
+      let f = rw sought at f in rw (
+        t,
+        f,
+        lent-words,
+        lent-entries,
+        compact_steps word text bytes,
+        search-lists-occurrences word text,
+        filled_in.0,
+        filled_in.1,
+        kept,
+      )
 
 -- ── Scratch ────────────────────────────────────────────────────────────────
 
@@ -158,9 +162,10 @@ module _ (S T : List ℕ) (m : ℕ) (zeros : S ≡ replicate m 0) (room-enough :
 -- ── One outcome ────────────────────────────────────────────────────────────
 
 -- two outcomes that the promise of compact_search allows are equal
-pub compact_search-one : (word text : Word) (Z T : List ℕ) (F : List Place) (r s : TallyAnswer) (X Y A B : List ℕ) (G H : List Place)
+pub compact_search-one : (word text : Word) (Z T : List ℕ) (F : List Place) (r s : Result Tally Refusal) (X Y A B : List ℕ)
+    (G H : List Place)
     → compact_searched r X A G ≡ compact_search_says word text Z T F → compact_searched s Y B H ≡ compact_search_says word text Z T F
     → (r ≡ s) × (X ≡ Y) × (A ≡ B) × (G ≡ H)
 compact_search-one word text Z T F r s X Y A B G H e f =
     let g : compact_searched r X A G ≡ compact_searched s Y B H = e ∙ sym f in
-    (tally_answer-one r s (ap (λ o. o.answer) g), ap (λ o. o.sets) g, ap (λ o. o.tables) g, ap (λ o. o.finds) g)
+    (answer_of-one r s (ap (λ o. o.answer) g), ap (λ o. o.sets) g, ap (λ o. o.tables) g, ap (λ o. o.finds) g)

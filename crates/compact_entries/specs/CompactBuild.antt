@@ -12,7 +12,8 @@ use Rattle.std.specs.Prelude.{Bool, cond, ◌||◌, List, ◌++◌, ℕ, length,
 use Rattle.words.specs.Words.{Word}
 use Rattle.words.specs.Limits.{longest_word}
 use Rattle.compact.specs.Compact.{sets_room, compact_room, compact_sets, compact_table}
-use Rattle.answers.specs.declared.SizeAnswer.{SizeAnswer}
+use Rattle.std.specs.Prelude.{Result}
+use Rattle.answers.specs.declared.Refusal.{Refusal}
 use Rattle.answers.specs.Answers.{Answer, done, refused, size_answer, empty_word, long_word, short_room}
 
 pub record Outcome : Type 0 where
@@ -23,7 +24,7 @@ pub record Outcome : Type 0 where
 abbrev pub outcome : Answer ℕ → List ℕ → List ℕ → Outcome
 outcome a Z T = record { answer = a; sets = Z; tables = T }
 
-abbrev pub compact_built : SizeAnswer → List ℕ → List ℕ → Outcome
+abbrev pub compact_built : Result ℕ Refusal → List ℕ → List ℕ → Outcome
 compact_built r Z T = outcome (size_answer r) Z T
 
 abbrev pub compact_short : ℕ → List ℕ → List ℕ → Bool

@@ -14,7 +14,8 @@ use Rattle.words.specs.Limits.{longest_word, longest_text}
 use Rattle.finds.specs.declared.Tally.{Tally}
 use Rattle.finds.specs.Finds.{filled}
 use Rattle.compact.specs.Compact.{sets_room, compact_room, compact_sets, compact_table}
-use Rattle.answers.specs.declared.TallyAnswer.{TallyAnswer}
+use Rattle.std.specs.Prelude.{Result}
+use Rattle.answers.specs.declared.Refusal.{Refusal}
 use Rattle.answers.specs.Answers.{Answer, done, refused, tally_answer, empty_word, long_word, long_text, short_room}
 use Rattle.marks.specs.Search.{found}
 use Rattle.compact_entries.specs.CompactBuild.{compact_short}
@@ -28,7 +29,7 @@ pub record Outcome : Type 0 where
 abbrev pub outcome : Answer Tally → List ℕ → List ℕ → List Place → Outcome
 outcome a Z T F = record { answer = a; sets = Z; tables = T; finds = F }
 
-abbrev pub compact_searched : TallyAnswer → List ℕ → List ℕ → List Place → Outcome
+abbrev pub compact_searched : Result Tally Refusal → List ℕ → List ℕ → List Place → Outcome
 compact_searched r Z T F = outcome (tally_answer r) Z T F
 
 unfoldable pub compact_search_says : Word → Word → List ℕ → List ℕ → List Place → Outcome

@@ -21,10 +21,10 @@ use Rattle.oracle.specs.Supply.{supply}
 use Rattle.chains.specs.Letters.{word_in}
 use Rattle.table.specs.Table.{table_of}
 use Rattle.table.proofs.Rows.{row_0, row_1_first, row_1}
-use Rattle.compact.specs.Compact.{sets_room, targets_up_to, sets_from, compact_sets, compact_table}
-use Rattle.compact.proofs.CompactRows.{sets-size, word_at, letters-there, supplies-there, zeros-there, starts-there, targets-there}
+use Rattle.compact.specs.Compact.{targets_up_to, sets_from, compact_sets, compact_table}
+use Rattle.compact.proofs.CompactRows.{word_at, letters-there, supplies-there, zeros-there, starts-there, targets-there}
 use Rattle.compact.proofs.Theorems.{compact_table-size}
-use Rattle.compact_fill.specs.Filling.{first_place, FirstForm, OwnWords, WithStarts, AllStates}
+use Rattle.compact_fill.specs.Filling.{first_place, FirstForm, OwnWords, WithStarts, AllStates, FilledRows}
 use Rattle.compact_fill.proofs.OutArrows.{own-word, first_stays}
 
 -- ── Two rows cleared ───────────────────────────────────────────────────────
@@ -132,24 +132,24 @@ rowed_table {p} {m} {K} R e = by (rw (← e) at R)
 
 -- ── All rows ───────────────────────────────────────────────────────────────
 
-module _ {p : Word} {L : List ℕ} {m : ℕ} (F : FirstForm p L m) {L₁ : List ℕ} (A : AllStates (oracle p) m L L₁) where
-  -- the first form is still there
-  still-first : FirstForm p L₁ m
-  still-first = first_stays F A.size A.before
+module _ {p : Word} {L : List ℕ} {m : ℕ} (F : FirstForm p L m) where
+  -- the first form is still there, and what the starts of the last state ask for
+  module _ {L₁ : List ℕ} (A : AllStates (oracle p) m L L₁) where
+    pub still-first : FirstForm p L₁ m
+    still-first = first_stays F A.size A.before
 
-  -- what the starts of the last state ask for
-  pub last-asked : {Z : List ℕ} {all : ℕ} → Z ≡ sets_from (oracle p) m → all ≡ first_place (oracle p) m
-      → (FirstForm (word_in L₁ m) L₁ m × (m ≤ m) × (sets_room m ≤ length Z))
-      × (OwnWords (oracle (word_in L₁ m)) m Z × (all ≡ first_place (oracle (word_in L₁ m)) m))
-  last-asked {Z} z counted = rw (own-word still-first) (
-    (still-first, omega arith, omega (arith, ap length z, sets-size (oracle p) m)),
-    (λ k h. rw z (word_at (oracle p) m (4 * m + k) (omega arith)), counted),
-  )
+    pub last-asked : {Z : List ℕ} {all : ℕ} → Z ≡ sets_from (oracle p) m → all ≡ first_place (oracle p) m
+        → (m ≤ m) × OwnWords (oracle (word_in L₁ m)) m Z × (all ≡ first_place (oracle (word_in L₁ m)) m)
+    last-asked {Z} z counted = rw (own-word still-first)
+        (omega arith, λ k h. rw z (word_at (oracle p) m (4 * m + k) (omega arith)), counted)
 
-  module _ {L₂ : List ℕ} (says : WithStarts (oracle (word_in L₁ m)) m m L₁ L₂) {a k : ℕ}
+  module _ {L₂ : List ℕ} (R : FilledRows (oracle p) m L L₂) {a k : ℕ}
       (two : a ≡ 2 * (m + 1)) (as_many : k ≡ a) {C : List ℕ} (cleared : C ≡ replicate (length (mid_of a k L₂)) 0) where
-    S : WithStarts (oracle p) m m L₁ L₂
-    S = rw (own-word still-first) at says
+    abbrev A : AllStates (oracle p) m L R.but_last
+    A = R.states
+
+    abbrev S : WithStarts (oracle p) m m R.but_last L₂
+    S = R.last
 
     size : length L₂ ≡ 10 * (m + 1)
     size = S.size ∙ A.size ∙ F.size

@@ -5,3 +5,4 @@ pub mod Putting
 pub mod States
 pub mod Finishing
 pub mod Beginning
+pub mod Held

@@ -95,9 +95,6 @@ module _ {p : Word} {L : List ℕ} {m : ℕ} (F : FirstForm p L m) where
       F.rows (3 * (m + 1) + s) (omega arith) ∙ ap (at (table_of p)) e ∙ row_3_of p s (omega (arith, F.long))
 
   module _ (x : State) (h : x < m) where
-    abbrev outs : List State
-    outs = out_targets p x
-
     -- their number
     pub count-there : at L (2 * (m + 1) + x) + length (out_targets p x) ≡ at L (2 * (m + 1) + x + 1) + 1
     count-there =

@@ -19,15 +19,14 @@ use Rattle.words.specs.Words.{Letter, Word}
 use Rattle.oracle.specs.Arrows.{State, Delta}
 use Rattle.oracle.specs.SuffixRule.{oracle}
 use Rattle.chains.specs.Letters.{word_in}
-use Rattle.compact.specs.Compact.{sets_room, arrow_number, set_word, targets_up_to, bit_at, how_many}
+use Rattle.compact.specs.Compact.{arrow_number, set_word, targets_up_to, bit_at, how_many}
 use Rattle.compact.proofs.Counting.{count-split, count_same}
 use Rattle.compact.proofs.Targets.{there, targets-length, targets_rise, target-inside}
-use Rattle.compact.proofs.ReadBack.{word-told, arrow_of}
+use Rattle.compact.proofs.ReadBack.{word-told, arrow_at-number}
 use Rattle.compact.proofs.Theorems.{targets_fit}
-use Rattle.compact_fill.specs.Filling.{out_targets, letter_into, place_of, first_place, FirstForm, Words64, NoneOf, WithSet}
+use Rattle.compact_fill.specs.Filling.{out_targets, letter_into, place_of, first_place, FirstForm}
 use Rattle.compact_fill.specs.Filling.{OwnWords, OwnStarts, WithStarts, WithTargets, WithState}
 use Rattle.compact_fill.proofs.OutArrows.{spine-first, own-word, first_stays, out-leads, arrow_among}
-use Rattle.compact_fill.proofs.Marking.{own-words}
 use Rattle.compact_fill.proofs.Starts.{starts-few, lone_start, pair_start}
 
 one-target : {o : Option State} {y z : State} → o ≡ some y → o ≡ some z → y ≡ z
@@ -48,7 +47,7 @@ module _ {p : Word} {L : List ℕ} {m : ℕ} (F : FirstForm p L m) (x : State) (
       → (first_place (oracle p) x ≤ place_of p x c) × (place_of p x c < first_place (oracle p) (suc x))
   own-place c y l e = (
     targets_rise (oracle p) (256 * x) (arrow_number x c) (omega arith),
-    target-inside (oracle p) (arrow_number x c) (arrow_of (oracle p) x c l ∙ e) (256 * suc x) (omega arith),
+    target-inside (oracle p) (arrow_number x c) (arrow_at-number (oracle p) x c l ∙ e) (256 * suc x) (omega arith),
   )
 
   -- and within the rows
@@ -95,8 +94,12 @@ module _ {p : Word} {L : List ℕ} {m : ℕ} (F : FirstForm p L m) (x : State) (
   apart : {c d : Letter} {y z : State} → c < 256 → d < 256 → oracle p x c ≡ some y → oracle p x d ≡ some z → c ≢ d
       → place_of p x c ≢ place_of p x d
   apart {c} {d} k l e f q = by_cases (dec_lt c d)
-      (λ u v. omega (arith, target-inside (oracle p) (arrow_number x c) (arrow_of (oracle p) x c k ∙ e) (arrow_number x d) (omega arith)))
-      (λ u v. omega (arith, target-inside (oracle p) (arrow_number x d) (arrow_of (oracle p) x d l ∙ f) (arrow_number x c) (omega arith)))
+      (λ u v.
+      let first = arrow_at-number (oracle p) x c k ∙ e in
+      omega (arith, target-inside (oracle p) (arrow_number x c) first (arrow_number x d) (omega arith)))
+      (λ u v.
+      let first = arrow_at-number (oracle p) x d l ∙ f in
+      omega (arith, target-inside (oracle p) (arrow_number x d) first (arrow_number x c) (omega arith)))
 
   pub putting-start : PuttingState p m x L L 0
   putting-start = record { size = refl; put = λ i l. absurd (omega arith); before = λ i l. refl; behind = λ i l. refl }
@@ -268,34 +271,11 @@ module _ {p : Word} {L : List ℕ} {m : ℕ} (F : FirstForm p L m) {x : State} (
 
 -- ── As code asks ───────────────────────────────────────────────────────────
 
--- entries that hold the first form of p hold that of their own word: what is known of the one is asked of the other
-module _ {p : Word} {L : List ℕ} {m : ℕ} (F : FirstForm p L m) {x : State} (h : x < m) where
-  pub target-asked : {j : ℕ} → j < length (out_targets p x)
-      → FirstForm (word_in L m) L m × (x < m) × (j < length (out_targets (word_in L m) x))
-  target-asked l = rw (own-word F) (F, h, l)
+-- the targets of a state go behind its starts
+module _ {p : Word} {L : List ℕ} {m : ℕ} (F : FirstForm p L m) {x : State} (h : x < m)
+    {L₁ : List ℕ} (S : WithStarts (oracle p) m x L L₁) where
+  pub started : FirstForm p L₁ m
+  started = first_stays F S.size (λ i k. S.before i (omega arith))
 
-  pub target_told : (j : ℕ) {y : ℕ} → y ≡ at (out_targets (word_in L m) x) j → y ≡ at (out_targets p x) j
-  target_told j e = e ∙ ap (λ (q : Word). at (out_targets q x) j) (own-word F)
-
-  pub place-asked : {y : State} (Z : List ℕ) → oracle p x (letter_into p y) ≡ some y → sets_room m ≤ length Z → OwnWords (oracle p) x Z
-      → OwnStarts (oracle p) m x L
-      → (FirstForm (word_in L m) L m × (x < m) × (oracle (word_in L m) x (letter_into (word_in L m) y) ≡ some y))
-      × ((sets_room m ≤ length Z) × OwnWords (oracle (word_in L m)) x Z × OwnStarts (oracle (word_in L m)) m x L)
-  place-asked Z e room own starts = rw (own-word F) ((F, h, e), (room, own, starts))
-
-  pub place-told : (y : State) {r : ℕ} → r ≡ place_of (word_in L m) x (letter_into (word_in L m) y) → r ≡ place_of p x (letter_into p y)
-  place-told y e = rw (own-word F) at e
-
-  -- a state's targets, once it has its starts
-  module _ {L₁ : List ℕ} (S : WithStarts (oracle p) m x L L₁) where
-    started : FirstForm p L₁ m
-    started = first_stays F S.size (λ i k. S.before i (omega arith))
-
-    pub targets-asked : {Z Z' : List ℕ} → NoneOf x Z → Words64 Z → WithSet (oracle p) x Z Z' → sets_room m ≤ length Z
-        → (FirstForm (word_in L₁ m) L₁ m × (x < m))
-        × ((sets_room m ≤ length Z') × OwnWords (oracle (word_in L₁ m)) x Z' × OwnStarts (oracle (word_in L₁ m)) m x L₁)
-    targets-asked empty small M room =
-        rw (own-word started) ((started, h), (omega (arith, M.size), own-words empty M small, S.starts))
-
-    pub targets-told : {L₂ : List ℕ} → WithTargets (oracle (word_in L₁ m)) m x L₁ L₂ → WithState (oracle p) m x L L₂
-    targets-told T = with_state h S (rw (own-word started) at T)
+  pub targets-told : {L₂ : List ℕ} → WithTargets (oracle (word_in L₁ m)) m x L₁ L₂ → WithState (oracle p) m x L L₂
+  targets-told T = with_state h S (rw (own-word started) at T)

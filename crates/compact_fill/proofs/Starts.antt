@@ -1,6 +1,6 @@
 -- WHERE THE TARGETS OF A STATE'S WORDS START: word by word (`StartsSoFar`), behind those of the words before it. Each word adds as many as
 -- it has ones (`word_more`); where one arrow or two leave a state, they are told without counting (`lone_start`, `pair_start`).
-use mathlib.Core.Path.{◌≡◌, refl, sym, ap, ap₂, ◌∙◌}
+use mathlib.Core.Path.{◌≡◌, sym, ap, ap₂, ◌∙◌}
 use mathlib.Core.Bool.{Bool, true, false, cond}
 use mathlib.Core.List.{List}
 use Prim.Native.Nat.{ℕ, suc, ◌+◌, ◌*◌, ◌≤◌, ◌<◌}
@@ -10,6 +10,7 @@ use lib.Seq.{get_or-set_same, get_or-set_other}
 use lib.Count.{ones}
 use lib.Dec.{ltb}
 use borrow.Author.Count.{below_more}
+use Rattle.std.specs.Int.{from_bool}
 use Rattle.words.specs.Lists.{at}
 use Rattle.words.specs.Words.{Letter, Word}
 use Rattle.oracle.specs.Arrows.{State, Delta}
@@ -17,9 +18,9 @@ use Rattle.oracle.specs.SuffixRule.{oracle}
 use Rattle.compact.specs.Compact.{arrow_number, is_arrow, set_word, targets_up_to, bit_at, how_many}
 use Rattle.compact.proofs.Counting.{count-split, count_same, count_lone, count_pair, all_ones}
 use Rattle.compact.proofs.Targets.{there, targets-length, targets_rise}
-use Rattle.compact.proofs.ReadBack.{word-told, word_small, arrow_of}
+use Rattle.compact.proofs.ReadBack.{word-told, word_small, arrow_at-number}
 use Rattle.compact.proofs.Theorems.{targets_fit}
-use Rattle.compact_fill.specs.Filling.{out_targets, letter_into, first_place, FirstForm, WithStarts}
+use Rattle.compact_fill.specs.Filling.{out_targets, letter_into, first_place, FirstForm}
 use Rattle.compact_fill.proofs.OutArrows.{letters-differ}
 use Rattle.compact_fill.proofs.Marking.{lone_among, pair_among}
 
@@ -48,9 +49,6 @@ pub record StartsSoFar (δ : Delta) (m : ℕ) (x : State) (L L' : List ℕ) (i :
   pub behind : (j : ℕ) → 4 * (m + 1) + 4 * suc x ≤ j → at L' j ≡ at L j
 
 module _ {δ : Delta} {m : ℕ} {x : State} {L : List ℕ} where
-  pub no_starts : StartsSoFar δ m x L L 0
-  no_starts = record { size = refl; starts = λ k h. absurd (omega arith); before = λ j h. refl; behind = λ j h. refl }
-
   pub one-start : {L' : List ℕ} {i v : ℕ} → StartsSoFar δ m x L L' i → i < 4 → 4 * (m + 1) + 4 * suc x ≤ length L
       → v ≡ length (targets_up_to δ (64 * (4 * x + i))) → StartsSoFar δ m x L (set L' (4 * (m + 1) + (4 * x + i)) v) (i + 1)
   one-start {L'} {i} {v} S h room e = record {
@@ -65,9 +63,6 @@ module _ {δ : Delta} {m : ℕ} {x : State} {L : List ℕ} where
       here : ℕ
       here = 4 * (m + 1) + (4 * x + i)
 
-  pub all-starts : {L' : List ℕ} {i : ℕ} → StartsSoFar δ m x L L' i → 4 ≤ i → WithStarts δ m x L L'
-  all-starts S h = record { size = S.size; starts = λ k l. S.starts k (omega arith); before = S.before; behind = S.behind }
-
 -- and the targets of these are counted
 pub record CountedSoFar (δ : Delta) (m : ℕ) (x : State) (L L' : List ℕ) (so_far i : ℕ) : Type 0 where
   pub inside : i ≤ 4
@@ -75,13 +70,6 @@ pub record CountedSoFar (δ : Delta) (m : ℕ) (x : State) (L L' : List ℕ) (so
   pub starts : StartsSoFar δ m x L L' i
 
 module _ {δ : Delta} {m : ℕ} {x : State} {L : List ℕ} where
-  pub none-counted : {before : ℕ} → before ≡ first_place δ x → CountedSoFar δ m x L L before 0
-  none-counted e = record {
-    inside = omega arith;
-    counted = let first : 64 * (4 * x + 0) ≡ 256 * x = omega arith in rw first e;
-    starts = no_starts;
-  }
-
   pub one-counted : {L' : List ℕ} {so_far i r : ℕ} → CountedSoFar δ m x L L' so_far i → i < 4 → 4 * (m + 1) + 4 * suc x ≤ length L
       → r ≡ ones (set_word δ (4 * x + i)) → CountedSoFar δ m x L (set L' (4 * (m + 1) + (4 * x + i)) so_far) (so_far + r) (i + 1)
   one-counted {L'} {so_far} {i} C h room e = record {
@@ -90,18 +78,12 @@ module _ {δ : Delta} {m : ℕ} {x : State} {L : List ℕ} where
     starts = one-start C.starts h room C.counted;
   }
 
-  pub all-counted : {L' : List ℕ} {so_far i : ℕ} → CountedSoFar δ m x L L' so_far i → 4 ≤ i
-      → (so_far ≡ first_place δ (suc x)) × WithStarts δ m x L L'
-  all-counted {i = i} C h =
-      let last : 64 * (4 * x + i) ≡ 256 * suc x = omega (arith, C.inside) in
-      (rw last at C.counted, all-starts C.starts h)
-
 -- ── One arrow or two ───────────────────────────────────────────────────────
 
--- a test adds one at most
-pub one_at_most : (b : Bool) → cond b 1 0 ≤ 1
-one_at_most true = omega arith
-one_at_most false = omega arith
+-- a test as code adds it
+pub test_added : (before : ℕ) {r : ℕ} (b : Bool) → r ≡ from_bool b → before + r ≡ before + cond b 1 0
+test_added before true e = ap (λ (n : ℕ). before + n) e
+test_added before false e = ap (λ (n : ℕ). before + n) e
 
 module _ {p : Word} {L : List ℕ} {m : ℕ} (F : FirstForm p L m) {x : State} (h : x < m) where
   abbrev c : Letter
@@ -114,7 +96,7 @@ module _ {p : Word} {L : List ℕ} {m : ℕ} (F : FirstForm p L m) {x : State} (
       targets-length (oracle p) (arrow_number x d)
       ∙ count-split (there (oracle p)) (256 * x) d
       ∙ ap₂ (λ (a b : ℕ). a + b) (sym (targets-length (oracle p) (256 * x)))
-      (count_same _ _ d (λ e k. ap is_arrow (arrow_of (oracle p) x e (omega arith))) ∙ counted)
+      (count_same _ _ d (λ e k. ap is_arrow (arrow_at-number (oracle p) x e (omega arith))) ∙ counted)
 
   pub lone_start : length (out_targets p x) ≡ 1 → (d : ℕ) → d ≤ 256
       → length (targets_up_to (oracle p) (arrow_number x d)) ≡ first_place (oracle p) x + cond (ltb c d) 1 0

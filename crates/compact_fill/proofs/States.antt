@@ -14,7 +14,7 @@ use Rattle.oracle.specs.Arrows.{State}
 use Rattle.oracle.specs.SuffixRule.{oracle}
 use Rattle.oracle.proofs.Targets.{never}
 use Rattle.chains.specs.Letters.{word_in}
-use Rattle.compact.specs.Compact.{sets_room, arrow_number, arrow_at, targets_up_to, sets_from}
+use Rattle.compact.specs.Compact.{arrow_number, arrow_at, targets_up_to, sets_from}
 use Rattle.compact.proofs.Targets.{targets_rise, target-inside, target_at, target_of_lem}
 use Rattle.compact.proofs.Theorems.{no_arrow}
 use Rattle.compact_fill.specs.Filling.{first_place, FirstForm, Words64, NoneOf, WithState, FilledState, AllStates}
@@ -99,18 +99,17 @@ module _ {p : Word} {m : ℕ} {L : List ℕ} where
       now_first = first_stays F A.size A.kept
 
       pub state-asked : {Z : List ℕ} → x < m → MarkedUpTo (oracle p) m Z x
-          → (FirstForm (word_in L' m) L' m × (x < m))
-          × ((length Z ≡ sets_room m) × Words64 Z × NoneOf x Z × (before ≡ first_place (oracle (word_in L' m)) x))
-      state-asked h U = rw (own-word now_first) ((now_first, h), (U.size, U.small, next-empty U, A.counted))
+          → (x < m) × Words64 Z × NoneOf x Z × (before ≡ first_place (oracle (word_in L' m)) x)
+      state-asked h U = rw (own-word now_first) (h, U.small, next-empty U, A.counted)
 
       pub state-told : {Z Z' L'' : List ℕ} {next : ℕ} → x < m → MarkedUpTo (oracle p) m Z x
           → FilledState (oracle (word_in L' m)) m x Z L' Z' L'' next
-          → (x + 1 ≤ m) × MarkedUpTo (oracle p) m Z' (x + 1) × FilledUpTo p m L L'' next (x + 1)
+          → MarkedUpTo (oracle p) m Z' (x + 1) × FilledUpTo p m L L'' next (x + 1)
       state-told {Z} {Z'} {L''} {next} h U says = by (rw (own-word now_first) at says)
         where
           by : FilledState (oracle p) m x Z L' Z' L'' next
-              → (x + 1 ≤ m) × MarkedUpTo (oracle p) m Z' (x + 1) × FilledUpTo p m L L'' next (x + 1)
-          by says = (omega arith, state_more U says.1, state-filled h says.0 says.2)
+              → MarkedUpTo (oracle p) m Z' (x + 1) × FilledUpTo p m L L'' next (x + 1)
+          by says = (state_more U says.1, state-filled h says.0 says.2)
 
       pub all_told : {Z : List ℕ} → x ≡ m → MarkedUpTo (oracle p) m Z x
           → (before ≡ first_place (oracle p) m) × (Z ≡ sets_from (oracle p) m) × AllStates (oracle p) m L L'

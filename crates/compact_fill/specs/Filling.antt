@@ -20,6 +20,7 @@
 --   FilledState δ m x Z L Z' L' next
 --                        Z' is Z with the set of x, L' is L with its starts and targets, and `next` is where those of the next state start
 --   AllStates δ m L L'   L' is L with the starts of all states but the last, and with all targets
+--   FilledRows δ m L L'  L' is that with the starts of the last one
 use Rattle.std.specs.Prelude.{◌≡◌, ◌≢◌, false, ◌||◌, List, ◌∷◌, ℕ, suc, pred, ◌+◌, ◌*◌, ◌/◌, ◌^◌, ◌≤◌, ◌<◌, length, eqb}
 use Rattle.std.proofs.Math.Option.{some}
 use Rattle.words.specs.Lists.{at}
@@ -100,3 +101,8 @@ pub record AllStates (δ : Delta) (m : ℕ) (L L' : List ℕ) : Type 0 where
   pub starts : (i : ℕ) → i < 4 * m → at L' (4 * (m + 1) + i) ≡ length (targets_up_to δ (64 * i))
   pub targets : (i : ℕ) → i < 2 * (m + 1) → at L' (8 * (m + 1) + i) ≡ at (targets_up_to δ (256 * (m + 1))) i
   pub before : (i : ℕ) → i < 4 * (m + 1) → at L' i ≡ at L i
+
+pub record FilledRows (δ : Delta) (m : ℕ) (L L' : List ℕ) : Type 0 where
+  pub but_last : List ℕ
+  pub states : AllStates δ m L but_last
+  pub last : WithStarts δ m m but_last L'

@@ -3,32 +3,32 @@
 use mathlib.Core.Path.{◌≡◌, refl, sym, ap, ◌∙◌}
 use mathlib.Core.Logic.{by_cases}
 use mathlib.Core.Bool.{Bool, true, false}
-use mathlib.Core.Option.{Option, none, some}
+use mathlib.Core.Option.{some}
 use mathlib.Core.List.{List}
 use Prim.Native.Nat.{ℕ, ◌+◌, ◌*◌, ◌≤◌, ◌<◌}
 use native.Mathlib.Nat.{add-zero}
 use native.Mathlib.Decide.{dec_le, dec_lt}
 use native.Mathlib.Omega.{arith}
-use lib.ListN.{length, set, length-set}
-use lib.Seq.{get_or-set_same, get_or-set_other}
-use borrow.Author.Count.{below_more}
+use lib.ListN.{length}
 use Rattle.words.specs.Lists.{at}
 use Rattle.words.specs.Words.{Letter}
+use Rattle.words.specs.Answers.{MaybeState, arrow_to}
+use Rattle.words.proofs.Answers.{arrow-told}
 use Rattle.oracle.specs.Arrows.{State, Delta}
 use Rattle.oracle.proofs.Targets.{never}
-use Rattle.prepared.specs.Prepared.{told}
+use Rattle.prepared.specs.Prepared.{told, leads, FewStates}
 use Rattle.prepared.specs.Filling.{Copied}
-use Rattle.prepared.proofs.Told.{told-some, told_none, tells-some}
+use Rattle.prepared.proofs.Told.{told-some}
 use Rattle.compact.specs.Compact.{in_set, how_many, read_compact}
 use Rattle.compact.specs.CompactFormed.{CompactFormed}
 use Rattle.compact.proofs.ReadBack.{beyond_bytes}
 use Rattle.compact.proofs.Looking.{look_far, look_none, look_inside, look_some}
-use Rattle.compact_search.specs.FewStates.{FirstTargets, FewStates, Column}
+use Rattle.compact_search.specs.Preparing.{FirstTargets}
 
 -- ── One entry ──────────────────────────────────────────────────────────────
 
 module _ {Z L : List ℕ} {m : ℕ} (F : CompactFormed Z L m) (x : State) (c : Letter) where
-  target-inside : {y : State} → read_compact m Z L x c ≡ some y → y ≤ m
+  pub target-inside : {y : State} → read_compact m Z L x c ≡ some y → y ≤ m
   target-inside {y} e = by_cases (dec_lt c 256)
       (λ b. by_cases (dec_le m x) (λ h. never (look_far F x c b h) e) (λ h. by b (omega arith) (in_set Z x c) refl))
       (λ b. never (beyond_bytes m Z L x c (omega arith)) e)
@@ -45,10 +45,6 @@ module _ {Z L : List ℕ} {m : ℕ} (F : CompactFormed Z L m) (x : State) (c : L
   pub target-tells : {y : State} → read_compact m Z L x c ≡ some y → told y ≡ read_compact m Z L x c
   target-tells {y} e = told-some y (λ q. omega (arith, target-inside e, F.small)) ∙ sym e
 
--- none
-pub nothing_tells : {arrow : Option State} → arrow ≡ none → told 65535 ≡ arrow
-nothing_tells e = told_none 65535 refl ∙ sym e
-
 -- ── A column of them ───────────────────────────────────────────────────────
 
 -- of n entries, the first i tell their arrows
@@ -56,37 +52,16 @@ pub record Telling (δ : Delta) (c : Letter) (n : ℕ) (F : List ℕ) (i : ℕ) 
   pub size : length F ≡ n
   pub tells : (x : State) → x < i → told (at F x) ≡ δ x c
 
-module _ {δ : Delta} {c : Letter} {n : ℕ} {F : List ℕ} where
-  pub telling_start : length F ≡ n → Telling δ c n F 0
-  telling_start e = record { size = e; tells = λ x h. absurd (omega arith) }
-
-  -- one more
-  pub telling_step : {i : ℕ} → Telling δ c n F i → i < n → (v : ℕ) → told v ≡ δ i c → Telling δ c n (set F i v) (i + 1)
-  telling_step {i} T h v new = record {
-    size = simp length-set T.size;
-    tells = below_more _ i (λ x l. ap told (kept x l) ∙ T.tells x l) (ap told here ∙ new);
-  }
-    where
-      kept : (x : ℕ) → x < i → at (set F i v) x ≡ at F x
-      kept x l = get_or-set_other F i x v 0 (λ q. omega arith)
-
-      here : at (set F i v) i ≡ v
-      here = get_or-set_same F i v 0 (omega (arith, T.size))
-
-  -- all
-  pub telling_column : {i : ℕ} → Telling δ c n F i → n ≤ i → Column δ c F
-  telling_column T h = record { arrows = λ x l. T.tells x (omega (arith, T.size)) }
-
 -- ── The first ones ─────────────────────────────────────────────────────────
 
 -- of all columns, copied: they tell the arrows of state 0
-pub copied_first : {Z L C D F : List ℕ} {m rows : ℕ} → CompactFormed Z L m → FewStates (read_compact m Z L) C D rows → 0 < rows
-    → Copied C D F 256 → FirstTargets (read_compact m Z L) m F
+pub copied_first : {Z L C D : List ℕ} {F : List MaybeState} {m rows : ℕ} → CompactFormed Z L m → FewStates (read_compact m Z L) C D rows
+    → 0 < rows → Copied C D F 256 → FirstTargets (read_compact m Z L) m F
 copied_first {Z} {L} {C} {D} {F} {m} W R h K = record {
   size = K.size;
   arrows = tells;
-  states = λ c b f. target-inside W 0 c (tells-some (tells c b) f);
+  states = λ c b x e. target-inside W 0 c (arrow-told _ _ x (tells c b) e);
 }
   where
-    tells : (c : Letter) → c < 256 → told (at F c) ≡ read_compact m Z L 0 c
-    tells c b = ap told (K.same c b ∙ ap (at D) (sym (add-zero (at C c)))) ∙ R.arrows 0 h c b
+    tells : (c : Letter) → c < 256 → leads F c ≡ arrow_to (read_compact m Z L 0 c)
+    tells c b = K.same c b ∙ ap arrow_to (ap told (ap (at D) (sym (add-zero (at C c)))) ∙ R.arrows 0 h c b)

@@ -1,10 +1,14 @@
 -- LAYING OUT THE COLUMNS, letter by letter: each is written behind those before it, so these stay as they are, and so does the empty one.
--- A letter without an arrow from state 0 has none, and that is what the empty column tells.
+-- A letter without an arrow from state 0 has none, and that is what the empty column tells. There is room for the columns that are counted
+-- (`room_there`).
 use mathlib.Core.Path.{◌≡◌, sym, ap, ◌∙◌}
 use mathlib.Core.Logic.{◌≢◌, by_cases}
 use mathlib.Core.Option.{none}
 use mathlib.Core.List.{List}
-use Prim.Native.Nat.{ℕ, ◌+◌, ◌-◌, ◌≤◌, ◌<◌}
+use mathlib.Core.Bool.{Bool, true, false}
+use Prim.Native.Nat.{ℕ, ◌+◌, ◌-◌, ◌*◌, ◌≤◌, ◌<◌}
+use native.Mathlib.Nat.{mul-le-mul_left}
+use native.Mathlib.Numerals.{add-one}
 use native.Mathlib.Decide.{ℕ_discrete}
 use native.Mathlib.Omega.{arith}
 use lib.ListN.{length, set, take, replicate, length-set, length-replicate, get_or-append, get_or-replicate}
@@ -16,9 +20,33 @@ use Rattle.words.specs.Words.{Letter}
 use Rattle.words.proofs.Lists.{at-behind}
 use Rattle.oracle.specs.Arrows.{State, Delta}
 use Rattle.prepared.specs.Prepared.{told}
-use Rattle.prepared.specs.Filling.{Zeros}
 use Rattle.prepared.proofs.Told.{told_none}
-use Rattle.compact_search.specs.FewStates.{FewStates, Column, Untold}
+use Rattle.compact.specs.Compact.{how_many}
+use Rattle.compact.proofs.Counting.{count-passes}
+use Rattle.compact_search.specs.Preparing.{Column, Untold}
+
+-- ── Room ───────────────────────────────────────────────────────────────────
+
+-- before letter i there are the empty column and one for each letter that passes the test f, of so many rows
+module _ (f : ℕ → Bool) (rows : ℕ) where
+  module _ {next i : ℕ} (e : next ≡ rows * (how_many f i + 1)) where
+    -- it does not pass
+    pub counted_same : f i ≡ false → next ≡ rows * (how_many f (i + 1) + 1)
+    unfolding how_many
+    counted_same q = rw (add-one i, q) (omega (arith, e))
+
+    -- it does, and there is room for its column
+    module _ (q : f i ≡ true) where
+      pub counted_column : next + rows ≡ rows * (how_many f (i + 1) + 1)
+      unfolding how_many
+      counted_column = rw (add-one i, q) (omega (arith, e))
+
+      pub room_there : rows * (how_many f 256 + 1) ≤ 1024 → i < 256 → next + rows ≤ 1024
+      room_there room h =
+          let more : how_many f i + 2 ≤ how_many f 256 + 1 = omega (arith, count-passes f i 256 h q) in
+          omega (arith, e, mul-le-mul_left rows more)
+
+-- ── The columns ────────────────────────────────────────────────────────────
 
 -- the entries as they are made
 pub untold-made : (n : ℕ) → Untold n (replicate n 65535)
@@ -36,29 +64,7 @@ pub record Laying (δ : Delta) (rows : ℕ) (C D : List ℕ) (next i : ℕ) : Ty
   pub arrows : (c : Letter) → c < i → (x : State) → x < rows → told (at D (at C c + x)) ≡ δ x c
 
 module _ {δ : Delta} {rows : ℕ} {C D : List ℕ} where
-  -- no letter is passed
-  pub laying_start : rows ≤ 1024 → Zeros 256 C → Untold 1024 D → Laying δ rows C D rows 0
-  laying_start few Z U = record {
-    letters = Z.size;
-    entries = U.size;
-    behind = omega arith;
-    most = few;
-    before = λ c. omega (arith, Z.zeros c);
-    ahead = λ c _. Z.zeros c;
-    empty = λ x h. U.untold x (omega arith);
-    arrows = λ c h. absurd (omega arith);
-  }
-
   module _ {next i : ℕ} (Y : Laying δ rows C D next i) where
-    -- all are
-    pub laying_end : 256 ≤ i → FewStates δ C D rows
-    laying_end h = record {
-      size = Y.letters;
-      few = omega (arith, Y.behind, Y.most);
-      inside = λ x l c b. omega (arith, Y.before c, Y.most, Y.entries);
-      arrows = λ x l c b. Y.arrows c (omega arith) x l;
-    }
-
     -- the next one has no arrow, as the empty column tells
     pub laying_none : ((x : State) → δ x i ≡ none) → Laying δ rows C D next (i + 1)
     laying_none no_arrow = record {

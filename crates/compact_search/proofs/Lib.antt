@@ -1,3 +1,2 @@
 pub mod Entries
 pub mod Laying
-pub mod Starting

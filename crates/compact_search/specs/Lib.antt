@@ -1,1 +1,1 @@
-pub mod FewStates
+pub mod Preparing

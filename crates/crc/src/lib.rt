@@ -15,7 +15,7 @@ pub fn half_byte(r: u64) -> u64
     ensures { result ≡ shifts 4 r }
 {
     let low = (r % 16) as usize;
-    r / 16 ^ (HALF_BYTES[low] as u64)
+    r / 16 ^ u64::from(HALF_BYTES[low])
 }
 
 // The check of the bytes.
@@ -23,13 +23,8 @@ pub fn crc(bytes: &[u8]) -> u16
     ensures { result ≡ check bytes.now }
 {
     let mut r: u64 = 0;
-    let mut i = 0;
-    while i < bytes.len() {
-        let b = bytes[i];
-        let x = r ^ (b as u64);
-        let y = half_byte(x);
-        r = half_byte(y);
-        i += 1;
+    for &b in bytes {
+        r = half_byte(half_byte(r ^ u64::from(b)));
     }
     r as u16
 }

@@ -1,69 +1,85 @@
 -- THE BYTES AHEAD: feeding the bits of six bytes, or of one, is taking them into the register of 64 bits.
-use mathlib.Core.Path.{◌≡◌, sym, ap, ap₂, ◌∙◌}
-use mathlib.Core.List.{List, []}
-use Prim.Native.Nat.{ℕ, zero, suc, ◌+◌, ◌*◌, ◌≤◌, ◌<◌}
-use native.Mathlib.Nat.{add-zero, add_comm}
+use mathlib.Core.Path.{◌≡◌, refl, sym, ap, ap₂, ◌∙◌}
+use mathlib.Core.List.{List, [], ◌∷◌, ◌++◌}
+use Prim.Native.Nat.{ℕ, zero, suc, ◌+◌, ◌*◌, ◌/◌, ◌%◌, ◌^◌, ◌<◌}
+use native.Mathlib.Nat.{mod-lt, zero-add, suc-add, pow-suc, mul_assoc}
 use native.Mathlib.Omega.{arith}
-use lib.Bits.{bit_xor, xor_comm, xor_zero_r, xor_shifted}
+use lib.Arith.{lt-one, digits_div, digits_mod}
 use lib.Dec.{lit<}
-use lib.ListN.{length, take, drop, take-append-drop}
+use lib.ListN.{length, take, drop, take-append-drop, drop_of_length-le}
+use lib.Seq.{take-add}
+use Rattle.std.specs.List.{concat}
+use Rattle.std.specs.Simd.{first_chunks}
+use Rattle.std.proofs.lemmas.List.{drop_more}
 use Rattle.words.specs.Lists.{at}
 use Rattle.number.specs.Number.{Bytes}
 use Rattle.crc.specs.Check.{shifts, fed, digits, bits_of, check}
-use Rattle.crc.proofs.Xor.{xor_assoc}
-use Rattle.crc.proofs.Shifts.{shifts_linear, shifts_back}
-use Rattle.crc.proofs.Bits.{digits_bits, bits_left, bits_append}
+use Rattle.crc.proofs.Xor.{two_pos}
+use Rattle.crc.proofs.Bits.{digits_bits, bits_left, bits_append, half_lt}
 use Rattle.crc.proofs.Fed.{byte_ahead, fed-append, fed-digits, fed-small}
-use Rattle.crc_wide.specs.Wide.{six_at, taken_six, taken_byte, sixteen_past}
-use Rattle.crc_wide.proofs.Folding.{shifts-add, six_law, byte_law, sixteen_law}
+use Rattle.crc_wide.specs.Wide.{taken_six, taken_byte, sixteen_past}
+use Rattle.crc_wide.proofs.Folding.{six_law, byte_law, sixteen_law}
 
--- the number of k bytes
-unfoldable num_at : ℕ → List ℕ → ℕ → ℕ
-num_at zero l i = 0
-num_at (suc k) l i = at l i + num_at k l (i + 1) * 256
+-- ── The number of six bytes ────────────────────────────────────────────────
 
-byte_in : (k r b c : ℕ) → b < 256 → shifts (8 + k) (bit_xor r (b + c * 256)) ≡ shifts k (bit_xor (shifts 8 (bit_xor r b)) c)
-byte_in k r b c h =
-    shifts-add 8 k (bit_xor r (b + c * 256))
-    ∙ ap (λ x. shifts k (shifts 8 (bit_xor r x))) (add_comm b (c * 256) ∙ sym (xor_shifted c 8 b h) ∙ xor_comm (c * 256) b)
-    ∙ ap (λ x. shifts k (shifts 8 x)) (sym (xor_assoc r b (c * 256)))
-    ∙ ap (shifts k) (shifts_linear 8 (bit_xor r b) (c * 256) ∙ ap (bit_xor (shifts 8 (bit_xor r b))) (shifts_back 8 c))
+digits_join : (j k b m : ℕ) → b < 2 ^ j → digits (j + k) (b + m * 2 ^ j) ≡ digits j b ++ digits k m
+unfolding digits
+digits_join zero k b m h = ap₂ digits (zero-add k) (omega (arith, lt-one h))
+digits_join (suc j) k b m h =
+    let double : m * 2 ^ suc j ≡ m * 2 ^ j * 2 = ap (λ p. m * p) (pow-suc 2 j) ∙ sym (mul_assoc m (2 ^ j) 2) in
+    let half = b / 2 + m * 2 ^ j in
+    let e : b + m * 2 ^ suc j ≡ half * 2 + b % 2 = omega arith in
+    let bit = mod-lt b two_pos in
+    ap₂ digits (suc-add j k) e
+    ∙ ap₂ ◌∷◌ (digits_mod half bit) (ap (digits (j + k)) (digits_div half bit) ∙ digits_join j k (b / 2) m (half_lt j b h))
 
-module _ (l : List ℕ) (bytes : Bytes l) where
-  one-ahead : (r i : ℕ) → i < length l → fed r (bits_of (drop i l)) ≡ fed (shifts 8 (bit_xor r (at l i))) (bits_of (drop (i + 1) l))
-  unfolding shifts
-  one-ahead r i h = byte_ahead r l i h (bytes i)
+-- the number of bytes, lowest first
+unfoldable number : List ℕ → ℕ
+number [] = 0
+number (b ∷ l) = b + number l * 2 ^ 8
 
-  bytes-ahead : (k r i : ℕ) → i + k ≤ length l
-      → fed r (bits_of (drop i l)) ≡ fed (shifts (k * 8) (bit_xor r (num_at k l i))) (bits_of (drop (i + k) l))
-  unfolding num_at shifts
-  bytes-ahead zero r i h = ap₂ (λ x j. fed x (bits_of (drop j l))) (sym (xor_zero_r r)) (sym (add-zero i))
-  bytes-ahead (suc k) r i h =
-      let s = shifts 8 (bit_xor r (at l i)) in
-      let e : i + 1 + k ≡ i + suc k = omega arith in
-      let n : 8 + k * 8 ≡ suc k * 8 = omega arith in
-      one-ahead r i (omega arith)
-      ∙ bytes-ahead k s (i + 1) (omega arith)
-      ∙ ap₂ (λ x j. fed x (bits_of (drop j l)))
-      (sym (byte_in (k * 8) r (at l i) (num_at k l (i + 1)) (bytes i)) ∙ ap (λ m. shifts m (bit_xor r (num_at (suc k) l i))) n) e
+digits-number : (l : List ℕ) → Bytes l → digits (length l * 8) (number l) ≡ bits_of l
+unfolding number bits_of digits
+digits-number [] h = refl
+digits-number (b ∷ l) h =
+    ap (λ k. digits k (b + number l * 2 ^ 8)) (omega arith)
+    ∙ digits_join 8 (length l * 8) b (number l) (h 0)
+    ∙ ap (λ u. digits 8 b ++ u) (digits-number l (λ i. h (suc i)))
 
-  -- the register, settled and fed with what is ahead, stays what it is
-  pub six_taken : (acc i : ℕ) → i + 6 ≤ length l
-      → fed (shifts 64 (taken_six acc (six_at l i))) (bits_of (drop (i + 6) l)) ≡ fed (shifts 64 acc) (bits_of (drop i l))
-  unfolding six_at num_at
-  six_taken acc i h =
-      let e2 : i + 1 + 1 ≡ i + 2 = omega arith in
-      let e3 : i + 2 + 1 ≡ i + 3 = omega arith in
-      let e4 : i + 3 + 1 ≡ i + 4 = omega arith in
-      let e5 : i + 4 + 1 ≡ i + 5 = omega arith in
-      let six : num_at 6 l i ≡ six_at l i = rw (e2, e3, e4, e5, add-zero (at l (i + 5))) in
-      ap (λ x. fed x (bits_of (drop (i + 6) l)))
-      (six_law acc (six_at l i) ∙ ap (λ c. shifts 48 (bit_xor (shifts 64 acc) c)) (sym six))
-      ∙ sym (bytes-ahead 6 (shifts 64 acc) i h)
+six_of : (s : List ℕ) → length s ≡ 6 → s ≡ at s 0 ∷ at s 1 ∷ at s 2 ∷ at s 3 ∷ at s 4 ∷ at s 5 ∷ []
+six_of s h =
+    drop_more s 0 0 (omega arith)
+    ∙ ap (λ l. at s 0 ∷ l) (drop_more s 1 0 (omega arith)
+    ∙ ap (λ l. at s 1 ∷ l) (drop_more s 2 0 (omega arith)
+    ∙ ap (λ l. at s 2 ∷ l) (drop_more s 3 0 (omega arith)
+    ∙ ap (λ l. at s 3 ∷ l) (drop_more s 4 0 (omega arith)
+    ∙ ap (λ l. at s 4 ∷ l) (drop_more s 5 0 (omega arith) ∙ ap (λ l. at s 5 ∷ l) (drop_of_length-le s {i = 6} (omega arith)))))))
 
-  pub byte_taken : (acc i : ℕ) → i < length l
-      → fed (shifts 64 (taken_byte acc (at l i))) (bits_of (drop (i + 1) l)) ≡ fed (shifts 64 acc) (bits_of (drop i l))
-  byte_taken acc i h = ap (λ x. fed x (bits_of (drop (i + 1) l))) (byte_law acc (at l i)) ∙ sym (one-ahead (shifts 64 acc) i h)
+pub digits_of-six : (s : List ℕ) (n : ℕ) → length s ≡ 6 → Bytes s
+    → n ≡ at s 0 + at s 1 * 256 + at s 2 * 65536 + at s 3 * 16777216 + at s 4 * 4294967296 + at s 5 * 1099511627776
+    → digits 48 n ≡ bits_of s
+unfolding number
+digits_of-six s n h b e =
+    let size : 48 ≡ length s * 8 = omega arith in
+    let whole : n ≡ number (at s 0 ∷ at s 1 ∷ at s 2 ∷ at s 3 ∷ at s 4 ∷ at s 5 ∷ []) = omega (arith, e) in
+    ap₂ digits size (whole ∙ ap number (sym (six_of s h))) ∙ digits-number s b
+
+-- ── What is taken ──────────────────────────────────────────────────────────
+
+-- the register, settled and fed with what is ahead, stays what it is
+pub six_taken : (acc n : ℕ) (s v : List ℕ) → digits 48 n ≡ bits_of s → n < 281474976710656
+    → fed (shifts 64 (taken_six acc n)) (bits_of v) ≡ fed (shifts 64 acc) (bits_of (s ++ v))
+six_taken acc n s v e h =
+    let r = shifts 64 acc in
+    ap (λ x. fed x (bits_of v)) (six_law acc n ∙ sym (fed-digits 48 r n h) ∙ ap (fed r) e)
+    ∙ sym (ap (fed r) (bits_append s v) ∙ fed-append r (bits_of s) (bits_of v))
+
+pub byte_taken : (acc : ℕ) (l : List ℕ) (i : ℕ) → i < length l → at l i < 256
+    → fed (shifts 64 (taken_byte acc (at l i))) (bits_of (drop (i + 1) l)) ≡ fed (shifts 64 acc) (bits_of (drop i l))
+unfolding shifts
+byte_taken acc l i h b = ap (λ x. fed x (bits_of (drop (i + 1) l))) (byte_law acc (at l i)) ∙ sym (byte_ahead (shifts 64 acc) l i h b)
+
+-- ── Settling ───────────────────────────────────────────────────────────────
 
 -- a register of 64 bits settles in 16
 pub settled_small : (acc : ℕ) → acc < 18446744073709551616 → shifts 64 acc < 65536
@@ -74,6 +90,13 @@ settled_small acc h =
 pub settled_by : (acc : ℕ) → shifts 64 acc ≡ shifts 4 (shifts 4 (shifts 4 (shifts 4 (sixteen_past (sixteen_past (sixteen_past acc))))))
 unfolding shifts
 settled_by acc = sixteen_law 32 acc ∙ sixteen_law 16 (sixteen_past acc) ∙ sixteen_law 0 (sixteen_past (sixteen_past acc))
+
+-- ── Both parts ─────────────────────────────────────────────────────────────
+
+pub concat-sixes : (k : ℕ) (l : List ℕ) → concat (first_chunks 6 k l) ≡ take (k * 6) l
+concat-sixes zero l = refl
+concat-sixes (suc k) l =
+    ap (λ u. take 6 l ++ u) (concat-sixes k (drop 6 l)) ∙ sym (take-add 6 (k * 6) l) ∙ ap (λ n. take n l) (omega arith)
 
 -- what stands in two parts
 pub in_parts : (l : List ℕ) (i : ℕ) → fed (check (take i l)) (bits_of (drop i l)) ≡ check l

@@ -1,18 +1,13 @@
 -- SEVERAL BYTES AT ONCE, in a register of 64 bits. Shifting is carry-less multiplication: k shifts of v are v times what k shifts make of
 -- 1, but for a multiple of the polynomial, which further shifts take away. No table is read for it.
 --
---   six_at l i          the number of the six bytes of l from place i on, lowest first
 --   fold8 v ..          v times what 8, 16 and 48 shifts make of 1
 --   past k f x          k shifts of x, but for a multiple of the polynomial, f being the fold by k
 --   taken_six acc c     the register after the six bytes whose number is c
 --   taken_byte acc b    the register after the byte b
 --   sixteen_past x      sixteen shifts of x, but for a multiple of the polynomial
-use Rattle.std.specs.Prelude.{List, ℕ, ◌+◌, ◌*◌, ◌/◌, ◌%◌, ◌^◌}
+use Rattle.std.specs.Prelude.{ℕ, ◌*◌, ◌/◌, ◌%◌, ◌^◌}
 use Rattle.std.specs.Int.Bits.{bit_xor}
-use Rattle.words.specs.Lists.{at}
-
-unfoldable pub six_at : List ℕ → ℕ → ℕ
-six_at l i = at l i + (at l (i + 1) + (at l (i + 2) + (at l (i + 3) + (at l (i + 4) + at l (i + 5) * 256) * 256) * 256) * 256) * 256
 
 unfoldable pub fold8 : ℕ → ℕ
 fold8 v = bit_xor (bit_xor (bit_xor (bit_xor v (v * 2 ^ 6)) (v * 2 ^ 7)) (v * 2 ^ 14)) (v * 2 ^ 15)

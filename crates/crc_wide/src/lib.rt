@@ -1,28 +1,17 @@
 // The check of a string of bytes, six bytes at a time in a register of 64 bits. Serves the files.
 #![tactic(auto)]
 
-ghost use Rattle.std.specs.Prelude.{◌≡◌, ◌+◌, ◌*◌, ◌%◌, ◌^◌, ◌≤◌, ◌<◌, length};
-ghost use Rattle.crc.specs.Check.{shifts, fed, bits_of, check};
-ghost use Rattle.crc_wide.specs.Wide.{six_at, taken_six, taken_byte, sixteen_past};
-
-fn wide(b: u8) -> u64
-    ensures { (result ≡ b) × (result < 256) }
-{
-    b as u64
-}
+ghost use Rattle.std.specs.Prelude.{◌≡◌, ◌<◌};
+ghost use Rattle.std.specs.List.{concat};
+ghost use Rattle.crc.specs.Check.{shifts, fed, digits, bits_of, check};
+ghost use Rattle.crc_wide.specs.Wide.{taken_six, taken_byte, sixteen_past};
 
 // The number of six bytes, lowest first.
-fn six_at(bytes: &[u8], at: usize) -> u64
-    requires { at + 6 ≤ length bytes.now }
-    ensures { (result ≡ six_at bytes.now at) × (result < 281474976710656) }
+fn number_of(six: &[u8; 6]) -> u64
+    ensures { (digits 48 result ≡ bits_of six.now) × (result < 281474976710656) }
 {
-    let a = wide(bytes[at]);
-    let b = wide(bytes[at + 1]);
-    let c = wide(bytes[at + 2]);
-    let d = wide(bytes[at + 3]);
-    let e = wide(bytes[at + 4]);
-    let f = wide(bytes[at + 5]);
-    a + (b + (c + (d + (e + f * 256) * 256) * 256) * 256) * 256
+    let [a, b, c, d, e, f] = *six;
+    u64::from_le_bytes([a, b, c, d, e, f, 0, 0])
 }
 
 // Six bytes go into the register.
@@ -41,20 +30,16 @@ fn take_byte(acc: u64, b: u8) -> u64
 {
     let v = acc % 256;
     let folded = v ^ v * 64 ^ v * 128 ^ v * 16384 ^ v * 32768;
-    acc / 256 ^ folded ^ (b as u64) * 72057594037927936
+    acc / 256 ^ folded ^ u64::from(b) * 72057594037927936
 }
 
-// The register after bytes whose number is a multiple of six.
-fn by_sixes(bytes: &[u8]) -> u64
-    requires { length bytes.now % 6 ≡ 0 }
-    ensures { shifts 64 result ≡ check bytes.now }
+// The register after sixes of bytes.
+fn by_sixes(sixes: &[[u8; 6]]) -> u64
+    ensures { shifts 64 result ≡ check (concat sixes.now) }
 {
     let mut acc: u64 = 0;
-    let mut i = 0;
-    while i < bytes.len() {
-        let six = six_at(bytes, i);
-        acc = take_six(acc, six);
-        i += 6;
+    for six in sixes {
+        acc = take_six(acc, number_of(six));
     }
     acc
 }
@@ -64,10 +49,8 @@ fn by_bytes(start: u64, bytes: &[u8]) -> u64
     ensures { shifts 64 result ≡ fed (shifts 64 start) (bits_of bytes.now) }
 {
     let mut acc = start;
-    let mut i = 0;
-    while i < bytes.len() {
-        acc = take_byte(acc, bytes[i]);
-        i += 1;
+    for &b in bytes {
+        acc = take_byte(acc, b);
     }
     acc
 }
@@ -84,24 +67,17 @@ fn sixteen_past(x: u64) -> u64
 fn settled(acc: u64) -> u16
     ensures { result ≡ shifts 64 acc }
 {
-    let a = sixteen_past(acc);
-    let b = sixteen_past(a);
-    let c = sixteen_past(b);
-    let d = crc::half_byte(c);
-    let e = crc::half_byte(d);
-    let f = crc::half_byte(e);
-    crc::half_byte(f) as u16
+    let folded = sixteen_past(sixteen_past(sixteen_past(acc)));
+    crc::half_byte(crc::half_byte(crc::half_byte(crc::half_byte(folded)))) as u16
 }
 
 // The check of the bytes.
 pub fn check(bytes: &[u8]) -> u16
     ensures { result ≡ check bytes.now }
 {
-    let n = bytes.len();
-    if n < 8 {
+    if bytes.len() < 8 {
         return crc::crc(bytes);
     }
-    let whole = n - n % 6;
-    let acc = by_sixes(&bytes[..whole]);
-    settled(by_bytes(acc, &bytes[whole..]))
+    let (sixes, rest) = bytes.as_chunks::<6>();
+    settled(by_bytes(by_sixes(sixes), rest))
 }

@@ -22,8 +22,9 @@ use Rattle.compact.proofs.ReadBack.{reads-some, reads_compact}
 use Rattle.compact.proofs.Few.{targets-few}
 use Rattle.compact.proofs.Theorems as Compact
 use Rattle.answers.specs.Answers.{refused, refuses_only, short_room}
-use Rattle.answers.specs.declared.SizeAnswer.{SizeAnswer}
-use Rattle.answers.specs.declared.TallyAnswer.{TallyAnswer}
+use Rattle.std.specs.Prelude.{Result}
+use Rattle.answers.specs.declared.Refusal.{Refusal}
+use Rattle.finds.specs.declared.Tally.{Tally}
 use Rattle.marks.specs.Build.{build_says}
 use Rattle.marks.specs.Search.{search_says}
 use Rattle.marks.proofs.BuildSays as BaseBuild
@@ -159,11 +160,11 @@ pub of_16_bits : (p : Word) → length p ≤ longest_word → ((i : ℕ) → let
 of_16_bits p h bytes = Compact.compact_entries_small p (omega (arith, h, words_fit)) bytes
 
 -- any two outcomes that a promise allows are equal
-pub build_fixed : (word : Word) (Y T : List ℕ) (r s : SizeAnswer) (A B C D : List ℕ)
+pub build_fixed : (word : Word) (Y T : List ℕ) (r s : Result ℕ Refusal) (A B C D : List ℕ)
     → compact_built r A C ≡ compact_build_says word Y T → compact_built s B D ≡ compact_build_says word Y T → (r ≡ s) × (A ≡ B) × (C ≡ D)
 build_fixed = Build.compact_build_one
 
-pub search_fixed : (word text : Word) (Y T : List ℕ) (F : List Place) (r s : TallyAnswer) (A B C D : List ℕ) (G H : List Place)
+pub search_fixed : (word text : Word) (Y T : List ℕ) (F : List Place) (r s : Result Tally Refusal) (A B C D : List ℕ) (G H : List Place)
     → compact_searched r A C G ≡ compact_search_says word text Y T F → compact_searched s B D H ≡ compact_search_says word text Y T F
     → (r ≡ s) × (A ≡ B) × (C ≡ D) × (G ≡ H)
 search_fixed = Search.compact_search-one

@@ -14,8 +14,9 @@ use Rattle.loaded.specs.Load.{letters}
 use Rattle.loaded.specs.Cases.{Reads, BadLength}
 use Rattle.editions.specs.Editions.{Edition, plain, spell_in}
 use Rattle.editions.specs.EitherCases.{EditionRead, FrontEither}
-use Rattle.answers.specs.declared.SizeAnswer.{SizeAnswer}
-use Rattle.answers.specs.declared.TallyAnswer.{TallyAnswer}
+use Rattle.std.specs.Prelude.{Result}
+use Rattle.answers.specs.declared.Refusal.{Refusal}
+use Rattle.finds.specs.declared.Tally.{Tally}
 use Rattle.answers.specs.Answers.{Answer, done, refused, refused_at, Succeeds, refuses_only, refuses_with, refusals}
 use Rattle.marks.specs.Build.{built, build_says}
 use Rattle.mark_files.specs.Save.{saved_as, save_says}
@@ -126,25 +127,25 @@ module _ (word text : Word) (file R T O : List ℕ) (F : List Place) where
   search_file_refusal = SearchFileSays.refusal_leaves file text R T F
 
   -- and any two outcomes that an entry's promise allows are equal: the code's answers r and r', and all that is left
-  pub build_fixed : (r r' : SizeAnswer) (T₁ T₂ : List ℕ) → built r T₁ ≡ build_says word T → built r' T₂ ≡ build_says word T
+  pub build_fixed : (r r' : Result ℕ Refusal) (T₁ T₂ : List ℕ) → built r T₁ ≡ build_says word T → built r' T₂ ≡ build_says word T
       → (r ≡ r') × (T₁ ≡ T₂)
   build_fixed = BuildSays.build_one word T
 
-  pub save_fixed : (r r' : SizeAnswer) (T₁ T₂ O₁ O₂ : List ℕ) → saved_as r T₁ O₁ ≡ save_says word T O
+  pub save_fixed : (r r' : Result ℕ Refusal) (T₁ T₂ O₁ O₂ : List ℕ) → saved_as r T₁ O₁ ≡ save_says word T O
       → saved_as r' T₂ O₂ ≡ save_says word T O
       → (r ≡ r') × (T₁ ≡ T₂) × (O₁ ≡ O₂)
   save_fixed = SaveSays.save_one plain word T O
 
-  pub search_fixed : (r r' : TallyAnswer) (T₁ T₂ : List ℕ) (F₁ F₂ : List Place) → searched r T₁ F₁ ≡ search_says word text T F
+  pub search_fixed : (r r' : Result Tally Refusal) (T₁ T₂ : List ℕ) (F₁ F₂ : List Place) → searched r T₁ F₁ ≡ search_says word text T F
       → searched r' T₂ F₂ ≡ search_says word text T F → (r ≡ r') × (T₁ ≡ T₂) × (F₁ ≡ F₂)
   search_fixed = SearchSays.search-one word text T F
 
-  pub load_fixed : (r r' : SizeAnswer) (R₁ R₂ T₁ T₂ : List ℕ) → loaded_as r R₁ T₁ ≡ load_says file R T
+  pub load_fixed : (r r' : Result ℕ Refusal) (R₁ R₂ T₁ T₂ : List ℕ) → loaded_as r R₁ T₁ ≡ load_says file R T
       → loaded_as r' R₂ T₂ ≡ load_says file R T
       → (r ≡ r') × (R₁ ≡ R₂) × (T₁ ≡ T₂)
   load_fixed = LoadSays.load_one file R T
 
-  pub search_file_fixed : (r r' : TallyAnswer) (R₁ R₂ T₁ T₂ : List ℕ) (F₁ F₂ : List Place)
+  pub search_file_fixed : (r r' : Result Tally Refusal) (R₁ R₂ T₁ T₂ : List ℕ) (F₁ F₂ : List Place)
       → file_searched r R₁ T₁ F₁ ≡ search_file_says file text R T F → file_searched r' R₂ T₂ F₂ ≡ search_file_says file text R T F
       → (r ≡ r') × (R₁ ≡ R₂) × (T₁ ≡ T₂) × (F₁ ≡ F₂)
   search_file_fixed = SearchFileSays.search-file-one file text R T F

@@ -27,7 +27,10 @@ use Rattle.editions.proofs.AsPlain.{as_other}
 use Rattle.editions.proofs.Files.{first_byte_lem, spell_is}
 use Rattle.editions.proofs.Coding.{one-read}
 use Rattle.editions.proofs.Theorems as Editions
-use Rattle.answers.specs.declared.SizeAnswer.{SizeAnswer}
+use Rattle.std.specs.Prelude.{Result, Ok, Err}
+use Rattle.number.specs.declared.Number.{Number}
+use Rattle.answers.specs.declared.Fault.{Fault}
+use Rattle.answers.specs.declared.Refusal.{Refusal}
 use Rattle.answers.specs.Answers.{done, refused, refused_at, Succeeds, refuses_only}
 use Rattle.mark_files.specs.Save
 use Rattle.mark_files.specs.Save.{saved_as, save_checked_says}
@@ -189,7 +192,7 @@ module _ (word : Word) (T O : List ℕ) where
       ⊎ ((save_checked_says word T O).tables ≡ replicate (room (length word)) 0 ++ drop (room (length word)) T))
   save_checked_refusal = SaveSays.refusal_leaves checked word T O
 
-  pub save_checked_fixed : (r r' : SizeAnswer) (T₁ T₂ O₁ O₂ : List ℕ) → saved_as r T₁ O₁ ≡ save_checked_says word T O
+  pub save_checked_fixed : (r r' : Result ℕ Refusal) (T₁ T₂ O₁ O₂ : List ℕ) → saved_as r T₁ O₁ ≡ save_checked_says word T O
       → saved_as r' T₂ O₂ ≡ save_checked_says word T O → (r ≡ r') × (T₁ ≡ T₂) × (O₁ ≡ O₂)
   save_checked_fixed = SaveSays.save_one checked word T O
 
@@ -267,6 +270,11 @@ edition_at_fault (no_arrow_left A h g) e = absurd (omega arith)
 edition_at_fault (arrows_missing A) e = absurd (omega arith)
 edition_at_fault (bytes_left A h) e = absurd (omega arith)
 
+-- the value of a number that is read
+abbrev value_in : Result Number Fault → ℕ
+value_in (Ok n) = n.value
+value_in (Err f) = 0
+
 -- whatever the rooms
 pub seven_exactly : (file R T : List ℕ) (p : Place) → ((load_says file R T).answer ≡ refused_at 7 p)
     ↔ ((p ≡ 0) × (n : ℕ) × (j : Place) × Reads file 0 n j × (n ≡ 1 → ⊥) × (n ≡ 2 → ⊥))
@@ -280,14 +288,14 @@ seven_exactly file R T p = (λ e. there (load_fault file R T e).1 refl, back)
     there (up_to_arrows two F last) e =
         let b = edition_at_fault F e in
         let same = sym b.2 ∙ one-read file 0 two in
-        absurd (b.3 cc)
+        absurd (b.3 (ap value_in same))
     there (check_cut A h) e = absurd (omega arith)
     there (check_differs A h d) e = absurd (omega arith)
     there (bytes_behind A q h) e = absurd (omega arith)
 
     back : (p ≡ 0) × (n : ℕ) × (j : Place) × Reads file 0 n j × (n ≡ 1 → ⊥) × (n ≡ 2 → ⊥) → (load_says file R T).answer ≡ refused_at 7 p
     back a =
-        let not_two : at file 0 ≡ 2 → ⊥ = λ two. let same = sym a.3 ∙ Editions.two_read file 0 two in a.5 cc in
+        let not_two : at file 0 ≡ 2 → ⊥ = λ two. a.5 (ap value_in (sym a.3 ∙ Editions.two_read file 0 two)) in
         let other = edition_other a.3 (λ e. a.4 (e ∙ edition-number)) in
         rw a.0 (ap (λ o. o.answer) ((LoadSays.load_is file R T _).1 (LoadCase.head_refused (rw (as_other file 0 not_two) other))))
 

@@ -21,7 +21,8 @@ use Rattle.table.specs.Table.{read_word}
 use Rattle.storacle_table.specs.StoracleTable.{storacle_room, storacle_table, read_storacle}
 use Rattle.storacle_table.specs.StoracleFreedom.{StoracleSet, ReadAsStoracle}
 use Rattle.storacle_table.proofs.ReadBack.{storacle_freedom}
-use Rattle.answers.specs.declared.SizeAnswer.{SizeAnswer}
+use Rattle.std.specs.Prelude.{Result}
+use Rattle.answers.specs.declared.Refusal.{Refusal}
 use Rattle.answers.specs.Answers.{done, refused, refuses_only}
 use Rattle.marks.specs.Build.{Outcome, built}
 use Rattle.storacle_entries.specs.StoracleBuild.{storacle_build_says}
@@ -186,7 +187,7 @@ module _ (word : Word) (T : List ℕ) where
     all_read = let L = Build.done-leaves word T some-letter few enough in (L.reads_word, L.reads_arrows)
 
 -- what is promised allows one outcome
-pub build_fixed : (word : Word) (T : List ℕ) (r s : SizeAnswer) (A B : List ℕ)
+pub build_fixed : (word : Word) (T : List ℕ) (r s : Result ℕ Refusal) (A B : List ℕ)
     → built r A ≡ storacle_build_says word T → built s B ≡ storacle_build_says word T → (r ≡ s) × (A ≡ B)
 build_fixed = Build.storacle_build_one
 

@@ -18,7 +18,8 @@ use Rattle.words.proofs.Words.{same_true, same_refl}
 use Rattle.border.specs.Borders.{closes, longest_border, borders}
 use Rattle.finds.specs.Finds.{filled}
 use Rattle.number.specs.Number.{Bytes}
-use Rattle.answers.specs.declared.SizeAnswer.{SizeAnswer}
+use Rattle.std.specs.Prelude.{Result}
+use Rattle.answers.specs.declared.Refusal.{Refusal}
 use Rattle.answers.specs.Answers.{done, refused, refuses_only}
 use Rattle.pieces.specs.Kept.{kept}
 use Rattle.pieces.proofs.Kept.{kept-closes, kept-longest, kept_shorter, kept-nothing, find-keeps}
@@ -199,7 +200,7 @@ one-taking = Take.take-one
 pub open_bytes_exactly : (w : Word) (B : List ℕ) (o : OpenBytes.Outcome) → (open_bytes_says w B ≡ o) ↔ InBytes.OpenCase w B o
 open_bytes_exactly w B o = OpenBytesTheorems.open_is w B o
 
-pub one_opening_in_bytes : (w : Word) (B : List ℕ) (r s : SizeAnswer) (P Q : List ℕ) → OpenBytes.opened r P ≡ open_bytes_says w B
+pub one_opening_in_bytes : (w : Word) (B : List ℕ) (r s : Result ℕ Refusal) (P Q : List ℕ) → OpenBytes.opened r P ≡ open_bytes_says w B
     → OpenBytes.opened s Q ≡ open_bytes_says w B → (r ≡ s) × (P ≡ Q)
 one_opening_in_bytes = OpenBytesTheorems.open_one
 
@@ -208,7 +209,7 @@ pub take-bytes-exactly : (B : List ℕ) → Bytes B → (v : Word) (F : List Pla
     → (take_bytes_says B v F ≡ o) ↔ InBytes.TakeCase B v F o
 take-bytes-exactly B bytes v F o = TakeBytesTheorems.take_bytes_is B v F bytes o
 
-pub one_taking_in_bytes : (B : List ℕ) (v : Word) (F : List Place) (q r : SizeAnswer) (P Q : List ℕ) (G H : List Place)
+pub one_taking_in_bytes : (B : List ℕ) (v : Word) (F : List Place) (q r : Result ℕ Refusal) (P Q : List ℕ) (G H : List Place)
     → TakeBytes.took q P G ≡ take_bytes_says B v F → TakeBytes.took r Q H ≡ take_bytes_says B v F → (q ≡ r) × (P ≡ Q) × (G ≡ H)
 one_taking_in_bytes = TakeBytesTheorems.take-one
 

@@ -16,7 +16,9 @@ use Rattle.oracle.specs.SuffixRule.{far, mend, missing, extras_after, extra_arro
 use Rattle.oracle.specs.FileOrder.{leads_to, extra_targets, extras_before, file_arrows}
 use Rattle.table.specs.Table.{room}
 use Rattle.number.specs.declared.Cursor.{Cursor}
-use Rattle.number.specs.declared.Number.TheVariants.{Value, Refused}
+use Rattle.std.specs.Prelude.{Ok, Err}
+use Rattle.answers.specs.declared.Fault.{Fault}
+use Rattle.answers.specs.declared.Flaw.TheVariants.{EndsEarly, Misspelled}
 use Rattle.number.specs.Number.{Bytes, spell_number, refuses, see, see_number, number_at}
 use Rattle.number.specs.Exactly.{StandsAt, CutOff, BadByte}
 use Rattle.number.proofs.Theorems as Numbers
@@ -25,7 +27,7 @@ use Rattle.loaded.specs.Load.{letters}
 use Rattle.loaded.specs.Cases.{Reads, BadLength}
 use Rattle.editions.specs.Either.{as_plain}
 use Rattle.editions.specs.EitherCases.{EditionRead, FrontEither}
-use Rattle.answers.specs.Answers.{refused_at, refuses_with, one_of}
+use Rattle.answers.specs.Answers.{refused_at, refuses_with, one_of, flaw_number}
 use Rattle.mark_files.specs.Load
 use Rattle.mark_files.specs.Load.{load_says}
 use Rattle.mark_files.specs.SearchFile.{search_file_says}
@@ -44,24 +46,26 @@ use Rattle.demands.proofs.Demand1
 -- at place i of the file s
 module _ (s : List ℕ) (i : Place) where
   -- v is read exactly if its one spelling stands there, and the next place is so many bytes further on
-  pub value_read : {v : ℕ} {c : Cursor} → Bytes s → (number_at s i ≡ Value v c) ↔ StandsAt s i v c
+  pub value_read : {v : ℕ} {c : Cursor} → Bytes s → (number_at s i ≡ Ok (record { value = v; next = c })) ↔ StandsAt s i v c
   value_read = Numbers.value-exactly s i
 
-  pub bytes-taken : {v : ℕ} {c : Cursor} → Bytes s → number_at s i ≡ Value v c → c.at ≡ i + length (spell_number v)
+  pub bytes-taken : {v : ℕ} {c : Cursor} → Bytes s → number_at s i ≡ Ok (record { value = v; next = c })
+      → c.at ≡ i + length (spell_number v)
   bytes-taken bytes e = ((value_read bytes).0 e).next
 
-  pub cut-shows : (number_at s i ≡ Refused 5 (length s)) ↔ CutOff s i
+  pub cut-shows : (number_at s i ≡ Err (record { flaw = EndsEarly; place = length s })) ↔ CutOff s i
   cut-shows = Numbers.cut-exactly s i
 
-  pub bad_byte_shows : (p : Place) → (number_at s i ≡ Refused 6 p) ↔ BadByte s i p
+  pub bad_byte_shows : (p : Place) → (number_at s i ≡ Err (record { flaw = Misspelled; place = p })) ↔ BadByte s i p
   bad_byte_shows = Numbers.bad-exactly s i
 
-  pub nothing_else_shows : {r : ℕ} {p : Place} → number_at s i ≡ Refused r p → ((r ≡ 5) × (p ≡ length s)) ⊎ (r ≡ 6)
-  nothing_else_shows {r} {p} e = by (Numbers.number_at-refused s i e)
+  pub nothing_else_shows : {f : Fault} → number_at s i ≡ Err f
+      → ((flaw_number f.flaw ≡ 5) × (f.place ≡ length s)) ⊎ (flaw_number f.flaw ≡ 6)
+  nothing_else_shows {f} e = by (Numbers.number_at-refused s i e)
     where
-      by : Numbers.Refusal s i r p → ((r ≡ 5) × (p ≡ length s)) ⊎ (r ≡ 6)
-      by (inl q) = inl (q.0, q.1)
-      by (inr q) = inr q.0
+      by : Numbers.Refusal s i f → ((flaw_number f.flaw ≡ 5) × (f.place ≡ length s)) ⊎ (flaw_number f.flaw ≡ 6)
+      by (inl q) = inl (ap (λ (f : Fault). flaw_number f.flaw) q.0, ap (λ (f : Fault). f.place) q.0)
+      by (inr q) = inr (ap (λ (f : Fault). flaw_number f.flaw) q.0)
 
 -- for every file and text, and all rooms R, T and lists F that are lent
 module _ (file : List ℕ) (text : Word) (R T : List ℕ) (F : List Place) where

@@ -13,10 +13,11 @@ use Rattle.words.proofs.Lists.{test_cases}
 use Rattle.number.specs.Number.{Seen, number, ends, refused, see_number, placed, number_at}
 use Rattle.saved.specs.File.{Step}
 use Rattle.loaded.specs.Load.{Ending, behind, ending}
-use Rattle.loaded.specs.Cases.{Reads, Unread}
+use Rattle.number.proofs.Theorems.{cut-exactly, bad-exactly}
+use Rattle.loaded.specs.Cases.{Reads, Unread, cut_off, bad_byte}
 use Rattle.loaded.specs.Cases.{ArrowsCase, arrow_agrees, up_unread, over_unread, arrow_differs, no_arrow_left, arrows_missing, all_agree}
 use Rattle.loaded.specs.Cases.{EndingCase, count_unread, count_too_large, count_fits}
-use Rattle.loaded.proofs.Cases.{unread, refused_unread, ending_case, case_ending}
+use Rattle.loaded.proofs.Cases.{refused_unread, ending_case, case_ending}
 use Rattle.loaded.proofs.Fields.{reads-inside}
 use Rattle.editions.specs.Either.{checked_at, as_plain}
 
@@ -62,7 +63,8 @@ module _ (s t : List ℕ) (o : Place) (same : (i : Place) → o < i → number_a
   reads_too i h r = same i h ∙ r
 
   unread_too : (i : Place) {r : ℕ} {p : Place} → o < i → Unread s i r p → Unread t i r p
-  unread_too i h u = refused_unread t i (same i h ∙ unread s i u)
+  unread_too i h (cut_off c) = refused_unread t i (same i h ∙ (cut-exactly s i).1 c)
+  unread_too i h (bad_byte {p = p} b) = refused_unread t i (same i h ∙ (bad-exactly s i p).1 b)
 
   behind_too : (i : Place) {v : ℕ} {j : Place} → o < i → Reads s i v j → o < j
   behind_too i h r = omega (arith, (reads-inside s i r).0)

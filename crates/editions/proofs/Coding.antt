@@ -1,6 +1,6 @@
 -- WHAT THE CODE'S STEPS COME TO: a file of edition 2 is read on behind its first byte; the ways of its end; and three stores that seal.
 use mathlib.Core.Path.{◌≡◌, refl, sym, ap, ◌∙◌}
-use mathlib.Core.Bool.{Bool, true, false, cond}
+use mathlib.Core.Bool.{true, false}
 use mathlib.Core.List.{List, [], ◌∷◌, ◌++◌}
 use Prim.Native.Nat.{ℕ, suc, ◌+◌, ◌≤◌}
 use native.Mathlib.Numerals.{add-one}
@@ -14,11 +14,11 @@ use Rattle.words.specs.Limits.{longest_word}
 use Rattle.number.proofs.Theorems.{spelling-single, number_at-spelled}
 use Rattle.saved.specs.File.{edition}
 use Rattle.saved.proofs.Spelled.{edition-number}
-use Rattle.loaded.specs.Load.{front_within, front_at, letters_at, Ending, behind, broken, ending}
+use Rattle.loaded.specs.Load.{front_within, front_at, letters_at, behind, ending}
 use Rattle.loaded.specs.Cases.{Reads}
 use Rattle.loaded.proofs.Theorems.{ending_is}
 use Rattle.crc.specs.Check.{check, low, high, sealed}
-use Rattle.editions.specs.Either.{checked_at, as_plain, front_either, past_check, ending_either}
+use Rattle.editions.specs.Either.{checked_at, as_plain, front_either}
 use Rattle.editions.proofs.AsPlain.{as_other, plain-length, plain-number, ending-end}
 use Rattle.editions.proofs.Files.{as_plain-drop}
 
@@ -42,22 +42,6 @@ module _ (s : List ℕ) (o : Place) where
   -- ── Behind them ──────────────────────────────────────────────────────────
 
   module _ (i : Place) (w : Word) where
-    pub checked-ending : {e : Ending} → checked_at s o ≡ true → e ≡ ending s i w → past_check s o e ≡ ending_either s o i w
-    unfolding ending_either
-    checked-ending t q = rw (t, q)
-
-    pub other_ending : {e : Ending} → checked_at s o ≡ false → e ≡ ending s i w → e ≡ ending_either s o i w
-    unfolding ending_either
-    other_ending t q = rw (t, q)
-
-    pub broken-ending : {r p : ℕ} → broken r p ≡ ending s i w → broken r p ≡ ending_either s o i w
-    unfolding ending_either
-    broken-ending {r} {p} q = by (checked_at s o)
-      where
-        by : (b : Bool) → broken r p ≡ cond b (past_check s o (ending s i w)) (ending s i w)
-        by true = rw (sym q)
-        by false = q
-
     -- the check stands behind what it is the check of, within the file
     pub check-inside : {p : Place} → behind p ≡ ending s i w → o ≤ i → (o ≤ p) × (p ≤ length s)
     check-inside {p} q h = let e = ending-end s ((ending_is s i w (behind p)).0 (sym q)) in (omega (arith, e.0), e.1)

@@ -17,9 +17,10 @@ use Rattle.table.specs.Table.{read_word}
 use Rattle.failure.specs.FailureRule.{failure_of, symbols, failure_rule}
 use Rattle.failure_table.specs.FailureTable.{failure_room, failure_table, read_symbol, read_failure}
 use Rattle.failure_table.proofs.Theorems.{table-size, word_read, symbol-read, failure-read}
-use Rattle.answers.specs.declared.SizeAnswer.{SizeAnswer}
+use Rattle.std.specs.Prelude.{Result}
+use Rattle.answers.specs.declared.Refusal.{Refusal}
 use Rattle.answers.specs.Answers.{done, refused, refuses_only, one_of}
-use Rattle.answers.proofs.Answers.{done_not_refused, size_answer-one}
+use Rattle.answers.proofs.Answers.{done_not_refused, answer_of-one}
 use Rattle.marks.specs.Build.{Outcome, outcome, built}
 use Rattle.failure_entries.specs.FailureBuild.{failure_build_says}
 use Rattle.failure_entries.specs.Cases.{FailureBuildCase}
@@ -106,8 +107,8 @@ module _ (word : Word) (T : List ℕ) where
 -- ── One outcome ────────────────────────────────────────────────────────────
 
 -- two outcomes that the promise of failure_build allows are equal
-pub failure_build_one : (word : Word) (T : List ℕ) (r s : SizeAnswer) (A B : List ℕ)
+pub failure_build_one : (word : Word) (T : List ℕ) (r s : Result ℕ Refusal) (A B : List ℕ)
     → built r A ≡ failure_build_says word T → built s B ≡ failure_build_says word T → (r ≡ s) × (A ≡ B)
 failure_build_one word T r s A B e f =
     let g : built r A ≡ built s B = e ∙ sym f in
-    (size_answer-one r s (ap (λ o. o.answer) g), ap (λ o. o.tables) g)
+    (answer_of-one r s (ap (λ o. o.answer) g), ap (λ o. o.tables) g)

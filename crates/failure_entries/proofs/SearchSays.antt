@@ -21,12 +21,11 @@ use Rattle.failure_table.proofs.Theorems.{table-size}
 use Rattle.failure_search.specs.declared.FailureTally.{FailureTally}
 use Rattle.failure_search.specs.Tallies.{failure_tally_of}
 use Rattle.failure_search.proofs.Theorems.{mirror-formed, scan_steps}
-use Rattle.answers.specs.declared.Refusal.TheVariants.{Numbered, Placed}
-use Rattle.answers.specs.Answers.{Answer, done, refused, refused_at, refuses_only, one_of}
-use Rattle.answers.proofs.Answers.{done_not_refused}
-use Rattle.failure_entries.specs.declared.FailureAnswer.{FailureAnswer}
-use Rattle.failure_entries.specs.declared.FailureAnswer.TheVariants.{Done, Refused}
-use Rattle.failure_entries.specs.FailureSearch.{found, FailureOutcome, failure_outcome, failure_answer, failure_searched}
+use Rattle.std.specs.Prelude.{Result}
+use Rattle.answers.specs.declared.Refusal.{Refusal}
+use Rattle.answers.specs.Answers.{done, refused, refuses_only, one_of}
+use Rattle.answers.proofs.Answers.{done_not_refused, answer_of-one}
+use Rattle.failure_entries.specs.FailureSearch.{found, FailureOutcome, failure_outcome, failure_searched}
 use Rattle.failure_entries.specs.FailureSearch.{failure_search_says}
 use Rattle.failure_entries.specs.Cases.{FailureSearchCase}
 
@@ -102,14 +101,18 @@ module _ (word text : Word) (T : List ℕ) (F : List Place) where
     pub lent-formed : m < 65535 → FailureFormed (take (failure_room m) (P ++ R)) m
     lent-formed h = rw lent-table (mirror-formed word some-letter h)
 
-    pub scan_counts : {t : FailureTally} {F' : List Place}
-        → t ≡ failure_tally_of (failure_steps_with (read_ask m (take (failure_room m) (P ++ R))) word text)
-        → F' ≡ filled (failure_steps_with (read_ask m (take (failure_room m) (P ++ R))) word text).starts F
+    -- w is the word as it is sought
+    pub scan_counts : {w : Word} → w ≡ word → {t : FailureTally} {F' : List Place}
+        → t ≡ failure_tally_of (failure_steps_with (read_ask m (take (failure_room m) (P ++ R))) w text)
+        → F' ≡ filled (failure_steps_with (read_ask m (take (failure_room m) (P ++ R))) w text).starts F
         → R ≡ drop (failure_room m) T
         → failure_outcome (done t) (P ++ R) F'
         ≡ failure_outcome (done (found word text)) (failure_table (mirror word) ++ drop (failure_room m) T)
         (filled (occurrences word text) F)
-    scan_counts t f r = rw (t, f, lent-table, scan_steps word some-letter text, search-lists word text, filled_in, r)
+    scan_counts sought t f r =
+        let t = rw sought at t in
+        let f = rw sought at f in
+        rw (t, f, lent-table, scan_steps word some-letter text, search-lists word text, filled_in, r)
 
 -- ── Scratch ────────────────────────────────────────────────────────────────
 
@@ -134,23 +137,11 @@ module _ (S T : List ℕ) (m : ℕ) (zeros : S ≡ replicate m 0) (enough : fail
 
 -- ── One outcome ────────────────────────────────────────────────────────────
 
--- from what an answer means, the answer is got back
-answered : Answer FailureTally → FailureAnswer
-answered (done t) = Done t
-answered (refused n) = Refused (Numbered n)
-answered (refused_at n p) = Refused (Placed n p)
-
-answered_back : (r : FailureAnswer) → answered (failure_answer r) ≡ r
-unfolding answered
-answered_back (Done t) = refl
-answered_back (Refused (Numbered n)) = refl
-answered_back (Refused (Placed n p)) = refl
-
 -- two outcomes that the promise of failure_search allows are equal
-pub failure_search-one : (word text : Word) (T : List ℕ) (F : List Place) (r s : FailureAnswer) (A B : List ℕ) (G H : List Place)
+pub failure_search-one : (word text : Word) (T : List ℕ) (F : List Place) (r s : Result FailureTally Refusal) (A B : List ℕ)
+    (G H : List Place)
     → failure_searched r A G ≡ failure_search_says word text T F → failure_searched s B H ≡ failure_search_says word text T F
     → (r ≡ s) × (A ≡ B) × (G ≡ H)
 failure_search-one word text T F r s A B G H e f =
     let g : failure_searched r A G ≡ failure_searched s B H = e ∙ sym f in
-    let same = ap (λ o. o.answer) g in
-    (sym (answered_back r) ∙ ap answered same ∙ answered_back s, ap (λ o. o.tables) g, ap (λ o. o.finds) g)
+    (answer_of-one r s (ap (λ o. o.answer) g), ap (λ o. o.tables) g, ap (λ o. o.finds) g)

@@ -2,7 +2,7 @@
 --
 --   found word text            how often the word stands in the text, and the letters and the failure arrows of the published steps
 --   FailureOutcome             the answer, and the room and the list as they are left
---   failure_answer r           what the code's answer r means
+--   failure_answer r           what the code's result r means
 --   failure_searched r T F     the outcome of code that answers r and leaves T and F
 --   failure_search_says word text T F
 --                              what it must be: 1, 2, 4, 3 in that order, where 3 asks for the failure table's room; else every occurrence
@@ -10,16 +10,15 @@
 --                              the mirrored word's table stands in the room, and the rest of the room and of the list is as it was
 --
 -- 02, 'Failure oracle'; 01, 'The backward search' and 'When the library says no'.
-use Rattle.std.specs.Prelude.{cond, List, ◌++◌, ℕ, length, drop, ltb}
+use Rattle.std.specs.Prelude.{cond, List, ◌++◌, ℕ, length, drop, ltb, Result}
 use Rattle.words.specs.Words.{Word, Place, mirror, occurrences}
 use Rattle.words.specs.Limits.{longest_word, longest_text}
 use Rattle.finds.specs.Finds.{filled}
 use Rattle.failure.specs.FailureSteps.{failure_steps}
 use Rattle.failure_table.specs.FailureTable.{failure_room, failure_table}
 use Rattle.failure_search.specs.declared.FailureTally.{FailureTally}
-use Rattle.answers.specs.Answers.{Answer, done, refused, refused_as, empty_word, long_word, long_text, short_room}
-use Rattle.failure_entries.specs.declared.FailureAnswer.{FailureAnswer}
-use Rattle.failure_entries.specs.declared.FailureAnswer.TheVariants.{Done, Refused}
+use Rattle.answers.specs.declared.Refusal.{Refusal}
+use Rattle.answers.specs.Answers.{Answer, done, refused, answer_of, empty_word, long_word, long_text, short_room}
 
 abbrev pub found : Word → Word → FailureTally
 found word text =
@@ -34,11 +33,10 @@ pub record FailureOutcome : Type 0 where
 abbrev pub failure_outcome : Answer FailureTally → List ℕ → List Place → FailureOutcome
 failure_outcome a T F = record { answer = a; tables = T; finds = F }
 
-abbrev pub failure_answer : FailureAnswer → Answer FailureTally
-failure_answer (Done t) = done t
-failure_answer (Refused r) = refused_as r
+abbrev pub failure_answer : Result FailureTally Refusal → Answer FailureTally
+failure_answer r = answer_of r
 
-abbrev pub failure_searched : FailureAnswer → List ℕ → List Place → FailureOutcome
+abbrev pub failure_searched : Result FailureTally Refusal → List ℕ → List Place → FailureOutcome
 failure_searched r T F = failure_outcome (failure_answer r) T F
 
 unfoldable pub failure_search_says : Word → Word → List ℕ → List Place → FailureOutcome

@@ -2,23 +2,22 @@
 -- takes the failure arrows that are still to be taken. So the loop breaks with the window's answer. A window read whole is then compared.
 use mathlib.Core.Path.{◌≡◌, refl, sym, ap, ◌∙◌}
 use mathlib.Core.Logic.{◌≢◌}
-use mathlib.Core.Bool.{Bool}
-use Prim.Native.Nat.{ℕ, suc, ◌+◌, ◌-◌, ◌*◌, ◌≤◌}
+use mathlib.Core.Bool.{Bool, ◌&&◌}
+use mathlib.Core.List.{[], ◌∷◌}
+use Prim.Native.Nat.{ℕ, suc, ◌+◌, ◌-◌, ◌*◌, ◌<◌, ◌≤◌}
 use native.Mathlib.Nat.{le_refl, zero-add}
 use native.Mathlib.Omega.{arith}
 use lib.ListN.{length}
-use Rattle.words.specs.Words.{Word, Place, letter, part, same, stands}
-use Rattle.words.specs.Answers.{arrow_to}
+use Rattle.words.specs.Words.{Word, letter, part, same, stands}
+use Rattle.words.specs.Answers.{MaybeState, arrow_to}
 use Rattle.words.specs.declared.State.{State as Stated}
-use Rattle.words.specs.declared.Leads.TheVariants.{To, Missing}
+use Rattle.std.specs.Prelude.{Some, None, nat_eq}
+use Rattle.std.specs.Cmp.Lexicographic.{pointwise}
 use Rattle.words.proofs.Answers.{arrow-told, arrow-untold}
 use Rattle.oracle.specs.Arrows.{State}
-use Rattle.search.specs.declared.WindowRead.TheVariants.{Failed, Whole}
 use Rattle.failure.specs.FailureRule.{Asked, Asking}
 use Rattle.failure.specs.FailureSteps.{FailureReading, read_both}
 use Rattle.failure.proofs.Windows.{both_done, both_fails, both_goes}
-use Rattle.failure_table.specs.declared.Answered.{Answered}
-use Rattle.failure_table.specs.Building.{answered_as}
 use Rattle.failure_search.specs.Tallies.{counted_read_of}
 
 -- from state x the first `left` letters of the window at s, of m letters, are still to be read, with so many failure arrows taken
@@ -38,54 +37,62 @@ module _ {σ : Asking} {t : Word} {s m : ℕ} where
     whole = read_both σ t s m 0
 
     -- no letter is left
-    pub none_to_read : left ≡ 0 → record { how = Whole; failures = k } ≡ counted_read_of whole
+    pub none_to_read : left ≡ 0 → record { how = None; failures = k } ≡ counted_read_of whole
     none_to_read e =
         let failed = rw (e, both_done σ t s x) at R.fails in
         let taken : whole.failures ≡ k = omega (arith, rw (e, both_done σ t s x) at R.takes) in
         rw (failed, taken)
 
-    -- one is left, and is asked
-    module _ (more : left ≢ 0) where
-      abbrev asked : Asked
-      asked = σ x (letter t (s + (left - 1)))
+-- the letter behind the first `left` leads so, with so many failure arrows taken up to there
+pub record LetterRead (σ : Asking) (t : Word) (s m left : ℕ) (leads : MaybeState) (taken : ℕ) : Type 0 where
+  pub within : left < m
+  pub few : taken ≤ 65535 * (m - left)
+  pub ends : leads ≡ None → record { how = Some (record { 0 = s + left }); failures = taken } ≡ counted_read_of (read_both σ t s m 0)
+  pub goes : (y : Stated) → leads ≡ Some y → StillToRead σ t s m left y.0 taken
 
+-- one letter is left to be read, and is asked for
+module _ {σ : Asking} {t : Word} {s m left : ℕ} {x : State} {k : ℕ} (R : StillToRead σ t s m left x k) (more : left ≢ 0) where
+  abbrev asked : Asked
+  asked = σ x (letter t (s + (left - 1)))
+
+  pub letter_read : {leads : MaybeState} {k' : ℕ} → asked.taken ≤ 65535 → leads ≡ arrow_to asked.to → k' ≡ k + asked.taken
+      → LetterRead σ t s m (left - 1) leads k'
+  letter_read {leads} {k'} small to taken = record { within = omega (arith, R.within); few = few; ends = ends; goes = goes }
+    where
       one : left ≡ suc (left - 1)
       one = omega arith
 
-      module _ (few : asked.taken ≤ 65535) (r : Answered) (says : r ≡ answered_as asked) where
-        leads_is : r.leads ≡ arrow_to asked.to
-        leads_is = ap (λ (q : Answered). q.leads) says
+      few : k' ≤ 65535 * (m - (left - 1))
+      few = omega (arith, R.few, R.within)
 
-        taken_is : r.taken ≡ asked.taken
-        taken_is = ap (λ (q : Answered). q.taken) says
+      ends : leads ≡ None → record { how = Some (record { 0 = s + (left - 1) }); failures = k' } ≡ counted_read_of (read_both σ t s m 0)
+      ends e =
+          let here = both_fails σ t s (left - 1) x (arrow-untold _ leads to e) in
+          let failed = rw (one, here) at R.fails in
+          let counted : (read_both σ t s m 0).failures ≡ k' = rw taken (rw (one, here) at R.takes) in
+          rw (failed, counted)
 
-        -- the failure arrows of a window are fewer than 2^32
-        pub letter-taken : k + r.taken ≤ 65535 * (m - (left - 1))
-        letter-taken = omega (arith, taken_is, few)
-
-        -- it leads nowhere
-        pub letter-fails : r.leads ≡ Missing
-            → record { how = Failed (record { 0 = s + (left - 1) }); failures = k + r.taken } ≡ counted_read_of whole
-        letter-fails e =
-            let here = both_fails σ t s (left - 1) x (arrow-untold _ r.leads leads_is e) in
-            let failed = rw (one, here) at R.fails in
-            let taken : whole.failures ≡ k + r.taken = rw taken_is (rw (one, here) at R.takes) in
-            rw (failed, taken)
-
-        -- it leads on
-        pub letter-goes : (y : Stated) → r.leads ≡ To y → StillToRead σ t s m (left - 1) y.0 (k + r.taken)
-        letter-goes y e =
-            let on = both_goes σ t s (left - 1) x y.0 (arrow-told _ r.leads y leads_is e) in
-            record {
-              within = omega arith;
-              few = letter-taken;
-              fails = rw (one, on) at R.fails;
-              takes = omega (arith, taken_is, rw (one, on) at R.takes);
-            }
+      goes : (y : Stated) → leads ≡ Some y → StillToRead σ t s m (left - 1) y.0 k'
+      goes y e =
+          let on = both_goes σ t s (left - 1) x y.0 (arrow-told _ leads y to e) in
+          record {
+            within = omega (arith, R.within);
+            few = few;
+            fails = rw (one, on) at R.fails;
+            takes = omega (arith, taken, rw (one, on) at R.takes);
+          }
 
 -- ── The word compared ──────────────────────────────────────────────────────
 
+-- `==` tells whether words are the same
+same_as : (u v : Word) → pointwise nat_eq u v ≡ same u v
+unfolding same
+same_as [] [] = refl
+same_as [] (d ∷ v) = refl
+same_as (c ∷ u) [] = refl
+same_as (c ∷ u) (d ∷ v) = ap (λ b. nat_eq c d && b) (same_as u v)
+
 -- comparing the word with the letters of the window tells whether it stands there
-pub compared : (w t : Word) (s : Place) {r b : Bool} → r ≡ same (part t s (s + length w - s)) w → r ≡ b → b ≡ stands w t s
+pub compared : (w t : Word) (s : ℕ) {r b : Bool} → r ≡ pointwise nat_eq (part t s (s + length w - s)) w → r ≡ b → b ≡ stands w t s
 unfolding stands
-compared w t s e f = let q : s + length w - s ≡ length w = omega arith in sym f ∙ (rw q at e)
+compared w t s e f = let q : s + length w - s ≡ length w = omega arith in sym f ∙ (rw q at e) ∙ same_as _ w

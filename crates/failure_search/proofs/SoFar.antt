@@ -14,7 +14,7 @@ use Rattle.words.specs.declared.Place.{Place as Placed}
 use Rattle.backward.specs.Steps.{after_find}
 use Rattle.backward.proofs.Reading.{FailedAt, whole-letters}
 use Rattle.backward.proofs.AfterFind.{after_moves, after_most}
-use Rattle.search.specs.declared.WindowRead.TheVariants.{Failed, Whole}
+use Rattle.std.specs.Prelude.{Some, None}
 use Rattle.search.specs.Answers.{failed_at}
 use Rattle.search.proofs.Readings.{failed-told, whole-told}
 use Rattle.finds.specs.Finds.{filled}
@@ -117,14 +117,14 @@ module _ {σ : Asking} {w t : Word} {F₀ F : List ℕ} {s count letters failure
       (rw (all-counted, all_read, all-taken), rw all_found at I.list)
 
   -- the letters, with those ahead, are fewer than 2^48
-  pub letters_fit : length w < 65535 → length t < 4294967295 → letters + (ahead σ w t s).letters < 281474976710656
+  pub letters_fit : length w < 65536 → length t < 4294967295 → letters + (ahead σ w t s).letters < 281474976710656
   letters_fit m n =
       let places : suc (length t) - length w ≤ 4294967295 = omega arith in
-      let read : length w ≤ 65534 = omega arith in
+      let read : length w ≤ 65535 = omega arith in
       omega (arith, steps-letters σ w t, mul-le-mul read places)
 
   -- and the failure arrows fewer than 2^64
-  failures_fit : length w < 65535 → length t < 4294967295 → FewTaken σ → failures + (ahead σ w t s).failures < 18446744073709551616
+  failures_fit : length w < 65536 → length t < 4294967295 → FewTaken σ → failures + (ahead σ w t s).failures < 18446744073709551616
   failures_fit m n f = omega (arith, steps_failures_most σ 65535 f t w, letters_fit m n)
 
   -- ── One window more ──────────────────────────────────────────────────────
@@ -137,7 +137,7 @@ module _ {σ : Asking} {w t : Word} {F₀ F : List ℕ} {s count letters failure
     failures_is = ap (λ (q : CountedRead). q.failures) says
 
     -- its failure arrows fit too
-    pub window_taken : length w < 65535 → length t < 4294967295 → FewTaken σ → failures + r.failures < 18446744073709551616
+    pub window_taken : length w < 65536 → length t < 4294967295 → FewTaken σ → failures + r.failures < 18446744073709551616
     window_taken m n f = omega (arith, failures_is, rw (ahead-one σ w t s h) at (failures_fit m n f))
 
     -- it adds the starts l and k letters, and the next one is at s'
@@ -161,12 +161,12 @@ module _ {σ : Asking} {w t : Word} {F₀ F : List ℕ} {s count letters failure
     same-list = rw (append-nil I.found) I.list
 
     -- it was read whole
-    module _ (told : r.how ≡ Whole) where
+    module _ (told : r.how ≡ None) where
       whole : (read_window_both σ w t s).failed ≡ none
       whole = whole-told _ r.how how_is told
 
       -- its letters fit too
-      pub whole-fits : length w < 65535 → length t < 4294967295 → letters + length w < 281474976710656
+      pub whole-fits : length w < 65536 → length t < 4294967295 → letters + length w < 281474976710656
       whole-fits m n = omega (arith, whole-read σ w t s whole, rw (ahead-one σ w t s h) at (letters_fit m n))
 
       -- the word stands there, and that is noted, as one find more
@@ -186,7 +186,7 @@ module _ {σ : Asking} {w t : Word} {F₀ F : List ℕ} {s count letters failure
           so-far-on [] (length w) (ahead-unlike σ w t s h whole (sym d)) (omega arith) same-list (omega arith) (omega arith)
 
     -- it failed
-    module _ (f : Placed) (told : r.how ≡ Failed f) where
+    module _ (f : Placed) (told : r.how ≡ Some f) where
       failed : (read_window_both σ w t s).failed ≡ some f.0
       failed = failed-told _ r.how f how_is told
 

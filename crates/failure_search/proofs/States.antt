@@ -1,6 +1,6 @@
 -- WHAT A LETTER MAY DO, over a table that is formed: it leads to a state, and takes at most m failure arrows. The first goes by
 -- induction on the bounds of the reading rule, slot by slot and failure arrow by failure arrow.
-use mathlib.Core.Path.{◌≡◌, refl, sym, ap, ◌∙◌}
+use mathlib.Core.Path.{◌≡◌, refl, sym, ◌∙◌}
 use mathlib.Core.Logic.{by_cases}
 use mathlib.Core.Option.{some}
 use mathlib.Core.List.{List}
@@ -9,15 +9,14 @@ use native.Mathlib.Decide.{dec_le}
 use native.Mathlib.Omega.{arith}
 use Rattle.words.specs.Words.{Letter}
 use Rattle.words.specs.declared.State.{State as Stated}
-use Rattle.words.specs.declared.Leads.TheVariants.{To}
+use Rattle.std.specs.Prelude.{Some}
 use Rattle.words.proofs.Lists.{option_cases}
 use Rattle.words.proofs.Answers.{arrow-told}
+use Rattle.words.specs.Answers.{MaybeState, arrow_to}
 use Rattle.oracle.specs.Arrows.{State, Delta}
 use Rattle.oracle.proofs.Targets.{never}
 use Rattle.failure.specs.FailureRule.{Fails, Asking, ask}
 use Rattle.failure.proofs.Paths.{ask-hit, ask-stop, ask_fail, ask-taken}
-use Rattle.failure_table.specs.declared.Answered.{Answered}
-use Rattle.failure_table.specs.Building.{answered_as}
 use Rattle.failure_table.specs.FailureTable.{seek, read_symbol, read_failure, read_ask}
 use Rattle.failure_table.specs.FailureFormed.{FailureFormed}
 use Rattle.failure_table.proofs.Lookups.{first_slot, next_slot, slot_cases, seek-none, seek-here, seek-later}
@@ -63,12 +62,11 @@ module _ (δ : Delta) (φ : Fails) where
 -- ── In code ────────────────────────────────────────────────────────────────
 
 -- the state that code goes on from is a state
-pub next-state : {L : List ℕ} {m : ℕ} → FailureFormed L m → (x : State) (c : Letter) (r : Answered) → r ≡ answered_as (read_ask m L x c)
-    → (y : Stated) → r.leads ≡ To y → y.0 ≤ m
+pub next-state : {L : List ℕ} {m : ℕ} → FailureFormed L m → (x : State) (c : Letter) {leads : MaybeState}
+    → leads ≡ arrow_to (read_ask m L x c).to → (y : Stated) → leads ≡ Some y → y.0 ≤ m
 unfolding read_ask
-next-state {L} {m} F x c r says y e =
-    let there = arrow-told _ r.leads y (ap (λ (q : Answered). q.leads) says) e in
-    ask-state (read_symbol m L) (read_failure m L) m (symbol-state F) m x c y.0 there
+next-state {L} {m} F x c {leads} to y e =
+    ask-state (read_symbol m L) (read_failure m L) m (symbol-state F) m x c y.0 (arrow-told _ leads y to e)
 
 -- a letter takes fewer than 2^16 failure arrows
 abbrev pub FewTaken : Asking → Type 0

@@ -9,8 +9,8 @@ use native.Mathlib.Omega.{arith}
 use Rattle.words.specs.Words.{Letter}
 use Rattle.words.specs.Answers.{arrow_to}
 use Rattle.words.specs.declared.State.{State as Stated}
-use Rattle.words.specs.declared.Leads.{Leads}
-use Rattle.words.specs.declared.Leads.TheVariants.{To, Missing}
+use Rattle.words.specs.Answers.{MaybeState}
+use Rattle.std.specs.Prelude.{Some, None}
 use Rattle.words.proofs.Answers.{arrow-told, arrow-untold}
 use Rattle.oracle.specs.Arrows.{State}
 use Rattle.failure.specs.FailureRule.{Asked, further, ask}
@@ -45,23 +45,24 @@ module _ {L : List ℕ} {m : ℕ} {x : State} {c : Letter} (F : FailureFormed L 
       none-taken : (s : Asked) → s ≡ after_taking 0 s
       none-taken s = let e : 0 + s.taken ≡ s.taken = omega arith in rw e
 
-  module _ {y : State} {k : ℕ} (A : Along L m x c y k) (r : Leads) (says : r ≡ arrow_to (read_symbol m L y c)) where
+  module _ {y : State} {k : ℕ} (A : Along L m x c y k) (r : MaybeState) (says : r ≡ arrow_to (read_symbol m L y c)) where
     -- y has the letter
-    pub along_hit : (z : Stated) → r ≡ To z → record { leads = To z; last = record { 0 = y }; taken = k } ≡ answered_as (read_ask m L x c)
+    pub along_hit : (z : Stated) → r ≡ Some z → record { leads = Some z; last = record { 0 = y }; taken = k }
+        ≡ answered_as (read_ask m L x c)
     along_hit z e =
         let there = arrow-told _ r z says e in
         rw (A.same, ask-hit (read_symbol m L) (read_failure m L) A.bound y z.0 c there, add-zero k)
 
     -- y has neither the letter nor a failure arrow
-    pub along_stop : r ≡ Missing → failure_entry m L y ≡ 0
-        → record { leads = Missing; last = record { 0 = y }; taken = k } ≡ answered_as (read_ask m L x c)
+    pub along_stop : r ≡ None → failure_entry m L y ≡ 0
+        → record { leads = None; last = record { 0 = y }; taken = k } ≡ answered_as (read_ask m L x c)
     along_stop e z =
         let lacks = arrow-untold _ r says e in
         let stops = failure-none m L y A.state z in
         rw (A.same, ask-stop (read_symbol m L) (read_failure m L) A.bound y c lacks stops, add-zero k)
 
     -- y has a failure arrow
-    pub along_fail : r ≡ Missing → failure_entry m L y ≢ 0 → Along L m x c (failure_entry m L y) (k + 1)
+    pub along_fail : r ≡ None → failure_entry m L y ≢ 0 → Along L m x c (failure_entry m L y) (k + 1)
     along_fail e z =
         let up = F.climbs y A.state z in
         let g = A.bound - 1 in

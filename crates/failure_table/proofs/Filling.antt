@@ -1,58 +1,45 @@
--- A WORD WRITTEN INTO A CLEARED TABLE, behind its first entry: the table is that of the word alone, no suffix is walked yet, and the word
--- is the one that stands there.
-use mathlib.Core.Path.{◌≡◌, refl, sym, ◌∙◌}
-use mathlib.Core.Logic.{by_cases}
-use mathlib.Core.List.{List, ◌∷◌, ◌++◌}
+-- A WORD THAT STANDS IN ROW 0 of a table whose other entries are cleared: the table is that of the word alone, and no suffix is walked yet.
+use mathlib.Core.Path.{◌≡◌, refl}
+use mathlib.Core.List.{List, [], ◌∷◌}
 use Prim.Native.Nat.{ℕ, suc, ◌+◌, ◌*◌, ◌-◌, ◌≤◌, ◌<◌}
-use native.Mathlib.Decide.{dec_lt}
 use native.Mathlib.Omega.{arith}
-use lib.ListN.{length, replicate, length-replicate, replicate-append-replicate, get_or-eq_default}
-use lib.Seq.{take_at, drop_at}
+use lib.ListN.{length, set, replicate, take, drop, length-take, length-drop, drop_of_length-le}
 use borrow.Rule.Slice.PartMut.{put_mid}
+use Rattle.std.proofs.lemmas.List.{append-nil, length-take-le}
 use Rattle.words.specs.Words.{letter}
 use Rattle.failure.specs.FailureRule.{after_suffix}
 use Rattle.failure_table.specs.FailureTable.{failure_room, word_alone, lay_failures, lay_arrows, failure_table_from}
 use Rattle.failure_table.specs.Building.{word_in, Stage}
 
--- Z is the table of k entries, cleared, and the part that is lent comes back as r, the word p
-module _ {Z r p : List ℕ} {m k : ℕ} (size : k ≡ failure_room m) (cleared : Z ≡ replicate k 0) (put : r ≡ p) (as_long : length p ≡ m) where
-  abbrev with_word : List ℕ
-  with_word = put_mid 1 (m + 1 - 1) Z r
+-- L with zeros r behind row 0, and one before the word
+abbrev pub cleared : ℕ → List ℕ → List ℕ → List ℕ
+cleared m L r = put_mid (m + 1) (length (set L 0 0) - (m + 1)) (set L 0 0) r
 
-  abbrev rest : List ℕ
-  rest = replicate (9 * (m + 1)) 0
+-- how many entries are behind row 0
+abbrev pub behind : ℕ → List ℕ → ℕ
+behind m L = length (take (length (set L 0 0) - (m + 1)) (drop (m + 1) (set L 0 0)))
 
-  zeros : Z ≡ 0 ∷ (replicate m 0 ++ rest)
-  zeros =
-      let e : k ≡ suc (m + 9 * (m + 1)) = omega arith in
-      cleared ∙ rw (e, replicate-append-replicate {A = ℕ} m (9 * (m + 1)) 0)
-
-  written : with_word ≡ 0 ∷ (p ++ rest)
-  written =
-      let e : m + 1 - 1 ≡ m = omega arith in
-      let behind = drop_at {A = ℕ} (replicate m 0) rest m (length-replicate m 0) in
-      rw (zeros, put, e, behind)
-
-  written-alone : with_word ≡ word_alone p
+module _ (m : ℕ) where
+  -- the word stands there alone
+  cleared-alone : (L r : List ℕ) → length L ≡ failure_room m → r ≡ replicate (behind m L) 0 → cleared m L r ≡ word_alone (word_in L m)
   unfolding word_alone
-  written-alone = written ∙ sym (rw as_long)
-
-  -- a byte is a letter, and so is the zero that is looked up past the word
-  all-bytes : ((i : ℕ) → i < m → letter p i < 256) → (i : ℕ) → letter p i < 256
-  all-bytes bytes i = by_cases (dec_lt i m) (bytes i) (λ h. omega (arith, get_or-eq_default p 0 {n = i} (omega arith)))
-
-  -- the word is p
-  pub word_put_lem : word_in with_word m ≡ p
-  word_put_lem = rw written (take_at p rest m as_long)
+  cleared-alone [] r size zeros = absurd (omega (arith, size))
+  cleared-alone (x ∷ l) r size zeros =
+      let one : m + 1 ≡ suc m = omega arith in
+      let end : drop (suc (length l) - suc m) (drop m l) ≡ [] = drop_of_length-le (drop m l) (omega (arith, length-drop m l)) in
+      let long : length (take m l) ≡ m = length-take-le m l (omega (arith, size)) in
+      let many : behind m (x ∷ l) ≡ 9 * (m + 1) = omega (arith, size, length-take {A = ℕ}, length-drop {A = ℕ}) in
+      rw (zeros, many, long, one, end, append-nil) refl
 
   -- and suffixes can be walked
-  pub word_stage : 1 ≤ m → m < 65535 → ((i : ℕ) → i < m → letter p i < 256) → Stage (word_in with_word m) m with_word 0 0
+  pub word_stage : (L : List ℕ) {r : List ℕ} → length L ≡ failure_room m → r ≡ replicate (behind m L) 0 → 1 ≤ m → m < 65535
+      → ((i : ℕ) → letter (word_in L m) i < 256) → Stage (word_in L m) m (cleared m L r) 0 0
   unfolding after_suffix failure_table_from lay_arrows lay_failures
-  word_stage some-letter small bytes = rw word_put_lem (record {
-    long = as_long;
+  word_stage L {r} size zeros some-letter small bytes = record {
+    long = length-take-le m (drop 1 L) (omega (arith, size, length-drop 1 L));
     small = small;
-    letters = all-bytes bytes;
+    letters = bytes;
     inside = some-letter;
-    table = written-alone;
+    table = cleared-alone L r size zeros;
     slots = refl;
-  })
+  }

@@ -8,7 +8,7 @@ use native.Mathlib.Omega.{arith}
 use Rattle.words.specs.Lists.{at}
 use Rattle.words.specs.Words.{Letter}
 use Rattle.words.specs.Answers.{arrow_to}
-use Rattle.words.specs.declared.Leads.TheVariants.{To, Missing}
+use Rattle.std.specs.Prelude.{Some, None}
 use Rattle.oracle.specs.Arrows.{State}
 use Rattle.failure_table.specs.FailureTable.{seek, read_symbol}
 use Rattle.failure_table.specs.FailureFormed.{FailureFormed}
@@ -23,7 +23,7 @@ pub record Seeking (L : List ℕ) (m : ℕ) (x : State) (c : Letter) (s : ℕ) :
 
 module _ {L : List ℕ} {m : ℕ} {x : State} {c : Letter} (F : FailureFormed L m) (state : x ≤ m) where
   -- the spine has the arrow
-  pub seek-spine : x < m → at L (x + 1) ≡ c → To (record { 0 = x + 1 }) ≡ arrow_to (read_symbol m L x c)
+  pub seek-spine : x < m → at L (x + 1) ≡ c → Some (record { 0 = x + 1 }) ≡ arrow_to (read_symbol m L x c)
   seek-spine h e = ap arrow_to (sym (symbol-spine m L x c state (h, e)))
 
   -- it has not
@@ -32,19 +32,15 @@ module _ {L : List ℕ} {m : ℕ} {x : State} {c : Letter} (F : FailureFormed L 
 
   module _ {s : ℕ} (S : Seeking L m x c s) where
     -- no slot is left
-    pub seek-end : s ≡ 0 → Missing ≡ arrow_to (read_symbol m L x c)
+    pub seek-end : s ≡ 0 → None ≡ arrow_to (read_symbol m L x c)
     seek-end e = ap arrow_to (sym (S.same ∙ seek-none m L c (suc m) s e))
 
-    -- the target of a slot is a state
-    pub seek-state : slot_target m L s ≤ m
-    seek-state = F.targets s S.slot
-
     -- the next slot is an older one
-    pub seek-older : s ≢ 0 → next_slot m L s < s
+    seek-older : s ≢ 0 → next_slot m L s < s
     seek-older f = F.nexts s (omega arith) S.slot
 
     -- the slot has the arrow
-    pub seek_hit : s ≢ 0 → slot_letter m L s ≡ c → To (record { 0 = slot_target m L s }) ≡ arrow_to (read_symbol m L x c)
+    pub seek_hit : s ≢ 0 → slot_letter m L s ≡ c → Some (record { 0 = slot_target m L s }) ≡ arrow_to (read_symbol m L x c)
     seek_hit f e = ap arrow_to (sym (S.same ∙ seek-here m L c m s f e))
 
     -- it has not

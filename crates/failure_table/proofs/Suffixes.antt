@@ -18,7 +18,7 @@ use borrow.Author.Tests.{eq-eqb, ne_eqb, lt-ltb, le-ltb}
 use Rattle.words.specs.Lists.{at}
 use Rattle.words.specs.Words.{Letter, Word, letter}
 use Rattle.words.specs.declared.State.{State as Stated}
-use Rattle.words.specs.declared.Leads.TheVariants.{To, Missing}
+use Rattle.std.specs.Prelude.{Some, None}
 use Rattle.words.proofs.Answers.{arrow-told, arrow-untold}
 use Rattle.oracle.specs.Arrows.{State, Delta}
 use Rattle.oracle.specs.SuffixRule.{Halt, far}
@@ -180,7 +180,7 @@ module _ {p : Word} {m : ℕ} {L : List ℕ} {u i : ℕ} (S : Stage p m L u i) w
     said = says ∙ rw (stage_letter k more, S.table, ← S.long, steps-read p arrow-set)
 
     -- the letter leads on
-    pub walking_goes : (y : Stated) → r.leads ≡ To y → Walking p i (k + 1) y.0
+    pub walking_goes : (y : Stated) → r.leads ≡ Some y → Walking p i (k + 1) y.0
     walking_goes y e =
         let there : δ x (letter p k) ≡ some y.0 = arrow-told _ r.leads y (ap (λ (s : Answered). s.leads) said) e in
         let one : k + 1 ≡ suc k = omega arith in
@@ -191,7 +191,7 @@ module _ {p : Word} {m : ℕ} {L : List ℕ} {u i : ℕ} (S : Stage p m L u i) w
         }
 
     -- it leads nowhere, and its arrow is added at j
-    module _ (missing : r.leads ≡ Missing) where
+    module _ (missing : r.leads ≡ None) where
       lacks : δ x (letter p k) ≡ none
       lacks = arrow-untold _ r.leads (ap (λ (s : Answered). s.leads) said) missing
 
@@ -216,7 +216,6 @@ module _ {p : Word} {m : ℕ} {L : List ℕ} {u i : ℕ} (S : Stage p m L u i) w
       -- the arrow that is written is the one that the rule adds
       pub walking_lacks : (L' : List ℕ) (u' : ℕ) → i + 1 < m → u' ≡ slots_with u r.last.0 k → L' ≡ with_arrow L (m + 1) u r.last.0 k
           → Stage p m L' u' (i + 1)
-      unfolding with_arrow slots_with
       walking_lacks L' u' h slots written =
           let size : length p + 1 ≡ m + 1 = omega arith in
           let one : k + 1 ≡ suc k = omega arith in

@@ -24,10 +24,10 @@ answered_as s = record { leads = arrow_to s.to; last = record { 0 = s.last }; ta
 abbrev pub word_in : List ℕ → ℕ → Word
 word_in L m = part L 1 m
 
-unfoldable pub with_arrow : List ℕ → ℕ → ℕ → State → ℕ → List ℕ
+abbrev pub with_arrow : List ℕ → ℕ → ℕ → State → ℕ → List ℕ
 with_arrow L n u x k = cond (ltb x k) (set L (n + x) k) (slotted L n u x (k + 1))
 
-unfoldable pub slots_with : ℕ → State → ℕ → ℕ
+abbrev pub slots_with : ℕ → State → ℕ → ℕ
 slots_with u x k = cond (ltb x k) u (u + 1)
 
 pub record Shared (a b : List ℕ) (n : ℕ) : Type 0 where

@@ -1,9 +1,11 @@
 // The table of a word's failure oracle, 10(m+1) entries of 16 bits in rows: how it is filled, and what becomes of a letter by it. Serves
 // the search and the entries.
+// What fills a table is lent the slice and its size side by side: no fact on its entries holds at every write. A slot and a failure arrow
+// of 0 are none: docs/TABLE.md fixes the rows.
 #![tactic(auto)]
 
-ghost use Rattle.std.specs.Prelude.{◌≡◌, ◌+◌, ◌*◌, ◌<◌, ◌≤◌, length};
-ghost use Rattle.words.specs.Words.{mirror, same};
+ghost use Rattle.std.specs.Prelude.{◌≡◌, ℕ, ◌+◌, ◌*◌, ◌<◌, ◌≤◌, ◌↔◌, IsTrue, length};
+ghost use Rattle.words.specs.Words.{mirror, letter};
 ghost use Rattle.words.specs.Answers.{arrow_to};
 ghost use Rattle.failure_table.specs.FailureTable.{word_alone, failure_table, read_symbol, read_ask};
 ghost use Rattle.failure_table.specs.FailureFormed.{FailureFormed};
@@ -12,7 +14,7 @@ ghost use Rattle.failure_table.specs.Building.{answered_as, word_in, with_arrow,
 // Where a letter leads, the last state that was asked for it, and the failure arrows taken.
 #[derive(Clone, Copy)]
 pub struct Answered {
-    pub leads: words::Leads,
+    pub leads: Option<words::State>,
     pub last: words::State,
     pub taken: usize,
 }
@@ -20,62 +22,72 @@ pub struct Answered {
 // How many letters are compared at a time.
 const BLOCK: usize = 32;
 
-// The symbol arrow from x on c.
-fn symbol(table: &[u16], m: usize, x: words::State, c: words::Letter) -> words::Leads
-    requires { FailureFormed table.now m × (x.0 ≤ m) }
-    ensures { result ≡ arrow_to (read_symbol m table.now x.0 c.0) }
-{
-    let n = m + 1;
-    let from = x.0 as usize;
-    let on = c.0 as u16;
-    if from < m {
-        if table[from + 1] == on {
-            return words::Leads::To(words::State((from + 1) as u16));
-        }
-    }
-    let mut slot = table[2 * n + from] as usize;
-    while slot != 0 {
-        let y = table[4 * n + slot];
-        let at = y as usize;
-        if table[at] == on {
-            return words::Leads::To(words::State(y));
-        }
-        slot = table[3 * n + slot] as usize;
-    }
-    words::Leads::Missing
+// A table that is read, of a word of m letters.
+#[derive(Clone, Copy)]
+pub struct FailureTable<'a> {
+    pub entries: &'a [u16],
+    pub m: usize,
+    ghost formed: { FailureFormed entries.now m },
 }
 
-// One letter, along the failure path: every failure arrow climbs.
-pub fn ask(table: &[u16], m: usize, x: words::State, c: words::Letter) -> Answered
-    requires { FailureFormed table.now m × (x.0 ≤ m) }
-    ensures { result ≡ answered_as (read_ask m table.now x.0 c.0) }
-{
-    let n = m + 1;
-    let mut at = x;
-    let mut taken: usize = 0;
-    'path: loop {
-        let words::Leads::To(y) = symbol(table, m, at, c) else {
-            let z = table[n + (at.0 as usize)];
-            if z == 0 {
+impl<'a> FailureTable<'a> {
+    // The symbol arrow from x on c.
+    fn symbol(&self, x: words::State, c: words::Letter) -> Option<words::State>
+        requires { x.0 ≤ self.now.m }
+        ensures { result ≡ arrow_to (read_symbol self.now.m self.now.entries.now x.0 c.0) }
+    {
+        let table = self.entries;
+        let m = self.m;
+        let n = m + 1;
+        let from = x.0 as usize;
+        let on = c.0 as u16;
+        if from < m && table[from + 1] == on {
+            return Some(words::State((from + 1) as u16));
+        }
+        let mut slot = table[2 * n + from] as usize;
+        while slot != 0 {
+            let y = table[4 * n + slot];
+            if table[y as usize] == on {
+                return Some(words::State(y));
+            }
+            slot = table[3 * n + slot] as usize;
+        }
+        None
+    }
+
+    // One letter, along the failure path: every failure arrow climbs.
+    pub fn ask(&self, x: words::State, c: words::Letter) -> Answered
+        requires { x.0 ≤ self.now.m }
+        ensures { result ≡ answered_as (read_ask self.now.m self.now.entries.now x.0 c.0) }
+    {
+        let n = self.m + 1;
+        let mut last = x;
+        let mut taken = 0;
+        loop {
+            if let Some(y) = self.symbol(last, c) {
                 break Answered {
-                    leads: words::Leads::Missing,
-                    last: at,
-                    taken: taken,
+                    leads: Some(y),
+                    last,
+                    taken,
                 };
             }
-            at = words::State(z);
+            let to = self.entries[n + last.0 as usize];
+            if to == 0 {
+                break Answered {
+                    leads: None,
+                    last,
+                    taken,
+                };
+            }
+            last = words::State(to);
             taken += 1;
-            continue 'path;
-        };
-        break Answered {
-            leads: words::Leads::To(y),
-            last: at,
-            taken: taken,
-        };
+        }
     }
 }
 
+// A chain as `chains::push` has, in other rows: their numbers as parameters would say less than their names in docs/TABLE.md.
 // The arrow that a walk lacks which is stuck at x with the letters up to k spelled; the answer is how many slots are used.
+#[tactic(auto, using(std::proofs::lemmas::Bool::Decides::nat_tests), unfolding(crate::specs::FailureTable::slotted))]
 fn add_arrow(table: &mut [u16], m: usize, used: usize, x: words::State, k: usize) -> usize
     requires { (m < 65535) × (x.0 ≤ m) × (k < m) × (used + 1 ≤ m) × (length table.old ≡ 10 * (m + 1)) }
     ensures { (result ≡ slots_with used x.0 k) × (table.new ≡ with_arrow table.old (m + 1) used x.0 k) }
@@ -94,36 +106,27 @@ fn add_arrow(table: &mut [u16], m: usize, used: usize, x: words::State, k: usize
     slot
 }
 
-// Whether two rows are the same. All entries are looked at, so that the compiler can take many at a time.
+// Whether two rows are the same. All entries are looked at, so that the compiler can take many at a time: with `==`, which stops at the
+// first other one, a long word that repeats one letter takes twice as long to build.
 fn same_row(a: &[u16], b: &[u16]) -> bool
-    requires { (length a.now ≡ length b.now) × (length a.now < 65536) }
-    ensures { result ≡ same a.now b.now }
+    requires { length a.now ≡ length b.now }
+    ensures { IsTrue result ↔ (a.now ≡ b.now) }
 {
-    let mut equal: u16 = 0;
-    let mut i = 0;
-    while i < a.len() {
-        let x = a[i];
-        let y = b[i];
-        if x == y {
-            equal += 1;
-        }
-        i += 1;
+    let mut same = true;
+    for (i, x) in a.iter().enumerate() {
+        same &= *x == b[i];
     }
-    (equal as usize) == a.len()
+    same
 }
 
-// How many first entries two rows surely share: in blocks, and then one by one.
+// How many first entries two rows surely share, in blocks: over `as_chunks` this took 1.6 times as long.
 fn shared_blocks(a: &[u16], b: &[u16]) -> usize
     requires { length a.now ≡ length b.now }
     ensures { Shared a.now b.now result }
 {
     let mut n = 0;
-    while n + BLOCK <= a.len() {
-        let end = n + BLOCK;
-        if !same_row(&a[n..end], &b[n..end]) {
-            return n;
-        }
-        n = end;
+    while n + BLOCK <= a.len() && same_row(&a[n..n + BLOCK], &b[n..n + BLOCK]) {
+        n += BLOCK;
     }
     n
 }
@@ -132,26 +135,12 @@ fn shared(a: &[u16], b: &[u16]) -> usize
     requires { length a.now ≡ length b.now }
     ensures { Shared a.now b.now result }
 {
-    let mut n = shared_blocks(a, b);
-    while n < a.len() {
-        let x = a[n];
-        let y = b[n];
-        if x != y {
+    for n in shared_blocks(a, b)..a.len() {
+        if a[n] != b[n] {
             return n;
         }
-        n += 1;
     }
-    n
-}
-
-// The fewer of two numbers.
-fn fewer(a: usize, b: usize) -> usize
-    ensures { (result ≤ a) × (result ≤ b) }
-{
-    if a < b {
-        return a;
-    }
-    b
+    a.len()
 }
 
 // How far a walk that is at x with the letters up to k spelled goes along the spine, the word's last letter left out.
@@ -159,7 +148,7 @@ fn along_spine(table: &[u16], m: usize, x: usize, k: usize) -> usize
     requires { (m < length table.now) × (x ≤ m) × (k < m) }
     ensures { AlongSpine table.now m x k result }
 {
-    let most = fewer(m - x, m - 1 - k);
+    let most = (m - x).min(m - 1 - k);
     shared(&table[x + 1..x + 1 + most], &table[k + 1..k + 1 + most])
 }
 
@@ -179,11 +168,10 @@ fn add_suffix(table: &mut [u16], m: usize, used: usize, i: usize) -> usize
         let run = along_spine(table, m, from, k);
         let end = k + run;
         let c = words::Letter((table[end + 1] % 256) as u8);
-        let s = ask(table, m, words::State((from + run) as u16), c);
-        let found = s.leads;
-        let words::Leads::To(y) = found else {
-            let last = s.last;
-            return add_arrow(table, m, used, last, end);
+        let read = FailureTable { entries: table, m };
+        let s = read.ask(words::State((from + run) as u16), c);
+        let Some(y) = s.leads else {
+            return add_arrow(table, m, used, s.last, end);
         };
         x = y;
         k = end + 1;
@@ -191,16 +179,17 @@ fn add_suffix(table: &mut [u16], m: usize, used: usize, i: usize) -> usize
     used
 }
 
-// The table of the word that stands in row 0.
+// The table of the word that stands in row 0, whatever else stands in it.
 fn finish(table: &mut [u16], m: usize)
-    requires { Stage (word_in table.old m) m table.old 0 0 }
+    requires bounds { (1 ≤ m) × (m < 65535) × (length table.old ≡ 10 * (m + 1)) }
+    requires bytes { (k : ℕ) → letter (word_in table.old m) k < 256 }
     ensures { table.new ≡ failure_table (word_in table.old m) }
 {
+    table[0] = 0;
+    table[m + 1..].fill(0);
     let mut used = 0;
-    let mut i = 0;
-    while i + 1 < m {
+    for i in 0..m - 1 {
         used = add_suffix(table, m, used, i);
-        i += 1;
     }
 }
 
@@ -209,19 +198,15 @@ pub fn fill(word: &[u8], table: &mut [u16])
     requires { (1 ≤ length word.now) × (length word.now < 65535) × (length table.old ≡ 10 * (length word.now + 1)) }
     ensures { table.new ≡ failure_table word.now }
 {
-    table::clear(table);
-    let end = word.len() + 1;
-    table::put_word(word, &mut table[1..end]);
+    rows::widen(word, &mut table[1..=word.len()]);
     finish(table, word.len());
 }
 
-// The table of a word's mirror.
+// The table of a word's mirror: no twin in a type or a constant, as the word is put otherwise.
 pub fn fill_mirror(word: &[u8], table: &mut [u16])
     requires { (1 ≤ length word.now) × (length word.now < 65535) × (length table.old ≡ 10 * (length word.now + 1)) }
     ensures { table.new ≡ failure_table (mirror word.now) }
 {
-    table::clear(table);
-    let end = word.len() + 1;
-    table::put_mirror(word, &mut table[1..end]);
+    table::put_mirror(word, &mut table[1..=word.len()]);
     finish(table, word.len());
 }

@@ -10,9 +10,9 @@ use Rattle.words.specs.Lists.{at}
 use Rattle.words.specs.Words.{Word, Place}
 use Rattle.words.proofs.Limits.{words_fit}
 use Rattle.number.specs.Number.{Bytes, greatest, spell_number, number_at}
-use Rattle.number.specs.declared.Number.TheVariants.{Refused}
+use Rattle.std.specs.Prelude.{Err}
 use Rattle.number.specs.Exactly.{BadByte}
-use Rattle.number.proofs.Theorems.{ReadAt, bad-exactly, number_at-spelled, spelling-length, spelling_prefix_free}
+use Rattle.number.proofs.Theorems.{ReadAt, byte_fault, bad-exactly, number_at-spelled, spelling-length, spelling_prefix_free}
 use Rattle.saved.specs.File.{edition, Step, spell_steps, own_steps, body, spell}
 use Rattle.saved.proofs.Slots.{own-few}
 use Rattle.saved.proofs.Spelled.{edition-number}
@@ -46,7 +46,7 @@ module _ (s : List ℕ) (bytes : Bytes s) {i p : Place} (b : BadByte s i p) (B :
   none-stands : (v : ℕ) (y : List ℕ) → v ≤ greatest → spell_number v ++ y ≡ drop i f → ⊥
   none-stands v y h e =
       let read : ReadAt f i v = number_at-spelled f i v y h (sym e) in
-      let refused : number_at f i ≡ Refused 6 p = (bad-exactly f i p).1 bad-there in
+      let refused : number_at f i ≡ Err (byte_fault f i p) = (bad-exactly f i p).1 bad-there in
       let z : ◌≡◌ {A = ℕ} 0 1 = cc in omega arith
 
   -- but there are bytes

@@ -1,12 +1,12 @@
 // The caller's list of finds: the first of them, as many as fit, and their exact number. This room alone writes finds; every search above
-// it does so here.
+// it does so here. The count goes on where the list is full, so it is not the list's length.
 #![tactic(auto)]
 
 ghost use Rattle.std.specs.Prelude.{◌≡◌, List, [], ◌∷◌, ◌++◌, ℕ, ◌+◌, ◌<◌, length};
 ghost use Rattle.finds.specs.Finds.{filled};
 
 // How often a word was found, and how many letters were read for it.
-#[derive(Clone, Copy)]
+#[derive(Clone, Copy, Debug, PartialEq, Eq)]
 pub struct Tally {
     pub count: usize,
     pub letters: u64,

@@ -20,9 +20,10 @@ use Rattle.turbo_steps.proofs.Theorems.{turbo-lists-occurrences, turbo_letters_m
 use Rattle.search.specs.Answers.{tally_of}
 use Rattle.finds.specs.declared.Tally.{Tally}
 use Rattle.finds.specs.Finds.{filled}
-use Rattle.answers.specs.declared.TallyAnswer.{TallyAnswer}
+use Rattle.std.specs.Prelude.{Result}
+use Rattle.answers.specs.declared.Refusal.{Refusal}
 use Rattle.answers.specs.Answers.{Answer, done, refused, refused_at, refuses_only}
-use Rattle.answers.proofs.Answers.{done_not_refused, tally_answer-one}
+use Rattle.answers.proofs.Answers.{done_not_refused, answer_of-one}
 use Rattle.marks.specs.Search.{Outcome, outcome, searched, search_says}
 use Rattle.marks.specs.Cases.{SearchCase}
 use Rattle.marks.proofs.SearchSays.{search_is, refusal_leaves}
@@ -133,8 +134,8 @@ module _ (word text : Word) (T : List ℕ) (F : List Place) where
 -- ── One outcome ────────────────────────────────────────────────────────────
 
 -- two outcomes that the promise of turbo allows are equal
-pub turbo-one : (word text : Word) (T : List ℕ) (F : List Place) (r s : TallyAnswer) (A B : List ℕ) (G H : List Place)
+pub turbo-one : (word text : Word) (T : List ℕ) (F : List Place) (r s : Result Tally Refusal) (A B : List ℕ) (G H : List Place)
     → searched r A G ≡ turbo_says word text T F → searched s B H ≡ turbo_says word text T F → (r ≡ s) × (A ≡ B) × (G ≡ H)
 turbo-one word text T F r s A B G H e f =
     let g : searched r A G ≡ searched s B H = e ∙ sym f in
-    (tally_answer-one r s (ap (λ o. o.answer) g), ap (λ o. o.tables) g, ap (λ o. o.finds) g)
+    (answer_of-one r s (ap (λ o. o.answer) g), ap (λ o. o.tables) g, ap (λ o. o.finds) g)

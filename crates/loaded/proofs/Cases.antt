@@ -1,6 +1,6 @@
 -- The ways of `specs/Cases` are those that `front_at`, `arrows_at`, `ending` and `verdict` go: for each, first that some way leads to what
 -- it shows, then that every way that applies leads there.
-use mathlib.Core.Path.{◌≡◌, refl}
+use mathlib.Core.Path.{◌≡◌, refl, ap}
 use mathlib.Core.Bool.{Bool, true, false, ◌&&◌, cond}
 use mathlib.Core.Logic.{inl, inr}
 use mathlib.Core.List.{List, [], ◌∷◌}
@@ -13,8 +13,10 @@ use Rattle.words.specs.Words.{Word, Place}
 use Rattle.words.specs.Limits.{least_saved, longest_word}
 use Rattle.words.proofs.Lists.{and_true}
 use Rattle.words.proofs.Limits.{least_below_longest}
+use Rattle.std.specs.Prelude.{Result, Ok, Err}
+use Rattle.answers.specs.declared.Fault.{Fault}
+use Rattle.answers.specs.Answers.{flaw_number}
 use Rattle.number.specs.declared.Number.{Number}
-use Rattle.number.specs.declared.Number.TheVariants.{Value, Refused}
 use Rattle.number.specs.Number.{number_at}
 use Rattle.number.proofs.Theorems.{Refusal, number_at-refused, cut-exactly, bad-exactly}
 use Rattle.saved.specs.File.{edition, Step, own_steps}
@@ -31,16 +33,16 @@ use Rattle.loaded.specs.Cases.{VerdictCase, arrows_wrong, leftovers, all_read}
 -- ── A number ───────────────────────────────────────────────────────────────
 
 module _ (s : List ℕ) (i : Place) where
-  pub unread : {r : ℕ} {p : Place} → Unread s i r p → number_at s i ≡ Refused r p
-  unread (cut_off c) = (cut-exactly s i).1 c
-  unread (bad_byte {p = p} b) = (bad-exactly s i p).1 b
+  pub unread : {A : Type 0} (off on : ℕ → ℕ → A) {r : ℕ} {p : Place} → Unread s i r p → field s i off on ≡ off r p
+  unread off on (cut_off c) = rw ((cut-exactly s i).1 c)
+  unread off on (bad_byte {p = p} b) = rw ((bad-exactly s i p).1 b)
 
-  pub refused_unread : {r : ℕ} {p : Place} → number_at s i ≡ Refused r p → Unread s i r p
-  refused_unread {r} {p} e = by (number_at-refused s i e)
+  pub refused_unread : {f : Fault} → number_at s i ≡ Err f → Unread s i (flaw_number f.flaw) f.place
+  refused_unread {f} e = by (number_at-refused s i e)
     where
-      by : Refusal s i r p → Unread s i r p
-      by (inl q) = rw (q.0, q.1) (cut_off q.2)
-      by (inr q) = rw q.0 (bad_byte q.1)
+      by : Refusal s i f → Unread s i (flaw_number f.flaw) f.place
+      by (inl q) = rw q.0 (cut_off q.1)
+      by (inr q) = rw (ap (λ f. f.flaw) q.0) (bad_byte q.1)
 
 -- ── Fields and tests, by cases ─────────────────────────────────────────────
 
@@ -49,9 +51,9 @@ module _ {A : Type 0} (P : A → Type 0) where
       → ((r : ℕ) (p : Place) → Unread s i r p → P (off r p)) → ((v : ℕ) (j : Place) → Reads s i v j → P (on v j)) → P (field s i off on)
   field_case s i off on f g = by (number_at s i) refl
     where
-      by : (x : Number) → number_at s i ≡ x → P (taking x off on)
-      by (Value v c) e = g v c.at e
-      by (Refused r p) e = f r p (refused_unread s i e)
+      by : (x : Result Number Fault) → number_at s i ≡ x → P (taking x off on)
+      by (Ok n) e = g n.value n.next.at e
+      by (Err x) e = f (flaw_number x.flaw) x.place (refused_unread s i e)
 
   test_case : (b : Bool) {x y : A} → (b ≡ true → P x) → (b ≡ false → P y) → P (cond b x y)
   test_case true f g = f refl
@@ -99,9 +101,9 @@ module _ (s : List ℕ) where
   -- and every way that applies leads there
   pub case_front : {o : Place} {f : Front} → FrontCaseAt s o f → front_at s o ≡ f
   unfolding front_within
-  case_front (edition_unread u) = rw (unread s _ u)
+  case_front (edition_unread u) = unread s _ stop _ u
   case_front (edition_other {e = e} h d) = rw (h, ne_eqb e edition d)
-  case_front (length_unread h u) = rw (h, eq-eqb edition edition refl, unread s _ u)
+  case_front (length_unread h u) = rw (h, eq-eqb edition edition refl) (unread s _ stop _ u)
   case_front (length_bad {m = m} h k (inl z)) = rw (h, eq-eqb edition edition refl, k, lt-leb least_saved m z)
   case_front (length_bad {m = m} h k (inr z)) =
       rw (h, eq-eqb edition edition refl, k, le-leb least_saved m (omega (arith, least_below_longest)), lt-leb m longest_word z)
@@ -135,12 +137,23 @@ module _ (s : List ℕ) where
       arrow_agrees (rw (eqb-true a t.up q.0) at h) (rw (eqb-true b t.over q.1) at g) (arrows_case k n l))
       (λ e. arrow_differs h g (next_differs a b t e)))
 
+  -- a number that is not read, first or second, is what the two come to
+  neither_first : {C : Type 0} (off : ℕ → ℕ → C) (on : ℕ → ℕ → ℕ → C) (i : Place) {r : ℕ} {p : Place} → Unread s i r p
+      → taking_two (two_at s i) off on ≡ off r p
+  unfolding two_at
+  neither_first off on i u = ap (λ t. taking_two t off on) (unread s _ neither _ u)
+
+  neither_second : {C : Type 0} (off : ℕ → ℕ → C) (on : ℕ → ℕ → ℕ → C) (i : Place) {a : ℕ} {j : Place} {r : ℕ} {p : Place}
+      → Reads s i a j → Unread s j r p → taking_two (two_at s i) off on ≡ off r p
+  unfolding two_at
+  neither_second off on i h u = rw h (ap (λ t. taking_two t off on) (unread s _ neither _ u))
+
   -- and every way that applies leads there
   pub case_arrows : {i : Place} {n : ℕ} {l : List Step} {e : Ending} → ArrowsCase s i n l e → arrows_at s i n l ≡ e
   unfolding arrows_at two_at
   case_arrows (arrow_agrees {t = t} h g c) = rw (h, g, eq-eqb t.up t.up refl, eq-eqb t.over t.over refl) (case_arrows c)
-  case_arrows (up_unread u) = rw (unread s _ u)
-  case_arrows (over_unread h u) = rw (h, unread s _ u)
+  case_arrows (up_unread u) = neither_first broken _ _ u
+  case_arrows (over_unread h u) = neither_second broken _ _ h u
   case_arrows (arrow_differs {a = a} {b = b} {t = t} h g d) = rw (h, g, differs_next a b t d)
   case_arrows (no_arrow_left h g) = rw (h, g)
   case_arrows arrows_missing = refl
@@ -158,7 +171,7 @@ module _ (s : List ℕ) where
   -- and every way that applies leads there
   pub case_ending : {i : Place} {w : Word} {e : Ending} → EndingCase s i w e → ending s i w ≡ e
   unfolding ending
-  case_ending (count_unread u) = rw (unread s _ u)
+  case_ending (count_unread u) = unread s _ broken _ u
   case_ending {w = w} (count_too_large {n = n} h g) = rw (h, lt-leb n (length w - 1) g)
   case_ending {w = w} (count_fits {n = n} h g c) = rw (h, le-leb n (length w - 1) g) (case_arrows c)
 

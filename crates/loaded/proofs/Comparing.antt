@@ -41,42 +41,44 @@ module _ (w : Word) (x : State) (slot : ℕ) where
 
 -- ── All of them ────────────────────────────────────────────────────────────
 
--- of n declared arrows from place i on, `left` are still to be read, from place j on; the word's own are ahead from `slot` on, x being
--- the source before
-pub record Comparing (w : Word) (s : List ℕ) (i n j left slot : ℕ) (x : State) : Type 0 where
-  pub same : arrows_at s j left (steps_ahead w x slot) ≡ arrows_at s i n (own_steps w)
+-- of n declared arrows from place i on, those behind the first `slot` are still to be read, from place j on; so are the word's own, x
+-- being the source before
+pub record Comparing (w : Word) (s : List ℕ) (i n j slot : ℕ) (x : State) : Type 0 where
+  pub same : arrows_at s j (n - slot) (steps_ahead w x slot) ≡ arrows_at s i n (own_steps w)
   pub stands : Standing w x slot
 
 -- nothing is compared
-pub compare_start : (w : Word) (s : List ℕ) (i n : ℕ) → 1 ≤ length w → Comparing w s i n i n 0 0
+pub compare_start : (w : Word) (s : List ℕ) (i n : ℕ) → 1 ≤ length w → Comparing w s i n i 0 0
 unfolding own_steps
-compare_start w s i n h = record { same = refl; stands = stand_start w h }
+compare_start w s i n h = record { same = let e : n - 0 ≡ n = omega arith in rw e; stands = stand_start w h }
 
-module _ {w : Word} {s : List ℕ} {i n j left slot : ℕ} {x : State} (C : Comparing w s i n j left slot x) where
+module _ {w : Word} {s : List ℕ} {i n j slot : ℕ} {x : State} (C : Comparing w s i n j slot x) where
   abbrev Shown : Ending → Type 0
   Shown v = v ≡ arrows_at s i n (own_steps w)
 
-  shown : {v : Ending} → arrows_at s j left (steps_ahead w x slot) ≡ v → Shown v
+  shown : {v : Ending} → arrows_at s j (n - slot) (steps_ahead w x slot) ≡ v → Shown v
   shown e = sym e ∙ C.same
 
-  module _ (none : left ≤ 0) where
+  module _ (none : n ≤ slot) where
     -- arrows are missing
     pub shows-missing : slot < length (own_steps w) → Shown (broken 10 j)
-    shows-missing h = shown (arrows-none s j _ left none ∙ simp (some-ahead w x slot h))
+    shows-missing h = shown (arrows-none s j _ (n - slot) (omega arith) ∙ simp (some-ahead w x slot h))
 
     -- none is
     pub shows-behind : length (own_steps w) ≤ slot → Shown (behind j)
-    shows-behind all = shown (arrows-none s j _ left none ∙ simp (none_ahead w x slot all))
+    shows-behind all = shown (arrows-none s j _ (n - slot) (omega arith) ∙ simp (none_ahead w x slot all))
 
-  module _ (some : 0 < left) where
+  module _ (some : slot < n) where
     -- a number is refused
     pub shows-refused : {e p : ℕ} → neither e p ≡ two_at s j → Shown (broken e p)
-    shows-refused r = shown (arrows-some s j _ left some ∙ simp (sym r))
+    shows-refused r = shown (arrows-some s j _ (n - slot) (omega arith) ∙ simp (sym r))
 
     module _ {a b k : ℕ} (read : both a b k ≡ two_at s j) where
-      turn : arrows_at s j left (steps_ahead w x slot)
-          ≡ cond (next_is a b (steps_ahead w x slot)) (arrows_at s k (left - 1) (later (steps_ahead w x slot))) (broken 10 j)
-      turn = arrows-some s j _ left some ∙ simp (sym read)
+      turn : arrows_at s j (n - slot) (steps_ahead w x slot)
+          ≡ cond (next_is a b (steps_ahead w x slot)) (arrows_at s k (n - (slot + 1)) (later (steps_ahead w x slot))) (broken 10 j)
+      turn =
+          let e : n - slot - 1 ≡ n - (slot + 1) = omega arith in
+          arrows-some s j _ (n - slot) (omega arith) ∙ simp (sym read, e)
 
       -- the word has no more
       pub shows_too_many : length (own_steps w) ≤ slot → Shown (broken 10 j)
@@ -88,5 +90,5 @@ module _ {w : Word} {s : List ℕ} {i n j left slot : ℕ} {x : State} (C : Comp
         shows_other off = shown (turn ∙ simp (L.next, off))
 
         -- it is the same
-        pub compare_next : eqb a r.up && eqb b r.over ≡ true → Comparing w s i n k (left - 1) (slot + 1) r.source.0
+        pub compare_next : eqb a r.up && eqb b r.over ≡ true → Comparing w s i n k (slot + 1) r.source.0
         compare_next on = record { same = sym (turn ∙ simp (L.next, on)) ∙ C.same; stands = L.stands }

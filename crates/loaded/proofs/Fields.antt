@@ -9,9 +9,10 @@ use native.Mathlib.Omega.{arith}
 use lib.ListN.{length, drop}
 use lib.Seq.{drop-drop, drop-append_seam, drop-append-le}
 use Rattle.words.specs.Words.{Place}
-use Rattle.number.specs.declared.Number.TheVariants.{Refused}
+use Rattle.std.specs.Prelude.{Err}
+use Rattle.answers.specs.declared.Flaw.TheVariants.{EndsEarly, Misspelled}
 use Rattle.number.specs.Number.{greatest, spell_number, Seen, number, ends, refused, see_number, number_at}
-use Rattle.number.proofs.Theorems.{read-append, number_at-spelled, number_at-inside, cut-exactly, bad-exactly}
+use Rattle.number.proofs.Theorems.{read-append, number_at-spelled, number_at-inside, cut_fault, byte_fault, cut-exactly, bad-exactly}
 use Rattle.loaded.specs.Cases.{Reads, Unread, cut_off, bad_byte}
 
 -- ── Numbers that stand there ───────────────────────────────────────────────
@@ -53,12 +54,12 @@ module _ (s : List ℕ) (i : Place) where
 
   module _ (x : List ℕ) where
     -- they change nothing, unless the file ends before or inside the number
-    number-longer : (number_at s i ≡ Refused 5 (length s)) ⊎ (number_at (s ++ x) i ≡ number_at s i)
+    number-longer : (number_at s i ≡ Err (cut_fault s i)) ⊎ (number_at (s ++ x) i ≡ number_at s i)
     unfolding number_at
     number-longer = by_place (dec_le i (length s))
       where
         Same : Type 0
-        Same = (number_at s i ≡ Refused 5 (length s)) ⊎ (number_at (s ++ x) i ≡ number_at s i)
+        Same = (number_at s i ≡ Err (cut_fault s i)) ⊎ (number_at (s ++ x) i ≡ number_at s i)
 
         by_seen : (g : Seen) → see_number (drop i s) ≡ g → see_number (drop i (s ++ x)) ≡ g → Same
         by_seen (number v n) e q = inr (rw (q, e))
@@ -77,7 +78,7 @@ module _ (s : List ℕ) (i : Place) where
     pub reads-longer : {v : ℕ} {j : Place} → Reads s i v j → Reads (s ++ x) i v j
     reads-longer {v} {j} h = by number-longer
       where
-        by : (number_at s i ≡ Refused 5 (length s)) ⊎ (number_at (s ++ x) i ≡ number_at s i) → Reads (s ++ x) i v j
+        by : (number_at s i ≡ Err (cut_fault s i)) ⊎ (number_at (s ++ x) i ≡ number_at s i) → Reads (s ++ x) i v j
         by (inl e) = let z : ◌≡◌ {A = ℕ} 0 1 = cc in absurd (omega arith)
         by (inr e) = e ∙ h
 
@@ -86,7 +87,10 @@ module _ (s : List ℕ) (i : Place) where
     unread_longer (cut_off e) = inl (refl, refl)
     unread_longer (bad_byte {p = p} b) = inr (bad_byte ((bad-exactly (s ++ x) i p).0 (by number-longer ((bad-exactly s i p).1 b))))
       where
-        by : (number_at s i ≡ Refused 5 (length s)) ⊎ (number_at (s ++ x) i ≡ number_at s i) → number_at s i ≡ Refused 6 p
-            → number_at (s ++ x) i ≡ Refused 6 p
-        by (inl q) e = let z : ◌≡◌ {A = ℕ} 0 1 = cc in absurd (omega arith)
+        by : (number_at s i ≡ Err (cut_fault s i)) ⊎ (number_at (s ++ x) i ≡ number_at s i) → number_at s i ≡ Err (byte_fault s i p)
+            → number_at (s ++ x) i ≡ Err (byte_fault s i p)
+        by (inl q) e =
+            let same : cut_fault s i ≡ byte_fault s i p = cc in
+            let flaws : EndsEarly ≡ Misspelled = ap (λ f. f.flaw) same in
+            cc
         by (inr q) e = q ∙ e

@@ -11,8 +11,10 @@ use borrow.Author.Tests.{le-leb, lt-leb, leb-true}
 use Rattle.words.specs.Limits.{least_saved, longest_word}
 use Rattle.words.proofs.Lists.{and_true}
 use Rattle.words.proofs.Limits.{saved-some}
-use Rattle.number.specs.declared.Cursor.{Cursor}
-use Rattle.number.specs.declared.Number.TheVariants.{Value}
+use Rattle.std.specs.Prelude.{Ok}
+use Rattle.std.specs.Ordering.{is_le, nat_cmp}
+use Rattle.std.proofs.lemmas.Bool.Decides.{nat_tests}
+use Rattle.number.specs.declared.Number.{Number}
 use Rattle.number.specs.Number.{number_at}
 use Rattle.loaded.specs.Cases.{FrontCaseAt, edition_unread, edition_other, length_unread, length_bad, letters_missing, letters-there}
 use Rattle.loaded.proofs.Cases.{front_case}
@@ -20,21 +22,31 @@ use Rattle.loaded.specs.Load.{Front, letters, stop, letters_at, front_at, front}
 
 -- ── From the number of letters ─────────────────────────────────────────────
 
-module _ (s : List ℕ) (i : ℕ) {m : ℕ} {c : Cursor} (read : number_at s i ≡ Value m c) where
+-- what the library's order tests
+pub le_told : (a b : ℕ) → is_le (nat_cmp a b) ≡ leb a b
+le_told a b = grind (arith, nat_tests)
+
+module _ (s : List ℕ) (i : ℕ) {n : Number} (read : number_at s i ≡ Ok n) where
+  abbrev m : ℕ
+  m = n.value
+
+  abbrev j : ℕ
+  j = n.next.at
+
   -- it is below the least or above the greatest
   pub shows_other_size : leb least_saved m && leb m longest_word ≡ false → stop 8 i ≡ letters_at s i
   shows_other_size off = simp (read, off)
 
   module _ (sized : leb least_saved m && leb m longest_word ≡ true) where
     -- the file ends before the last of the letters
-    pub shows-cut : length s - c.at < m → stop 5 (length s) ≡ letters_at s i
-    shows-cut short = simp (read, sized, lt-leb (c.at + m) (length s) (omega arith))
+    pub shows-cut : length s - j < m → stop 5 (length s) ≡ letters_at s i
+    shows-cut short = simp (read, sized, lt-leb (j + m) (length s) (omega arith))
 
     -- the letters are there
-    pub shows-letters : m ≤ length s - c.at → letters m c.at ≡ letters_at s i
+    pub shows-letters : m ≤ length s - j → letters m j ≡ letters_at s i
     shows-letters there =
         let some : 1 ≤ m = omega (arith, saved-some, leb-true least_saved m (and_true {a = leb least_saved m} sized).0) in
-        simp (read, sized, le-leb (c.at + m) (length s) (omega arith))
+        simp (read, sized, le-leb (j + m) (length s) (omega arith))
 
 -- ── What a caller has ──────────────────────────────────────────────────────
 

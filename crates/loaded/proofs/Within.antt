@@ -11,8 +11,9 @@ use borrow.Author.Tests.{eqb-true, eq-eqb, le-leb, lt-leb}
 use Rattle.words.specs.Words.{Place}
 use Rattle.words.specs.Limits.{longest_word, least_saved}
 use Rattle.words.proofs.Limits.{limits_allow}
+use Rattle.std.specs.Prelude.{Result, Ok, Err}
+use Rattle.answers.specs.declared.Fault.{Fault}
 use Rattle.number.specs.declared.Number.{Number}
-use Rattle.number.specs.declared.Number.TheVariants.{Value, Refused}
 use Rattle.number.specs.Number.{number_at}
 use Rattle.saved.specs.File.{edition}
 use Rattle.loaded.specs.Load.{taking, field, stop, front_within, front_at}
@@ -23,9 +24,9 @@ field-same : {A : Type 0} (s : List ℕ) (i : Place) (off on on' : ℕ → ℕ �
     → field s i off on ≡ field s i off on'
 field-same s i off on on' same = by (number_at s i) refl
   where
-    by : (n : Number) → number_at s i ≡ n → taking n off on ≡ taking n off on'
-    by (Value v c) e = same v c.at e
-    by (Refused r p) e = refl
+    by : (x : Result Number Fault) → number_at s i ≡ x → taking x off on ≡ taking x off on'
+    by (Ok n) e = same n.value n.next.at e
+    by (Err f) e = refl
 
 test_same : {A : Type 0} (b : Bool) {x x' : A} (y : A) → (b ≡ true → x ≡ x') → cond b x y ≡ cond b x' y
 test_same true y same = same refl

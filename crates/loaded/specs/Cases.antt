@@ -13,10 +13,9 @@
 --   VerdictCase s i w v     the same where nothing may follow
 --
 -- 01, 'When the library says no'.
-use Rattle.std.specs.Prelude.{◌≡◌, ◌⊎◌, List, [], ◌∷◌, ℕ, zero, suc, ◌+◌, ◌-◌, ◌≤◌, ◌<◌, length}
+use Rattle.std.specs.Prelude.{◌≡◌, ◌⊎◌, List, [], ◌∷◌, ℕ, zero, suc, ◌+◌, ◌-◌, ◌≤◌, ◌<◌, length, Ok}
 use Rattle.words.specs.Words.{Word, Place}
 use Rattle.words.specs.Limits.{least_saved, longest_word}
-use Rattle.number.specs.declared.Number.TheVariants.{Value}
 use Rattle.number.specs.Number.{number_at}
 use Rattle.number.specs.Exactly.{CutOff, BadByte}
 use Rattle.saved.specs.File.{edition, Step, own_steps}
@@ -25,7 +24,7 @@ use Rattle.loaded.specs.Load.{Front, letters, stop, Ending, behind, broken, Verd
 -- ── A number ───────────────────────────────────────────────────────────────
 
 abbrev pub Reads : List ℕ → Place → ℕ → Place → Type 0
-Reads s i v j = number_at s i ≡ Value v (record { at = j })
+Reads s i v j = number_at s i ≡ Ok (record { value = v; next = record { at = j } })
 
 pub data Unread (s : List ℕ) (i : Place) : ℕ → Place → Type 0 where
   cut_off : CutOff s i → Unread s i 5 (length s)

@@ -2,7 +2,7 @@
 -- (7, 8, 9); after m the letters (5); each arrow is compared once both its numbers are read (10); after the last, missing arrows (10), then
 -- leftovers (11). Every refusal keeps the place where it shows.
 --
---   taking n off on      the answer n on a number: `on` its value and the next place, or `off` the refusal and where it shows
+--   taking n off on      the answer n on a number: `on` its value and the next place, or `off` the number of the fault and where it shows
 --   field s i off on     the same of the number at place i of the file s
 --   Front                the number of letters and where they stand, or a refusal
 --   letters_within n s i what s shows at place i, where the number of letters stands, if a word may have n letters
@@ -24,19 +24,20 @@
 --   verdict s i w        both at once
 --
 -- 01, 'When the library says no'; demands 1 and 3.
-use Rattle.std.specs.Prelude.{Bool, true, false, ◌&&◌, cond, List, [], ◌∷◌, ℕ, zero, suc, ◌+◌, ◌-◌, length, eqb, leb, ltb}
+use Rattle.std.specs.Prelude.{Bool, true, false, ◌&&◌, cond, List, [], ◌∷◌, ℕ, zero, suc, ◌+◌, ◌-◌, length, eqb, leb, ltb, Result, Ok, Err}
 use Rattle.words.specs.Words.{Word}
 use Rattle.words.specs.Limits.{least_saved, longest_word}
+use Rattle.answers.specs.declared.Fault.{Fault}
+use Rattle.answers.specs.Answers.{flaw_number}
 use Rattle.number.specs.declared.Number.{Number}
-use Rattle.number.specs.declared.Number.TheVariants.{Value, Refused}
 use Rattle.number.specs.Number.{number_at}
 use Rattle.saved.specs.File.{edition, Step, own_steps}
 
 -- ── Fields ─────────────────────────────────────────────────────────────────
 
-abbrev pub taking : {A : Type 0} → Number → (ℕ → ℕ → A) → (ℕ → ℕ → A) → A
-taking (Value v c) off on = on v c.at
-taking (Refused r i) off on = off r i
+abbrev pub taking : {A : Type 0} → Result Number Fault → (ℕ → ℕ → A) → (ℕ → ℕ → A) → A
+taking (Ok n) off on = on n.value n.next.at
+taking (Err f) off on = off (flaw_number f.flaw) f.place
 
 abbrev pub field : {A : Type 0} → List ℕ → ℕ → (ℕ → ℕ → A) → (ℕ → ℕ → A) → A
 field s i off on = taking (number_at s i) off on

@@ -5,165 +5,131 @@
 ghost use Rattle.std.specs.Prelude.{◌≡◌};
 ghost use Rattle.number.specs.Number.{number_at};
 ghost use Rattle.saved.specs.File.{own_steps};
-ghost use Rattle.saved.specs.Stepping.{Tabled};
-ghost use Rattle.loaded.specs.Load.{front_at, letters_at, two_at, arrows_at, ending, closed};
+ghost use Rattle.loaded.specs.Load.{front_at, letters_at, two_at, arrows_at, ending, behind, closed};
 ghost use Rattle.loaded.specs.Answers.{head_of, pair_of, ending_of, verdict_of};
 
+use answers::{Fault, Flaw};
 use number::{Cursor, Number, Reader};
+use saved::Indexed;
 
 // The number that the file shows at a place. Loading keeps a reader over the lent file and its place, and this is where it reads on.
-fn number_at(file: &[u8], at: usize) -> Number
-    ensures { result ≡ number_at file.now at }
+// Elsewhere the two go side by side, as each function reads at one place of its own.
+fn number_at(file: &[u8], cursor: Cursor) -> Result<Number, Fault>
+    ensures { result ≡ number_at file.now cursor.at }
 {
-    number::next(Reader { file, at })
+    Reader { file, cursor }.next()
 }
 
-// How many letters, and where they stand; or the refusal and where it shows.
-#[derive(Clone, Copy)]
-pub enum Head {
-    Letters(usize, usize),
-    Stop(u8, usize),
+// How many letters, and where they stand.
+#[derive(Clone, Copy, Debug, PartialEq, Eq)]
+pub struct Head {
+    pub letters: usize,
+    pub at: usize,
 }
 
 // The file up to its letters, from the number of letters on.
-pub fn read_letters(file: &[u8], c: Cursor) -> Head
+pub fn read_letters(file: &[u8], c: Cursor) -> Result<Head, Fault>
     ensures { head_of result ≡ letters_at file.now c.at }
 {
-    let declared = number_at(file, c.at);
-    match declared {
-        Number::Refused(why, place) => Head::Stop(why, place),
-        Number::Value(size, next) => {
-            let m = size as usize;
-            if !((words::LEAST_SAVED <= m) & (m <= words::WORD_LIMIT)) {
-                return Head::Stop(8, c.at);
-            }
-            if file.len() - next.at < m {
-                return Head::Stop(5, file.len());
-            }
-            Head::Letters(m, next.at)
-        }
+    let Number { value, next } = number_at(file, c)?;
+    let letters = value as usize;
+    if !(words::LEAST_SAVED..=words::WORD_LIMIT).contains(&letters) {
+        return Err(Flaw::WordSize.at(c.at));
     }
+    let cut = file.len() - next.at < letters;
+    if cut {
+        return Err(Flaw::EndsEarly.at(file.len()));
+    }
+    Ok(Head {
+        letters,
+        at: next.at,
+    })
 }
 
 // The file that stands from a place on, up to its letters.
-pub fn read_front(file: &[u8], start: usize) -> Head
+#[tactic(auto, unfolding(crate::specs::Load::front_within))]
+pub fn read_front(file: &[u8], start: usize) -> Result<Head, Fault>
     ensures { head_of result ≡ front_at file.now start }
 {
-    let first = number_at(file, start);
-    match first {
-        Number::Refused(why, place) => Head::Stop(why, place),
-        Number::Value(edition, next) => {
-            if edition != saved::EDITION {
-                return Head::Stop(7, start);
-            }
-            read_letters(file, next)
-        }
+    let edition = number_at(file, Cursor { at: start })?;
+    if edition.value != saved::EDITION {
+        return Err(Flaw::OtherEdition.at(start));
     }
+    read_letters(file, edition.next)
 }
 
-// Two numbers and the next place; or the refusal and where it shows.
-#[derive(Clone, Copy)]
-pub enum Pair {
-    Both(u32, u32, usize),
-    Neither(u8, usize),
+// The two numbers of an arrow, and the next place.
+#[derive(Clone, Copy, Debug, PartialEq, Eq)]
+pub struct Pair {
+    pub up: u32,
+    pub over: u32,
+    pub next: Cursor,
 }
 
 // The two numbers of an arrow.
-fn read_two(file: &[u8], c: Cursor) -> Pair
+#[tactic(auto, unfolding(crate::specs::Load::two_at))]
+fn read_two(file: &[u8], c: Cursor) -> Result<Pair, Fault>
     ensures { pair_of result ≡ two_at file.now c.at }
 {
-    let first = number_at(file, c.at);
-    match first {
-        Number::Refused(why, place) => Pair::Neither(why, place),
-        Number::Value(a, between) => {
-            let second = number_at(file, between.at);
-            match second {
-                Number::Refused(why, place) => Pair::Neither(why, place),
-                Number::Value(b, next) => Pair::Both(a, b, next.at),
-            }
-        }
-    }
+    let Number { value: up, next } = number_at(file, c)?;
+    let Number { value: over, next } = number_at(file, next)?;
+    Ok(Pair { up, over, next })
 }
 
-// The place behind the file, whose arrows are the word's own; or the refusal and where it shows.
-#[derive(Clone, Copy)]
-pub enum Ended {
-    Behind(usize),
-    Broken(u8, usize),
-}
-
-// So many declared arrows from a place of the file on, against all of the word's own.
-fn compare_arrows(word: &[u8], table: &[u16], file: &[u8], start: Cursor, declared: u32) -> Ended
-    requires { Tabled word.now table.now }
-    ensures { ending_of result ≡ arrows_at file.now start.at declared (own_steps word.now) }
+// So many declared arrows from a place of the file on, against all of the word's own; and the place behind them.
+fn compare_arrows(
+    indexed: &Indexed<'_>,
+    file: &[u8],
+    start: Cursor,
+    declared: u32,
+) -> Result<usize, Fault>
+    ensures { ending_of result ≡ arrows_at file.now start.at declared (own_steps indexed.now.word.now) }
 {
-    let total = saved::arrow_count(word, table);
-    let mut at = start.at;
-    let mut left = declared;
-    let mut slot: usize = 0;
+    let total = indexed.arrow_count();
+    let declared = declared as usize;
+    let mut cursor = start;
     let mut from = words::State(0);
-    while left > 0 {
-        let two = read_two(file, Cursor { at });
-        match two {
-            Pair::Neither(why, place) => {
-                return Ended::Broken(why, place);
-            }
-            Pair::Both(up, over, next) => {
-                if slot >= total {
-                    return Ended::Broken(10, at);
-                }
-                let own = saved::next_step(word, table, from, slot);
-                if !((up == own.up) & (over == own.over)) {
-                    return Ended::Broken(10, at);
-                }
-                at = next;
-                left -= 1;
-                slot += 1;
-                from = own.source;
-            }
+    for slot in 0..declared {
+        let shown = read_two(file, cursor)?;
+        if total <= slot {
+            return Err(Flaw::OtherArrow.at(cursor.at));
         }
+        let own = indexed.next_step(from, slot);
+        let other = shown.up != own.up || shown.over != own.over;
+        if other {
+            return Err(Flaw::OtherArrow.at(cursor.at));
+        }
+        cursor = shown.next;
+        from = own.source;
     }
-    if slot < total {
-        return Ended::Broken(10, at);
+    let missing = declared < total;
+    if missing {
+        return Err(Flaw::OtherArrow.at(cursor.at));
     }
-    Ended::Behind(at)
+    Ok(cursor.at)
 }
 
 // The file from a place on, where the number of arrows stands, against a word and its table; bytes may follow.
-pub fn compare_open(word: &[u8], table: &[u16], file: &[u8], at: usize) -> Ended
-    requires { Tabled word.now table.now }
-    ensures { ending_of result ≡ ending file.now at word.now }
+#[tactic(auto, using(std::proofs::lemmas::Bool::Decides::nat_tests), unfolding(crate::specs::Load::ending))]
+pub fn compare_open(indexed: &Indexed<'_>, file: &[u8], at: usize) -> Result<usize, Fault>
+    ensures { ending_of result ≡ ending file.now at indexed.now.word.now }
 {
-    let count = number_at(file, at);
-    match count {
-        Number::Refused(why, place) => Ended::Broken(why, place),
-        Number::Value(declared, next) => {
-            if declared as usize > word.len() - 1 {
-                return Ended::Broken(9, at);
-            }
-            compare_arrows(word, table, file, next, declared)
-        }
+    let count = number_at(file, Cursor { at })?;
+    let declared = count.value;
+    if declared as usize > indexed.word.len() - 1 {
+        return Err(Flaw::ManyArrows.at(at));
     }
-}
-
-// The file's arrows are the word's own, and nothing follows; or the refusal and where it shows.
-#[derive(Clone, Copy)]
-pub enum Compared {
-    Right,
-    Wrong(u8, usize),
+    compare_arrows(indexed, file, count.next, declared)
 }
 
 // What the ending comes to where nothing may follow.
-pub fn close(file: &[u8], shown: Ended) -> Compared
+pub fn close(file: &[u8], shown: Result<usize, Fault>) -> Result<(), Fault>
     ensures { verdict_of result ≡ closed file.now (ending_of shown) }
 {
-    match shown {
-        Ended::Broken(why, place) => Compared::Wrong(why, place),
-        Ended::Behind(end) => {
-            if end < file.len() {
-                return Compared::Wrong(11, end);
-            }
-            Compared::Right
-        }
+    let end = shown?;
+    let followed = end < file.len();
+    if followed {
+        return Err(Flaw::Leftovers.at(end));
     }
+    Ok(())
 }

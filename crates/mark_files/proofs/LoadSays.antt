@@ -4,7 +4,7 @@ use mathlib.Core.Path.{◌≡◌, refl, sym, ap, ◌∙◌}
 use mathlib.Core.Bool.{false}
 use mathlib.Core.Logic.{inl, inr, ◌↔◌}
 use mathlib.Core.List.{List, ◌++◌}
-use Prim.Native.Nat.{ℕ, ◌+◌, ◌*◌, ◌-◌, ◌≤◌, ◌<◌}
+use Prim.Native.Nat.{ℕ, ◌+◌, ◌*◌, ◌≤◌, ◌<◌}
 use native.Mathlib.Decide.{dec_lt}
 use native.Mathlib.Omega.{arith}
 use lib.ListN.{length, take, drop, replicate, length-append}
@@ -18,18 +18,15 @@ use Rattle.words.proofs.Limits.{words_fit, saved-some}
 use Rattle.table.specs.Table.{room, table_of}
 use Rattle.table.proofs.Theorems.{table-size}
 use Rattle.loaded.specs.Load.{Front, letters, stop, Verdict, right, wrong}
-use Rattle.loaded.specs.declared.Compared.{Compared}
-use Rattle.loaded.specs.declared.Compared.TheVariants.{Right, Wrong}
-use Rattle.loaded.specs.Answers.{verdict_of}
 use Rattle.loaded.proofs.Fronts.{LettersIn}
-use Rattle.editions.specs.Either.{front_either, verdict_either}
+use Rattle.editions.specs.Either.{front_either}
 use Rattle.editions.specs.EitherCases.{FrontEither, VerdictEither}
 use Rattle.editions.proofs.Ways.{front_either_is, verdict_either_is}
 use Rattle.editions.proofs.Theorems.{either_letters}
-use Rattle.answers.specs.declared.SizeAnswer.{SizeAnswer}
-use Rattle.answers.specs.declared.SizeAnswer.TheVariants.{Done}
+use Rattle.std.specs.Prelude.{Result, Ok}
+use Rattle.answers.specs.declared.Refusal.{Refusal}
 use Rattle.answers.specs.Answers.{Answer, done, refused, refused_at, Succeeds, short_room}
-use Rattle.answers.proofs.Answers.{size_answer-one}
+use Rattle.answers.proofs.Answers.{answer_of-one}
 use Rattle.mark_files.specs.Load.{Outcome, outcome, loaded_as, judged_at, load_within, load_says}
 use Rattle.mark_files.specs.Cases.{LoadCase, AfterRefusal}
 
@@ -135,32 +132,6 @@ module _ (file R T : List ℕ) where
 
 -- ── In the word's part of the rooms ────────────────────────────────────────
 
--- what the code makes of them: R is a copy of the m letters that stand in the file from place i on, and T their table
-module _ (file : List ℕ) (i m : ℕ) (inside : i + m ≤ length file) where
-  abbrev shown_letters : Word
-  shown_letters = take (i + m - i) (drop i file)
-
-  is_part : shown_letters ≡ part file i m
-  is_part = let e : i + m - i ≡ m = omega arith in ap (λ (n : ℕ). take n (drop i file)) e
-
-  size : length (part file i m) ≡ m
-  size = part_length file i m inside
-
-  module _ {R T : List ℕ} (copied : R ≡ shown_letters) (table : T ≡ table_of shown_letters) (said : Compared)
-      (told : verdict_of said ≡ verdict_either file (i + m) shown_letters) where
-    pub taken-right : said ≡ Right → outcome (done m) R T ≡ judged_at file i m
-    taken-right e =
-        let v : verdict_either file (i + m) (part file i m) ≡ right =
-        ap (verdict_either file (i + m)) (sym is_part) ∙ sym told ∙ ap verdict_of e in
-        rw (v, copied, table, is_part, size)
-
-    pub taken-wrong : {n j : ℕ} → said ≡ Wrong n j → {R' T' : List ℕ} → R' ≡ replicate (length R) 0 → T' ≡ replicate (length T) 0
-        → outcome (refused_at n j) R' T' ≡ judged_at file i m
-    taken-wrong {n} {j} e r t =
-        let v : verdict_either file (i + m) (part file i m) ≡ wrong n j =
-        ap (verdict_either file (i + m)) (sym is_part) ∙ sym told ∙ ap verdict_of e in
-        rw (v, r, t, copied, table, is_part, table-size (part file i m))
-
 -- the parts of longer rooms that the code lends, and what it gives back
 module _ (file R T : List ℕ) {m i : ℕ} (shown : shown_front file ≡ letters m i) (fits : m ≤ length R) (enough : room m ≤ length T) where
   there : LettersIn file m i
@@ -175,7 +146,7 @@ module _ (file R T : List ℕ) {m i : ℕ} (shown : shown_front file ≡ letters
       let some : 1 ≤ m = omega (arith, saved-some, there.least) in
       rw lent ((there.inside, length-take-le (room m) T enough), (some, omega (arith, there.most, words_fit)))
 
-  pub given_back : (r : SizeAnswer) {R' T' : List ℕ}
+  pub given_back : (r : Result ℕ Refusal) {R' T' : List ℕ}
       → loaded_as r R' T' ≡ judged_at file i (length (take m R))
       → loaded_as r (R' ++ drop m R) (T' ++ drop (room m) T) ≡ load_says file R T
   given_back r e = ap (put file R T m) (rw lent at e) ∙ sym (says-judged file R T m i shown fits enough)
@@ -204,16 +175,14 @@ loaded_stands file R T (LoadCase.accepted {m = m} {i = i} f h t v) =
       table = take_at (table_of w) (drop (room m) T) (room m) table-sized ∙ ap table_of (sym (take_at w (drop m R) m size));
     }
 
-pub told-stands : (file R T : List ℕ) {said : SizeAnswer} {R' T' : List ℕ} → loaded_as said R' T' ≡ load_says file R T
-    → {m : ℕ} → said ≡ Done m → Standing m R' T'
-told-stands file R T {said} {R'} {T'} told e =
-    loaded_stands file R T ((load_is file R T _).0 (sym told ∙ ap (λ (s : SizeAnswer). loaded_as s R' T') e))
+pub told-stands : (file R T : List ℕ) {m : ℕ} {R' T' : List ℕ} → loaded_as (Ok m) R' T' ≡ load_says file R T → Standing m R' T'
+told-stands file R T told = loaded_stands file R T ((load_is file R T _).0 (sym told))
 
 -- ── One outcome ────────────────────────────────────────────────────────────
 
 -- two outcomes that the promise of load allows are equal
-pub load_one : (file R T : List ℕ) (r s : SizeAnswer) (A B C D : List ℕ) → loaded_as r A C ≡ load_says file R T
+pub load_one : (file R T : List ℕ) (r s : Result ℕ Refusal) (A B C D : List ℕ) → loaded_as r A C ≡ load_says file R T
     → loaded_as s B D ≡ load_says file R T → (r ≡ s) × (A ≡ B) × (C ≡ D)
 load_one file R T r s A B C D e f =
     let g : loaded_as r A C ≡ loaded_as s B D = e ∙ sym f in
-    (size_answer-one r s (ap (λ o. o.answer) g), ap (λ o. o.word) g, ap (λ o. o.tables) g)
+    (answer_of-one r s (ap (λ o. o.answer) g), ap (λ o. o.word) g, ap (λ o. o.tables) g)

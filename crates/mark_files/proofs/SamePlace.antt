@@ -8,9 +8,9 @@ use native.Mathlib.Omega.{arith}
 use lib.ListN.{drop}
 use Rattle.words.specs.Lists.{at}
 use Rattle.words.specs.Words.{Place}
-use Rattle.number.specs.Number.{Seen, number, ends, refused, with_group, refuses, see, see_number, placed, number_at}
-use Rattle.number.specs.declared.Cursor.{Cursor}
-use Rattle.number.specs.declared.Number.TheVariants.{Value}
+use Rattle.number.specs.Number.{Seen, number, ends, refused, with_group, refuses, see, see_number, number_at}
+use Rattle.number.specs.declared.Number.{Number}
+use Rattle.number.proofs.Theorems.{placed-value}
 use Rattle.number.proofs.Seeing.{Kind, is_refused, is_last, is_followed, kind_of_lem, see-refused, see-last, see-follows}
 use Rattle.saved.specs.File.{edition}
 use Rattle.saved.proofs.Spelled.{edition-number}
@@ -91,20 +91,13 @@ see-small (b ∷ l) {v} {k} e h = by (kind_of_lem 0 b)
 
 -- ── Fields ─────────────────────────────────────────────────────────────────
 
--- a number that is read was seen, and ends so many bytes further on
-read-seen : (s : List ℕ) (i : Place) (g : Seen) {v : ℕ} {c : Cursor} → placed s i g ≡ Value v c
-    → (k : ℕ) × (g ≡ number v k) × (c.at ≡ i + k)
-read-seen s i (number v k) e = (k, cc, cc)
-read-seen s i ends e = let z : ◌≡◌ {A = ℕ} 0 1 = cc in absurd (omega arith)
-read-seen s i (refused k) e = let z : ◌≡◌ {A = ℕ} 0 1 = cc in absurd (omega arith)
-
 module _ (s s' : List ℕ) where
   -- the same number, read at the same place of two files, ends at the same place
   pub reads-same-place : (i : Place) {v : ℕ} {j j' : Place} → Reads s i v j → Reads s' i v j' → j ≡ j'
   unfolding number_at see_number
   reads-same-place i {v} h h' =
-      let r = read-seen s i (see 0 (drop i s)) h in
-      let r' = read-seen s' i (see 0 (drop i s')) h' in
+      let r = placed-value s i (see 0 (drop i s)) h in
+      let r' = placed-value s' i (see 0 (drop i s')) h' in
       let width : r.0 ≡ r'.0 = see_width 0 (drop i s) (drop i s') v r.0 r'.0 r.1 r'.1 in
       r.2 ∙ ap (λ (k : ℕ). i + k) width ∙ sym r'.2
 
@@ -119,11 +112,17 @@ module _ (s : List ℕ) where
   -- the number 2 is the byte 2
   pub two_first : {j : Place} → Reads s 0 2 j → at s 0 ≡ 2
   unfolding number_at see_number
-  two_first h = let r = read-seen s 0 (see 0 s) h in see-small s r.1 (omega arith)
+  two_first h = let r = placed-value s 0 (see 0 s) h in see-small s r.1 (omega arith)
 
   -- where 1 is read, 2 is not
   pub one_not_two : {j : Place} → Reads s 0 1 j → at s 0 ≡ 2 → ⊥
-  one_not_two h e = let q = sym h ∙ two_read s 0 e in let z : ◌≡◌ {A = ℕ} 1 2 = cc in omega arith
+  one_not_two {j} h e =
+      let q = sym h ∙ two_read s 0 e in
+      let one : Number = record { value = 1; next = record { at = j } } in
+      let two : Number = record { value = 2; next = record { at = 1 } } in
+      let same : one ≡ two = cc in
+      let z : ◌≡◌ {A = ℕ} 1 2 = ap (λ (r : Number). r.value) same in
+      omega arith
 
   one-alone : {l : List ℕ} → l ≡ 1 ∷ [] → Reads l 0 1 1
   unfolding refuses see see_number number_at

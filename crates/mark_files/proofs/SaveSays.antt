@@ -13,16 +13,16 @@ use lib.Dec.{ltb}
 use borrow.Author.Tests.{lt-ltb, le-ltb}
 use Rattle.words.specs.Words.{Word}
 use Rattle.words.specs.Limits.{least_saved, longest_word}
-use Rattle.words.proofs.Limits.{words_fit, saved-some}
+use Rattle.words.proofs.Limits.{saved-some}
 use Rattle.table.specs.Table.{room, table_of}
 use Rattle.table.proofs.Theorems.{table-size}
 use Rattle.saved.specs.File.{spell}
-use Rattle.saved.specs.Stepping.{Tabled}
 use Rattle.editions.specs.Editions.{Edition, spell_in, most_bytes}
 use Rattle.editions.proofs.Theorems.{most_bytes_lem}
-use Rattle.answers.specs.declared.SizeAnswer.{SizeAnswer}
+use Rattle.std.specs.Prelude.{Result}
+use Rattle.answers.specs.declared.Refusal.{Refusal}
 use Rattle.answers.specs.Answers.{done, refused, empty_word, long_word, short_word, short_room, short_output}
-use Rattle.answers.proofs.Answers.{done_not_refused, size_answer-one}
+use Rattle.answers.proofs.Answers.{done_not_refused, answer_of-one}
 use Rattle.mark_files.specs.Save.{Outcome, outcome, saved_as, save_in}
 use Rattle.mark_files.specs.Cases.{SaveCase}
 
@@ -163,9 +163,6 @@ module _ (word : Word) {P : List ℕ} (R : List ℕ) (filled_in : P ≡ table_of
   pub lent-size : room (length word) ≡ length lent
   lent-size = sym (ap length lent-table ∙ table-size word)
 
-  pub lent_tabled : least_saved ≤ length word → length word ≤ longest_word → Tabled word lent
-  lent_tabled h l = record { table = lent-table; least = omega (arith, saved-some, h); most = omega (arith, words_fit) }
-
   pub wiped : {C : List ℕ} (O : List ℕ) → C ≡ replicate (length lent) 0
       → outcome (refused short_output) (C ++ drop (room (length word)) (P ++ R)) O
       ≡ outcome (refused short_output) (replicate (room (length word)) 0 ++ R) O
@@ -179,8 +176,8 @@ module _ (word : Word) {P : List ℕ} (R : List ℕ) (filled_in : P ≡ table_of
 -- ── One outcome ────────────────────────────────────────────────────────────
 
 -- two outcomes that the promise of save allows are equal
-pub save_one : (e : Edition) (word : Word) (T O : List ℕ) (r s : SizeAnswer) (A B C D : List ℕ) → saved_as r A C ≡ save_in e word T O
+pub save_one : (e : Edition) (word : Word) (T O : List ℕ) (r s : Result ℕ Refusal) (A B C D : List ℕ) → saved_as r A C ≡ save_in e word T O
     → saved_as s B D ≡ save_in e word T O → (r ≡ s) × (A ≡ B) × (C ≡ D)
 save_one e word T O r s A B C D p q =
     let g : saved_as r A C ≡ saved_as s B D = p ∙ sym q in
-    (size_answer-one r s (ap (λ o. o.answer) g), ap (λ o. o.tables) g, ap (λ o. o.output) g)
+    (answer_of-one r s (ap (λ o. o.answer) g), ap (λ o. o.tables) g, ap (λ o. o.output) g)

@@ -26,13 +26,10 @@ use Rattle.table.proofs.Spare.{table_spare}
 use Rattle.finds.specs.declared.Tally.{Tally}
 use Rattle.search.specs.Answers.{tally_of}
 use Rattle.finds.specs.Finds.{filled}
+use Rattle.std.specs.Prelude.{Result, Ok, Err}
 use Rattle.answers.specs.declared.Refusal.{Refusal}
-use Rattle.answers.specs.declared.Refusal.TheVariants.{Numbered, Placed}
-use Rattle.answers.specs.declared.SizeAnswer.{SizeAnswer}
-use Rattle.answers.specs.declared.SizeAnswer.TheVariants.{Done, Refused}
-use Rattle.answers.specs.declared.TallyAnswer.{TallyAnswer}
-use Rattle.answers.specs.Answers.{Answer, done, refused, refused_at, Succeeds, refused_as, size_answer, long_text}
-use Rattle.answers.proofs.Answers.{done_not_refused, done_not_placed, tally_answer-one}
+use Rattle.answers.specs.Answers.{Answer, done, refused, refused_at, Succeeds, refused_as, long_text}
+use Rattle.answers.proofs.Answers.{done_not_refused, done_not_placed, answer_of-one}
 use Rattle.mark_files.specs.Load.{loaded_as, load_says}
 use Rattle.mark_files.specs.Load
 use Rattle.marks.specs.Search.{found}
@@ -41,6 +38,7 @@ use Rattle.mark_files.specs.Cases.{LoadCase, SearchFileCase, AfterRefusal}
 use Rattle.number.specs.Number.{Bytes}
 use Rattle.editions.specs.Editions.{Edition, spell_in, SavedIn}
 use Rattle.mark_files.proofs.LoadTheorems.{file-loads, accepted-exactly as loads-exactly, load_kept}
+use Rattle.answers.specs.declared.Refusal.TheVariants.{EmptyWord, LongWord, ShortRoom, LongText, ShortOutput, Unmade, ShortWord, InFile}
 use Rattle.mark_files.proofs.LoadSays.{load_is, Standing, told-stands}
 use Rattle.mark_files.proofs.LoadSays
 
@@ -132,22 +130,25 @@ module _ (file : List ℕ) (text : Word) (R T : List ℕ) (F : List Place) where
   -- ── What the code's steps come to ────────────────────────────────────────
 
   -- once the code was told what loading says
-  module _ (short : length text ≤ longest_text) (said : SizeAnswer) {R' T' : List ℕ} (told : loaded_as said R' T'
-      ≡ load_says file R T) where
-    says_loaded : search_file_says file text R T F ≡ after_load (size_answer said) text R' T' F
-    says_loaded = says-after short (sym told)
-
-    pub says-refused : (r : Refusal) → said ≡ Refused r → outcome (refused_as r) R' T' F ≡ search_file_says file text R T F
-    says-refused r e = refused-after r ∙ sym (says_loaded ∙ ap (λ s. after_load (size_answer s) text R' T' F) e)
+  module _ (short : length text ≤ longest_text) {R' T' : List ℕ} where
+    pub says-refused : (r : Refusal) → loaded_as (Err r) R' T' ≡ load_says file R T
+        → outcome (refused_as r) R' T' F ≡ search_file_says file text R T F
+    says-refused r told = after r ∙ sym (says-after short (sym told))
       where
-        refused-after : (r : Refusal) → outcome (refused_as r) R' T' F ≡ after_load (refused_as r) text R' T' F
-        refused-after (Numbered n) = refl
-        refused-after (Placed n p) = refl
+        after : (r : Refusal) → outcome (refused_as r) R' T' F ≡ after_load (refused_as r) text R' T' F
+        after EmptyWord = refl
+        after LongWord = refl
+        after ShortRoom = refl
+        after LongText = refl
+        after ShortOutput = refl
+        after Unmade = refl
+        after ShortWord = refl
+        after (InFile f) = refl
 
     -- the mirror of the loaded word is searched for, with its own table
-    module _ {m : ℕ} (e : said ≡ Done m) where
+    module _ {m : ℕ} (told : loaded_as (Ok m) R' T' ≡ load_says file R T) where
       stood : Standing m R' T'
-      stood = told-stands file R T told e
+      stood = told-stands file R T told
 
       -- Q is what the scan leaves of the tables that it was lent
       pub scan_counts : {t : Tally} {F' : List Place} {Q : List ℕ}
@@ -165,7 +166,7 @@ module _ (file : List ℕ) (text : Word) (R T : List ℕ) (F : List Place) where
             own-table-steps (take m R') text,
             search-lists-occurrences (mirror (take m R')) text,
           )
-          (sym (says_loaded ∙ ap (λ (s : SizeAnswer). after_load (size_answer s) text R' T' F) e))
+          (sym (says-after short (sym told)))
 
   -- ── What is found with a word's file ─────────────────────────────────────
 
@@ -205,9 +206,9 @@ module _ (file : List ℕ) (text : Word) (R T : List ℕ) (F : List Place) where
 
 -- two outcomes that the promise of a search with a file allows are equal
 pub search-file-one : (file : List ℕ) (text : Word) (R T : List ℕ) (F : List Place)
-    (r s : TallyAnswer) (A B C D : List ℕ) (G H : List Place)
+    (r s : Result Tally Refusal) (A B C D : List ℕ) (G H : List Place)
     → file_searched r A C G ≡ search_file_says file text R T F → file_searched s B D H ≡ search_file_says file text R T F
     → (r ≡ s) × (A ≡ B) × (C ≡ D) × (G ≡ H)
 search-file-one file text R T F r s A B C D G H e f =
     let g : file_searched r A C G ≡ file_searched s B D H = e ∙ sym f in
-    (tally_answer-one r s (ap (λ o. o.answer) g), ap (λ o. o.word) g, ap (λ o. o.tables) g, ap (λ o. o.finds) g)
+    (answer_of-one r s (ap (λ o. o.answer) g), ap (λ o. o.word) g, ap (λ o. o.tables) g, ap (λ o. o.finds) g)

@@ -24,7 +24,8 @@ use Rattle.words.specs.Limits.{longest_word}
 use Rattle.table.specs.Table.{room, table_of}
 use Rattle.loaded.specs.Load.{Front, letters, stop, front, Verdict, right, wrong, verdict}
 use Rattle.editions.specs.Either.{front_either, verdict_either}
-use Rattle.answers.specs.declared.SizeAnswer.{SizeAnswer}
+use Rattle.std.specs.Prelude.{Result}
+use Rattle.answers.specs.declared.Refusal.{Refusal}
 use Rattle.answers.specs.Answers.{Answer, done, refused, refused_at, size_answer, short_room}
 
 pub record Outcome : Type 0 where
@@ -35,7 +36,7 @@ pub record Outcome : Type 0 where
 abbrev pub outcome : Answer ℕ → List ℕ → List ℕ → Outcome
 outcome a R T = record { answer = a; word = R; tables = T }
 
-abbrev pub loaded_as : SizeAnswer → List ℕ → List ℕ → Outcome
+abbrev pub loaded_as : Result ℕ Refusal → List ℕ → List ℕ → Outcome
 loaded_as r R T = outcome (size_answer r) R T
 
 abbrev pub judged : Verdict → Word → Outcome

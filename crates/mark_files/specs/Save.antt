@@ -16,7 +16,8 @@ use Rattle.words.specs.Words.{Word}
 use Rattle.words.specs.Limits.{longest_word, least_saved}
 use Rattle.table.specs.Table.{room, table_of}
 use Rattle.editions.specs.Editions.{Edition, plain, checked, spell_in}
-use Rattle.answers.specs.declared.SizeAnswer.{SizeAnswer}
+use Rattle.std.specs.Prelude.{Result}
+use Rattle.answers.specs.declared.Refusal.{Refusal}
 use Rattle.answers.specs.Answers.{Answer, done, refused, size_answer, empty_word, long_word, short_word, short_room, short_output}
 
 pub record Outcome : Type 0 where
@@ -27,7 +28,7 @@ pub record Outcome : Type 0 where
 abbrev pub outcome : Answer ℕ → List ℕ → List ℕ → Outcome
 outcome a T O = record { answer = a; tables = T; output = O }
 
-abbrev pub saved_as : SizeAnswer → List ℕ → List ℕ → Outcome
+abbrev pub saved_as : Result ℕ Refusal → List ℕ → List ℕ → Outcome
 saved_as r T O = outcome (size_answer r) T O
 
 abbrev pub save_within : Edition → ℕ → Word → List ℕ → List ℕ → Outcome

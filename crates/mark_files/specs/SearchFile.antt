@@ -19,7 +19,8 @@ use Rattle.words.specs.Words.{Word, Place, mirror, occurrences}
 use Rattle.words.specs.Limits.{longest_word, longest_text}
 use Rattle.finds.specs.Finds.{filled}
 use Rattle.finds.specs.declared.Tally.{Tally}
-use Rattle.answers.specs.declared.TallyAnswer.{TallyAnswer}
+use Rattle.std.specs.Prelude.{Result}
+use Rattle.answers.specs.declared.Refusal.{Refusal}
 use Rattle.answers.specs.Answers.{Answer, done, refused, refused_at, tally_answer, long_text}
 use Rattle.marks.specs.Search.{found}
 use Rattle.mark_files.specs.Load
@@ -34,7 +35,7 @@ pub record Outcome : Type 0 where
 abbrev pub outcome : Answer Tally → List ℕ → List ℕ → List Place → Outcome
 outcome a R T F = record { answer = a; word = R; tables = T; finds = F }
 
-abbrev pub file_searched : TallyAnswer → List ℕ → List ℕ → List Place → Outcome
+abbrev pub file_searched : Result Tally Refusal → List ℕ → List ℕ → List Place → Outcome
 file_searched r R T F = outcome (tally_answer r) R T F
 
 -- the file is loaded: its word has m letters and stands at the start of R

@@ -1,5 +1,6 @@
 // The entries over files: any word, any file, any text and any room may be handed to them. Each answers, or refuses with a number of the
 // table in docs/PROMISES.md, and its one promise fixes the answer and every entry of every lent buffer, for refusals too.
+// Each entry tests its sizes itself, as the wrong programs stand in these tests; one function for all was tried in `marks`.
 #![tactic(auto)]
 
 ghost use Rattle.std.specs.Prelude.{◌≡◌, ◌+◌, ◌*◌, ◌<◌, ◌≤◌, length, replicate};
@@ -13,52 +14,47 @@ ghost use Rattle.mark_files.specs.Save.{saved_as, save_says};
 ghost use Rattle.mark_files.specs.Load.{loaded_as, judged_at, load_says};
 ghost use Rattle.mark_files.specs.SearchFile.{file_searched, search_file_says};
 
-use answers::{Refusal, SizeAnswer, TallyAnswer};
+use answers::Refusal;
+use saved::Indexed;
 
 // The file of a word in edition 1, at the front of the output.
-pub fn save(word: &[u8], tables: &mut [u16], out: &mut [u8]) -> SizeAnswer
+pub fn save(word: &[u8], tables: &mut [u16], out: &mut [u8]) -> Result<usize, Refusal>
     ensures { saved_as result tables.new out.new
         ≡ save_says word.now tables.old out.old }
 {
     let m = word.len();
-    if m < 1 {
-        return SizeAnswer::Refused(Refusal::Numbered(answers::EMPTY_WORD));
+    if word.is_empty() {
+        return Err(Refusal::EmptyWord);
     }
     if words::WORD_LIMIT < m {
-        return SizeAnswer::Refused(Refusal::Numbered(answers::LONG_WORD));
+        return Err(Refusal::LongWord);
     }
     let least = words::LEAST_SAVED;
     if m < least {
-        return SizeAnswer::Refused(Refusal::Numbered(answers::SHORT_WORD));
+        return Err(Refusal::ShortWord);
     }
     let need = 6 * (m + 1);
     if tables.len() < need {
-        return SizeAnswer::Refused(Refusal::Numbered(answers::SHORT_ROOM));
+        return Err(Refusal::ShortRoom);
     }
     table::fill(word, &mut tables[..need]);
-    let size = saved::file_size(word, &tables[..need]);
+    let indexed = Indexed {
+        word,
+        table: &tables[..need],
+    };
+    let size = indexed.file_size();
     let needed = size;
     if out.len() < needed {
-        table::clear(&mut tables[..need]);
-        return SizeAnswer::Refused(Refusal::Numbered(answers::SHORT_OUTPUT));
+        tables[..need].fill(0);
+        return Err(Refusal::ShortOutput);
     }
-    saved::write_file(word, &tables[..need], out);
-    SizeAnswer::Done(size)
-}
-
-fn clear(letters: &mut [u8])
-    ensures { letters.new ≡ replicate (length letters.old) 0 }
-{
-    let mut i = 0;
-    while i < letters.len() {
-        letters[i] = 0;
-        i += 1;
-    }
+    indexed.write_file(out);
+    Ok(size)
 }
 
 // The file's letters from a place on and their table, into rooms that are just long enough; or zeros there, and the refusal, where the
 // arrows behind them are not the word's own.
-fn take_word(file: &[u8], at: usize, room: &mut [u8], table: &mut [u16]) -> SizeAnswer
+fn take_word(file: &[u8], at: usize, room: &mut [u8], table: &mut [u16]) -> Result<usize, Refusal>
     requires inside { (at + length room.old ≤ length file.now) × (length table.old ≡ 6 * (length room.old + 1)) }
     requires size_bound { (1 ≤ length room.old) × (length room.old < 65535) }
     ensures { loaded_as result room.new table.new
@@ -66,38 +62,37 @@ fn take_word(file: &[u8], at: usize, room: &mut [u8], table: &mut [u16]) -> Size
 {
     let m = room.len();
     let end = at + m;
-    saved::put_letters(&file[at..end], room);
-    table::fill(&file[at..end], table);
-    let said = editions::compare(&file[at..end], table, file, end);
-    match said {
-        loaded::Compared::Right => SizeAnswer::Done(m),
-        loaded::Compared::Wrong(why, place) => {
-            clear(room);
-            table::clear(table);
-            SizeAnswer::Refused(Refusal::Placed(why, place))
-        }
+    let letters = &file[at..end];
+    copies::copy(letters, room);
+    table::fill(letters, table);
+    let indexed = Indexed {
+        word: letters,
+        table,
+    };
+    if let Err(fault) = editions::compare(&indexed, file, end) {
+        room.fill(0);
+        table.fill(0);
+        return Err(Refusal::InFile(fault));
     }
+    Ok(m)
 }
 
 // The word and the oracle that a file of either edition holds, as its word and table, in the rooms.
-pub fn load(file: &[u8], room: &mut [u8], tables: &mut [u16]) -> SizeAnswer
+pub fn load(file: &[u8], room: &mut [u8], tables: &mut [u16]) -> Result<usize, Refusal>
     ensures { loaded_as result room.new tables.new
         ≡ load_says file.now room.old tables.old }
 {
-    let head = editions::read_front(file, 0);
-    match head {
-        loaded::Head::Stop(why, place) => SizeAnswer::Refused(Refusal::Placed(why, place)),
-        loaded::Head::Letters(m, at) => {
-            if room.len() < m {
-                return SizeAnswer::Refused(Refusal::Numbered(answers::SHORT_ROOM));
-            }
-            let need = 6 * (m + 1);
-            if tables.len() < need {
-                return SizeAnswer::Refused(Refusal::Numbered(answers::SHORT_ROOM));
-            }
-            take_word(file, at, &mut room[..m], &mut tables[..need])
-        }
+    let head = editions::read_front(file, 0)?;
+    let m = head.letters;
+    let short = room.len() < m;
+    if short {
+        return Err(Refusal::ShortRoom);
     }
+    let need = 6 * (m + 1);
+    if tables.len() < need {
+        return Err(Refusal::ShortRoom);
+    }
+    take_word(file, head.at, &mut room[..m], &mut tables[..need])
 }
 
 // Moves the window over the text, with the arrows of the word's own table, whose row 4 is scratch before that and zero again afterwards.
@@ -113,8 +108,9 @@ fn scan_loaded(word: &[u8], table: &mut [u16], text: &[u8], finds: &mut [u32]) -
 {
     let m = word.len();
     let spare = 4 * (m + 1);
-    let step = search::step_after_find(word, &mut table[spare..spare + m]);
-    search::scan(word, step, table, text, finds)
+    let sought = search::Sought::new(word, &mut table[spare..spare + m]);
+    let table = table::Table { entries: table, m };
+    search::scan(&table, &sought, text, finds)
 }
 
 // Every place where the mirror of the file's word stands in the text.
@@ -124,19 +120,14 @@ pub fn search_file(
     room: &mut [u8],
     tables: &mut [u16],
     finds: &mut [u32],
-) -> TallyAnswer
+) -> Result<finds::Tally, Refusal>
     ensures { file_searched result room.new tables.new finds.new
         ≡ search_file_says file.now text.now room.old tables.old finds.old }
 {
     if text.len() > words::TEXT_LIMIT {
-        return TallyAnswer::Refused(Refusal::Numbered(answers::LONG_TEXT));
+        return Err(Refusal::LongText);
     }
-    let said = load(file, room, tables);
-    match said {
-        SizeAnswer::Refused(why) => TallyAnswer::Refused(why),
-        SizeAnswer::Done(m) => {
-            let need = 6 * (m + 1);
-            TallyAnswer::Done(scan_loaded(&room[..m], &mut tables[..need], text, finds))
-        }
-    }
+    let m = load(file, room, tables)?;
+    let need = 6 * (m + 1);
+    Ok(scan_loaded(&room[..m], &mut tables[..need], text, finds))
 }

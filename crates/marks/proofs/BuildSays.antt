@@ -16,9 +16,10 @@ use Rattle.oracle.specs.Supply.{supply}
 use Rattle.table.specs.Table.{room, table_of, read_word, read_arrow, read_supply}
 use Rattle.table.proofs.Theorems.{table-size, table-word, table-arrow, table-supply}
 use Rattle.words.specs.Limits.{longest_word}
-use Rattle.answers.specs.declared.SizeAnswer.{SizeAnswer}
+use Rattle.std.specs.Prelude.{Result}
+use Rattle.answers.specs.declared.Refusal.{Refusal}
 use Rattle.answers.specs.Answers.{done, refused, empty_word, long_word, short_room}
-use Rattle.answers.proofs.Answers.{done_not_refused, size_answer-one}
+use Rattle.answers.proofs.Answers.{done_not_refused, answer_of-one}
 use Rattle.marks.specs.Build.{Outcome, outcome, built, build_says}
 use Rattle.marks.specs.Cases.{BuildCase}
 
@@ -107,8 +108,8 @@ module _ (word : Word) (T : List ℕ) where
 -- ── One outcome ────────────────────────────────────────────────────────────
 
 -- two outcomes that the promise of build allows are equal
-pub build_one : (word : Word) (T : List ℕ) (r s : SizeAnswer) (A B : List ℕ) → built r A ≡ build_says word T → built s B ≡ build_says word T
-    → (r ≡ s) × (A ≡ B)
+pub build_one : (word : Word) (T : List ℕ) (r s : Result ℕ Refusal) (A B : List ℕ) → built r A ≡ build_says word T
+    → built s B ≡ build_says word T → (r ≡ s) × (A ≡ B)
 build_one word T r s A B e f =
     let g : built r A ≡ built s B = e ∙ sym f in
-    (size_answer-one r s (ap (λ o. o.answer) g), ap (λ o. o.tables) g)
+    (answer_of-one r s (ap (λ o. o.answer) g), ap (λ o. o.tables) g)

@@ -27,9 +27,10 @@ use Rattle.finds.specs.declared.Tally.{Tally}
 use Rattle.search.specs.Answers.{tally_of}
 use Rattle.finds.specs.Finds.{filled}
 use Rattle.words.specs.Limits.{longest_word, longest_text}
-use Rattle.answers.specs.declared.TallyAnswer.{TallyAnswer}
+use Rattle.std.specs.Prelude.{Result}
+use Rattle.answers.specs.declared.Refusal.{Refusal}
 use Rattle.answers.specs.Answers.{done, refused, empty_word, long_word, long_text, short_room}
-use Rattle.answers.proofs.Answers.{done_not_refused, tally_answer-one}
+use Rattle.answers.proofs.Answers.{done_not_refused, answer_of-one}
 use Rattle.marks.specs.Search.{found, Outcome, outcome, searched, search_says}
 use Rattle.marks.specs.Cases.{SearchCase}
 
@@ -183,18 +184,21 @@ module _ (word : Word) {P : List ℕ} (R : List ℕ) (filled_in : P ≡ table_of
   pub lent-formed : size < 65535 → Formed lent size
   lent-formed h = rw (lent-table, ← length-reverse word) (table-formed (mirror word) (rw (length-reverse word) h))
 
-  pub scan_counts : (text : Word) (F : List Place) {t : Tally} {F' : List Place}
-      → t ≡ tally_of (steps (read_arrow size lent) word text)
-      → F' ≡ filled (steps (read_arrow size lent) word text).starts F
+  -- w is the word as it is sought
+  pub scan_counts : (text : Word) (F : List Place) {w : Word} → w ≡ word → {t : Tally} {F' : List Place}
+      → t ≡ tally_of (steps (read_arrow size lent) w text)
+      → F' ≡ filled (steps (read_arrow size lent) w text).starts F
       → outcome (done t) left F' ≡ outcome (done (found word text)) (table_of (mirror word) ++ R) (filled (occurrences word text) F)
-  scan_counts text F t f =
-      rw (t, f, lent-table, left_is, filled_in, table-steps word text, search-lists-occurrences word text)
+  scan_counts text F sought t f =
+      let t = rw (sought, lent-table, table-steps word text) at t in
+      let f = rw (sought, lent-table, table-steps word text) at f in
+      rw (t, f, left_is, filled_in, search-lists-occurrences word text)
 
 -- ── One outcome ────────────────────────────────────────────────────────────
 
 -- two outcomes that the promise of search allows are equal
-pub search-one : (word text : Word) (T : List ℕ) (F : List Place) (r s : TallyAnswer) (A B : List ℕ) (G H : List Place)
+pub search-one : (word text : Word) (T : List ℕ) (F : List Place) (r s : Result Tally Refusal) (A B : List ℕ) (G H : List Place)
     → searched r A G ≡ search_says word text T F → searched s B H ≡ search_says word text T F → (r ≡ s) × (A ≡ B) × (G ≡ H)
 search-one word text T F r s A B G H e f =
     let g : searched r A G ≡ searched s B H = e ∙ sym f in
-    (tally_answer-one r s (ap (λ o. o.answer) g), ap (λ o. o.tables) g, ap (λ o. o.finds) g)
+    (answer_of-one r s (ap (λ o. o.answer) g), ap (λ o. o.tables) g, ap (λ o. o.finds) g)

@@ -12,7 +12,8 @@ use Rattle.std.specs.Prelude.{cond, List, ◌++◌, ℕ, length, drop, ltb}
 use Rattle.words.specs.Words.{Word}
 use Rattle.table.specs.Table.{room, table_of}
 use Rattle.words.specs.Limits.{longest_word}
-use Rattle.answers.specs.declared.SizeAnswer.{SizeAnswer}
+use Rattle.std.specs.Prelude.{Result}
+use Rattle.answers.specs.declared.Refusal.{Refusal}
 use Rattle.answers.specs.Answers.{Answer, done, refused, size_answer, empty_word, long_word, short_room}
 
 pub record Outcome : Type 0 where
@@ -22,7 +23,7 @@ pub record Outcome : Type 0 where
 abbrev pub outcome : Answer ℕ → List ℕ → Outcome
 outcome a T = record { answer = a; tables = T }
 
-abbrev pub built : SizeAnswer → List ℕ → Outcome
+abbrev pub built : Result ℕ Refusal → List ℕ → Outcome
 built r T = outcome (size_answer r) T
 
 abbrev pub build_within : ℕ → Word → List ℕ → Outcome

@@ -18,7 +18,8 @@ use Rattle.table.specs.Table.{room, table_of}
 use Rattle.finds.specs.declared.Tally.{Tally}
 use Rattle.finds.specs.Finds.{filled}
 use Rattle.words.specs.Limits.{longest_word, longest_text}
-use Rattle.answers.specs.declared.TallyAnswer.{TallyAnswer}
+use Rattle.std.specs.Prelude.{Result}
+use Rattle.answers.specs.declared.Refusal.{Refusal}
 use Rattle.answers.specs.Answers.{Answer, done, refused, tally_answer, empty_word, long_word, long_text, short_room}
 
 abbrev pub found : Word → Word → Tally
@@ -32,7 +33,7 @@ pub record Outcome : Type 0 where
 abbrev pub outcome : Answer Tally → List ℕ → List Place → Outcome
 outcome a T F = record { answer = a; tables = T; finds = F }
 
-abbrev pub searched : TallyAnswer → List ℕ → List Place → Outcome
+abbrev pub searched : Result Tally Refusal → List ℕ → List Place → Outcome
 searched r T F = outcome (tally_answer r) T F
 
 abbrev pub search_within : ℕ → Word → Word → List ℕ → List Place → Outcome

@@ -5,7 +5,6 @@
 --   given v a f         an answer that C is given: f of it, or v as it was where the call was refused
 --   size_given v a ..   the same of a size, of the number of finds, and of the letters read
 --   offset_given v a    an offset that C is given: the place of a refusal that has one, or v as it was
---   place_given v r     the same of the code's refusal r
 --   build_call ..       the outcome of code that returns, and leaves, so much
 --   build_returns ..    what is returned and left for an outcome of the entry
 --   build_call_says ..  what it must be
@@ -17,8 +16,6 @@
 use Rattle.std.specs.Prelude.{List, ℕ}
 use Rattle.words.specs.Words.{Word, Place}
 use Rattle.finds.specs.declared.Tally.{Tally}
-use Rattle.answers.specs.declared.Refusal.{Refusal}
-use Rattle.answers.specs.declared.Refusal.TheVariants.{Numbered, Placed}
 use Rattle.answers.specs.Answers.{Answer, done, refused, refused_at}
 use Rattle.marks.specs.Build
 use Rattle.marks.specs.Build.{build_says}
@@ -55,10 +52,6 @@ abbrev pub offset_given : {A : Type 0} → Place → Answer A → Place
 offset_given v (done a) = v
 offset_given v (refused r) = v
 offset_given v (refused_at r p) = p
-
-abbrev pub place_given : Place → Refusal → Place
-place_given v (Numbered n) = v
-place_given v (Placed n p) = p
 
 -- ── Build ──────────────────────────────────────────────────────────────────
 

@@ -5,12 +5,11 @@
 #![tactic(auto)]
 
 ghost use Rattle.std.specs.Prelude.{◌≡◌};
-ghost use Rattle.answers.specs.Answers.{number_of, size_answer, tally_answer};
-ghost use Rattle.marks_c.specs.Calls.{result_of, size_given, count_given, letters_given, offset_given, place_given};
+ghost use Rattle.answers.specs.Answers.{answer_of};
+ghost use Rattle.marks_c.specs.Calls.{result_of, size_given, count_given, letters_given, offset_given};
 ghost use Rattle.marks_c.specs.Calls.{build_call, build_call_says, save_call, save_call_says, save_checked_call_says};
 ghost use Rattle.marks_c.specs.Calls.{load_call, load_call_says, search_call, search_call_says, turbo_call_says};
 ghost use Rattle.marks_c.specs.Calls.{search_file_call, search_file_call_says};
-ghost use Rattle.failure_entries.specs.FailureSearch.{failure_answer};
 ghost use Rattle.marks_c.specs.FailureCalls.{failure_build_call_says, failure_count_given, failure_letters_given, failures_given};
 ghost use Rattle.marks_c.specs.FailureCalls.{failure_search_call, failure_search_call_says};
 ghost use Rattle.marks_c.specs.StoracleCalls.{storacle_build_call_says};
@@ -18,112 +17,67 @@ ghost use Rattle.marks_c.specs.CompactCalls.{compact_build_call, compact_build_c
 ghost use Rattle.marks_c.specs.SalvageCalls.{salvage_call, salvage_call_says};
 ghost use Rattle.marks_c.specs.Streams.{open_call, open_call_says, take_call, take_call_says};
 
-// What C is told of an answer: the number that is returned, and the size where the entry is done.
-fn tell_size(answer: answers::SizeAnswer, size: &mut u64) -> u32
-    ensures { (result ≡ result_of (size_answer answer)) × (size.new ≡ size_given size.old (size_answer answer)) }
+use answers::Refusal;
+
+// The number that C is told of an answer: 0 where the entry is done, else the refusal's.
+fn number<T>(answer: &Result<T, Refusal>) -> u32
+    ensures { result ≡ result_of (answer_of answer.now) }
 {
     match answer {
-        answers::SizeAnswer::Done(n) => {
-            *size = n as u64;
-            0
-        }
-        answers::SizeAnswer::Refused(why) => answers::number(why) as u32,
+        Ok(_) => 0,
+        Err(why) => u32::from(why.number()),
     }
 }
 
-// The same where C is told the number alone.
-fn tell(answer: answers::SizeAnswer) -> u32
-    ensures { result ≡ result_of (size_answer answer) }
+// The size that C is told where the entry is done, and the number.
+fn tell_size(answer: Result<usize, Refusal>, size: &mut u64) -> u32
+    ensures { (result ≡ result_of (answer_of answer)) × (size.new ≡ size_given size.old (answer_of answer)) }
 {
-    match answer {
-        answers::SizeAnswer::Done(n) => 0,
-        answers::SizeAnswer::Refused(reason) => answers::number(reason) as u32,
+    if let Ok(n) = answer {
+        *size = n as u64;
     }
+    number(&answer)
 }
 
 // The same of a search: the number of finds, and of letters read.
-fn tell_tally(answer: answers::TallyAnswer, count: &mut u64, letters: &mut u64) -> u32
-    ensures { (result ≡ result_of (tally_answer answer))
-        × (count.new ≡ count_given count.old (tally_answer answer))
-        × (letters.new ≡ letters_given letters.old (tally_answer answer)) }
+fn tell_tally(answer: Result<finds::Tally, Refusal>, count: &mut u64, letters: &mut u64) -> u32
+    ensures { (result ≡ result_of (answer_of answer))
+        × (count.new ≡ count_given count.old (answer_of answer))
+        × (letters.new ≡ letters_given letters.old (answer_of answer)) }
 {
-    match answer {
-        answers::TallyAnswer::Done(tally) => {
-            *count = tally.count as u64;
-            *letters = tally.letters;
-            0
-        }
-        answers::TallyAnswer::Refused(why) => answers::number(why) as u32,
+    if let Ok(tally) = answer {
+        *count = tally.count as u64;
+        *letters = tally.letters;
     }
+    number(&answer)
 }
 
 // The same of a search with a failure oracle: the failure arrows taken besides.
 fn tell_failures(
-    answer: failure_entries::FailureAnswer,
+    answer: Result<failure_search::FailureTally, Refusal>,
     count: &mut u64,
     letters: &mut u64,
     failures: &mut u64,
 ) -> u32
-    ensures { (result ≡ result_of (failure_answer answer))
-        × (count.new ≡ failure_count_given count.old (failure_answer answer))
-        × (letters.new ≡ failure_letters_given letters.old (failure_answer answer))
-        × (failures.new ≡ failures_given failures.old (failure_answer answer)) }
+    ensures { (result ≡ result_of (answer_of answer))
+        × (count.new ≡ failure_count_given count.old (answer_of answer))
+        × (letters.new ≡ failure_letters_given letters.old (answer_of answer))
+        × (failures.new ≡ failures_given failures.old (answer_of answer)) }
 {
-    match answer {
-        failure_entries::FailureAnswer::Done(counts) => {
-            *count = counts.count as u64;
-            *letters = counts.letters;
-            *failures = counts.failures;
-            0
-        }
-        failure_entries::FailureAnswer::Refused(why) => answers::number(why) as u32,
+    if let Ok(counts) = answer {
+        *count = counts.count as u64;
+        *letters = counts.letters;
+        *failures = counts.failures;
     }
+    number(&answer)
 }
 
-// What C is told of a refusal: its number, and its place where it has one.
-fn tell_refusal(why: answers::Refusal, offset: &mut u64) -> u32
-    ensures { (result ≡ number_of why) × (offset.new ≡ place_given offset.old why) }
+// Where in a file C is told that it is refused.
+fn tell_offset<T>(answer: &Result<T, Refusal>, offset: &mut u64)
+    ensures { offset.new ≡ offset_given offset.old (answer_of answer.now) }
 {
-    match why {
-        answers::Refusal::Numbered(n) => n as u32,
-        answers::Refusal::Placed(n, place) => {
-            *offset = place as u64;
-            n as u32
-        }
-    }
-}
-
-// What C is told of a load: as of a size, and where in the file it is refused.
-fn tell_load(answer: answers::SizeAnswer, m: &mut u64, offset: &mut u64) -> u32
-    ensures { (result ≡ result_of (size_answer answer))
-        × (m.new ≡ size_given m.old (size_answer answer))
-        × (offset.new ≡ offset_given offset.old (size_answer answer)) }
-{
-    match answer {
-        answers::SizeAnswer::Done(n) => tell_size(answers::SizeAnswer::Done(n), m),
-        answers::SizeAnswer::Refused(why) => tell_refusal(why, offset),
-    }
-}
-
-// The same of a search with a file.
-fn tell_file_search(
-    answer: answers::TallyAnswer,
-    count: &mut u64,
-    letters: &mut u64,
-    offset: &mut u64,
-) -> u32
-    ensures { (result ≡ result_of (tally_answer answer))
-        × (count.new ≡ count_given count.old (tally_answer answer))
-        × (letters.new ≡ letters_given letters.old (tally_answer answer))
-        × (offset.new ≡ offset_given offset.old (tally_answer answer)) }
-{
-    match answer {
-        answers::TallyAnswer::Done(tally) => tell_tally(
-            answers::TallyAnswer::Done(tally),
-            count,
-            letters,
-        ),
-        answers::TallyAnswer::Refused(why) => tell_refusal(why, offset),
+    if let Err(Refusal::InFile(fault)) = answer {
+        *offset = fault.place as u64;
     }
 }
 
@@ -162,7 +116,8 @@ pub fn marks_load(
         ≡ load_call_says file.now room.old tables.old m.old offset.old }
 {
     let loaded = mark_files::load(file, room, tables);
-    tell_load(loaded, m, offset)
+    tell_offset(&loaded, offset);
+    tell_size(loaded, m)
 }
 
 pub fn marks_search(
@@ -287,14 +242,15 @@ pub fn marks_search_file(
         count.old letters.old offset.old }
 {
     let searched = mark_files::search_file(file, text, room, tables, finds);
-    tell_file_search(searched, count, letters, offset)
+    tell_offset(&searched, offset);
+    tell_tally(searched, count, letters)
 }
 
 pub fn marks_open(word: &[u8], searcher: &mut [u8]) -> u32
     ensures { open_call result searcher.new ≡ open_call_says word.now searcher.old }
 {
     let opened = searcher_bytes::open(word, searcher);
-    tell(opened)
+    number(&opened)
 }
 
 pub fn marks_take(searcher: &mut [u8], piece: &[u8], finds: &mut [u32], count: &mut u64) -> u32

@@ -11,7 +11,8 @@ use lib.ListN.{length, drop, drop_of_length-le}
 use lib.Seq.{drop-cons}
 use Rattle.words.specs.Lists.{at}
 use Rattle.number.specs.Number.{greatest, refuses, Seen, number, ends, refused, with_group, see, see_number, placed, number_at}
-use Rattle.number.specs.declared.Number.TheVariants.{Value, Refused}
+use Rattle.std.specs.Prelude.{Ok, Err}
+use Rattle.answers.specs.declared.Flaw.TheVariants.{EndsEarly, Misspelled}
 use Rattle.number.proofs.Spelling.{top, top_least}
 use Rattle.number.proofs.Seeing.{Passes, refuses-told, see-refused, see-last, see-follows}
 
@@ -50,7 +51,7 @@ read-start s a = record { begun = omega arith; same = start; more = 4; places = 
 
 module _ {s : List ℕ} {a i value unit : ℕ} (R : Reading s a i value unit) where
   -- the file ends
-  pub read-end : length s ≤ i → Refused 5 (length s) ≡ number_at s a
+  pub read-end : length s ≤ i → Err (record { flaw = EndsEarly; place = length s }) ≡ number_at s a
   unfolding see
   read-end h = sym (R.same ∙ rw (drop_of_length-le s h))
 
@@ -60,7 +61,7 @@ module _ {s : List ℕ} {a i value unit : ℕ} (R : Reading s a i value unit) wh
     shown e = sym (R.same ∙ rw (drop-cons s i 0 h, e))
 
     -- the byte is refused
-    pub read-refused : refuses (i - a) (at s i) ≡ true → Refused 6 i ≡ number_at s a
+    pub read-refused : refuses (i - a) (at s i) ≡ true → Err (record { flaw = Misspelled; place = i }) ≡ number_at s a
     read-refused e = let p : a + (i - a) ≡ i = omega (arith, R.begun) in rw p at (shown (see-refused (i - a) (at s i) (drop (suc i) s) e))
 
     module _ (passed : refuses (i - a) (at s i) ≡ false) where
@@ -68,7 +69,7 @@ module _ {s : List ℕ} {a i value unit : ℕ} (R : Reading s a i value unit) wh
       p = refuses-told passed
 
       -- the byte ends the number
-      pub read-last : at s i < 128 → Value (value + unit * (at s i % 128)) (record { at = i + 1 }) ≡ number_at s a
+      pub read-last : at s i < 128 → Ok (record { value = value + unit * (at s i % 128); next = record { at = i + 1 } }) ≡ number_at s a
       read-last l =
           let e : at s i % 128 ≡ at s i = omega arith in
           let q : i + 1 ≡ a + suc (i - a) = omega (arith, R.begun) in

@@ -13,7 +13,11 @@ use Rattle.words.specs.Lists.{at}
 use Rattle.number.specs.Number.{Bytes, greatest, spell_number, written, Seen, number, ends, refused, see, see_number, placed, number_at}
 use Rattle.number.specs.Exactly.{StandsAt, CutOff, BadByte}
 use Rattle.number.specs.declared.Cursor.{Cursor}
-use Rattle.number.specs.declared.Number.TheVariants.{Value, Refused}
+use Rattle.std.specs.Prelude.{Ok, Err}
+use Rattle.answers.specs.declared.Fault.{Fault}
+use Rattle.answers.specs.declared.Flaw.{Flaw}
+use Rattle.answers.specs.declared.Flaw.TheVariants.{EndsEarly, Misspelled}
+use Rattle.number.specs.declared.Number.{Number}
 use Rattle.number.proofs.Spelling.{Spells, last, follows, top, spelling-spells, spells_one, spells-bytes, groups-length}
 use Rattle.number.proofs.Seeing.{Spellable, see-spells, Stood, see_stood, see-append, Refusable}
 use Rattle.number.proofs.Exactly.{Follow, Shape, see_shape, see-ends, see-bad}
@@ -98,7 +102,7 @@ module _ (v : ℕ) where
 
 -- v is read at place i
 abbrev pub ReadAt : List ℕ → ℕ → ℕ → Type 0
-ReadAt s i v = number_at s i ≡ Value v (record { at = i + length (spell_number v) })
+ReadAt s i v = number_at s i ≡ Ok (record { value = v; next = record { at = i + length (spell_number v) } })
 
 module _ (s : List ℕ) (i : ℕ) where
   -- a number that stands there is read
@@ -114,47 +118,55 @@ module _ (s : List ℕ) (i : ℕ) where
       let split = drop_at (take i s) (spell_number v ++ rest) i (length-take-le i s (omega arith)) in
       rw (append_assoc (take i s) (spell_number v) rest, split, read-spelled v rest h)
 
-  placed-value : (g : Seen) {v : ℕ} {c : Cursor} → placed s i g ≡ Value v c → (n : ℕ) × (g ≡ number v n) × (c.at ≡ i + n)
-  placed-value (number v n) e = (n, cc, cc)
+  -- a number that is read was seen, and ends so many bytes further on
+  pub placed-value : (g : Seen) {r : Number} → placed s i g ≡ Ok r → (n : ℕ) × (g ≡ number r.value n) × (r.next.at ≡ i + n)
+  placed-value (number v n) {r} e =
+      let same : record { value = v; next = record { at = i + n } } ≡ r = cc in
+      (n, ap (λ r. number r.value n) same, sym (ap (λ r. r.next.at) same))
   placed-value ends e = let z : ◌≡◌ {A = ℕ} 0 1 = cc in absurd (omega arith)
   placed-value (refused n) e = let z : ◌≡◌ {A = ℕ} 0 1 = cc in absurd (omega arith)
 
   -- a number that is read has at least one byte, and ends within the file
-  pub number_at-inside : {v : ℕ} {c : Cursor} → number_at s i ≡ Value v c → (i < c.at) × (c.at ≤ length s)
+  pub number_at-inside : {r : Number} → number_at s i ≡ Ok r → (i < r.next.at) × (r.next.at ≤ length s)
   unfolding number_at see_number
-  number_at-inside {v} {c} e =
+  number_at-inside {r} e =
       let f = placed-value (see_number (drop i s)) e in
-      let within : Shape 0 (drop i s) (number v f.0) = rw f.1 at (see_shape 0 (drop i s) (omega arith)) in
+      let within : Shape 0 (drop i s) (number r.value f.0) = rw f.1 at (see_shape 0 (drop i s) (omega arith)) in
       (omega (arith, f.2, within.0), omega (arith, f.2, within.1, length-drop i s))
 
   -- what is read stood there
-  pub number_at_stood : {v : ℕ} {c : Cursor} → Bytes s → number_at s i ≡ Value v c → StandsAt s i v c
+  pub number_at_stood : {r : Number} → Bytes s → number_at s i ≡ Ok r → StandsAt s i r.value r.next
   unfolding number_at see_number
-  number_at_stood {v} {c} bytes e =
+  number_at_stood {r} bytes e =
       let f = placed-value (see_number (drop i s)) e in
       let stood = read_stood {l = drop i s} (λ j. rw (get_or-drop i s j 0) (bytes (i + j))) f.1 in
       record {
         spelled = stood.spelled
-            ∙ ap (λ y. spell_number v ++ y) (drop-drop f.0 i s)
-            ∙ ap (λ j. spell_number v ++ drop j s) (sym f.2);
+            ∙ ap (λ y. spell_number r.value ++ y) (drop-drop f.0 i s)
+            ∙ ap (λ j. spell_number r.value ++ drop j s) (sym f.2);
         next = f.2 ∙ ap (λ n. i + n) stood.size;
         inside = (number_at-inside e).1;
         small = stood.small;
       }
 
+  abbrev pub cut_fault : Fault
+  cut_fault = record { flaw = EndsEarly; place = length s }
+
+  abbrev pub byte_fault : ℕ → Fault
+  byte_fault p = record { flaw = Misspelled; place = p }
+
   -- 5 at the file's end, or 6 at a byte, and the bytes are as they have to be for it
-  abbrev pub Refusal : ℕ → ℕ → Type 0
-  Refusal e p = ((e ≡ 5) × (p ≡ length s) × CutOff s i) ⊎ ((e ≡ 6) × BadByte s i p)
+  abbrev pub Refusal : Fault → Type 0
+  Refusal f = ((f ≡ cut_fault) × CutOff s i) ⊎ ((f ≡ byte_fault f.place) × BadByte s i f.place)
 
   -- nothing else is refused
-  pub number_at-refused : {e p : ℕ} → number_at s i ≡ Refused e p → Refusal e p
+  pub number_at-refused : {f : Fault} → number_at s i ≡ Err f → Refusal f
   unfolding number_at see_number
-  number_at-refused {e} {p} q = by (see 0 (drop i s)) (see_shape 0 (drop i s) (omega arith)) q
+  number_at-refused {f} q = by (see 0 (drop i s)) (see_shape 0 (drop i s) (omega arith)) q
     where
-      by : (g : Seen) → Shape 0 (drop i s) g → placed s i g ≡ Refused e p → Refusal e p
+      by : (g : Seen) → Shape 0 (drop i s) g → placed s i g ≡ Err f → Refusal f
       by (number v n) w q = let z : ◌≡◌ {A = ℕ} 0 1 = cc in absurd (omega arith)
       by ends w q = inl (
-        cc,
         cc,
         record {
           few = omega (arith, w.0, length-drop i s);
@@ -162,10 +174,11 @@ module _ (s : List ℕ) (i : ℕ) where
         },
       )
       by (refused n) w q =
-          let place : p ≡ i + w.before = let r : p ≡ i + n = cc in omega (arith, w.place) in
+          let same : f ≡ byte_fault (i + n) = cc in
+          let place : f.place ≡ i + w.before = ap (λ f. f.place) same ∙ omega (arith, w.place) in
           let size : n ≡ w.before = omega (arith, w.place) in
           inr (
-            cc,
+            same ∙ ap byte_fault (sym (ap (λ f. f.place) same)),
             record {
               before = w.before;
               place = place;
@@ -179,13 +192,13 @@ module _ (s : List ℕ) (i : ℕ) where
   -- ── 4. Exactly when ──────────────────────────────────────────────────────
 
   -- 5 shows exactly if the file ends before or inside the number
-  pub cut-exactly : (number_at s i ≡ Refused 5 (length s)) ↔ CutOff s i
+  pub cut-exactly : (number_at s i ≡ Err cut_fault) ↔ CutOff s i
   unfolding number_at see_number
   cut-exactly = (λ e. told refl (number_at-refused e), λ c. rw (see-ends 0 (drop i s) (size c) (follow c)))
     where
-      told : {e p : ℕ} → e ≡ 5 → Refusal e p → CutOff s i
-      told e (inl q) = q.2
-      told e (inr q) = absurd (omega arith)
+      told : {f : Fault} → f.flaw ≡ EndsEarly → Refusal f → CutOff s i
+      told e (inl q) = q.1
+      told e (inr q) = let z : ◌≡◌ {A = Flaw} EndsEarly Misspelled = sym e ∙ ap (λ f. f.flaw) q.0 in absurd cc
 
       size : CutOff s i → 0 + length (drop i s) ≤ 4
       size c = omega (arith, c.few, length-drop i s)
@@ -194,15 +207,15 @@ module _ (s : List ℕ) (i : ℕ) where
       follow c k h = rw (get_or-drop i s k 0) (c.follow k (omega (arith, length-drop i s)))
 
   -- 6 shows at a place exactly if the byte there is refused
-  pub bad-exactly : (p : ℕ) → (number_at s i ≡ Refused 6 p) ↔ BadByte s i p
+  pub bad-exactly : (p : ℕ) → (number_at s i ≡ Err (byte_fault p)) ↔ BadByte s i p
   unfolding number_at see_number
   bad-exactly p = (λ e. told refl (number_at-refused e), shown)
     where
-      told : {e : ℕ} → e ≡ 6 → Refusal e p → BadByte s i p
-      told e (inl q) = absurd (omega arith)
+      told : {f : Fault} → f.flaw ≡ Misspelled → Refusal f → BadByte s i f.place
+      told e (inl q) = let z : ◌≡◌ {A = Flaw} Misspelled EndsEarly = sym e ∙ ap (λ f. f.flaw) q.0 in absurd cc
       told e (inr q) = q.1
 
-      shown : BadByte s i p → placed s i (see 0 (drop i s)) ≡ Refused 6 p
+      shown : BadByte s i p → placed s i (see 0 (drop i s)) ≡ Err (byte_fault p)
       shown b =
           let n = b.before in
           let bad : Refusable n (at (drop i s) n) = rw (get_or-drop i s n 0, ← b.place) b.bad in
@@ -211,5 +224,5 @@ module _ (s : List ℕ) (i : ℕ) where
           rw (seen, b.place)
 
   -- v is read exactly if its one spelling stands there
-  pub value-exactly : {v : ℕ} {c : Cursor} → Bytes s → (number_at s i ≡ Value v c) ↔ StandsAt s i v c
+  pub value-exactly : {v : ℕ} {c : Cursor} → Bytes s → (number_at s i ≡ Ok (record { value = v; next = c })) ↔ StandsAt s i v c
   value-exactly {v} {c} bytes = (λ e. number_at_stood bytes e, λ S. number_at-spelled v _ S.small S.spelled ∙ rw S.next)

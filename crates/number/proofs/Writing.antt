@@ -2,10 +2,9 @@
 -- so that nothing has to be said of those that stand already.
 use mathlib.Core.Path.{◌≡◌, refl, ◌∙◌}
 use mathlib.Core.List.{List}
-use Prim.Native.Nat.{ℕ, suc, ◌+◌, ◌/◌, ◌%◌, ◌≤◌, ◌<◌}
-use native.Mathlib.Numerals.{add-one}
+use Prim.Native.Nat.{ℕ, suc, ◌+◌, ◌≤◌, ◌<◌}
 use native.Mathlib.Omega.{arith}
-use lib.ListN.{length, set, length-set}
+use lib.ListN.{length, set}
 use lib.Seq.{sets, sets-eq}
 use Rattle.number.specs.Number.{greatest, spell_number, written}
 use Rattle.number.proofs.Spelling.{Spells, last, follows, spelling-spells, spells-some, groups-length}
@@ -27,14 +26,6 @@ module _ {v left n : ℕ} (C : Counting v left n) where
   pub count-few : n ≤ 5
   unfolding spell_number
   count-few = omega (arith, spells-some C.spells, C.ahead, groups-length 4 v)
-
-  -- another group follows
-  pub count_next : 128 ≤ left → Counting v (left / 128) (n + 1)
-  count_next h = by C.spells C.ahead
-    where
-      by : {l : List ℕ} → Spells left l → n + length l ≡ suc (length (spell_number v)) → Counting v (left / 128) (n + 1)
-      by (last g) e = absurd (omega arith)
-      by (follows {l = l} g s) e = record { rest = l; spells = s; ahead = omega arith }
 
   -- the last group
   pub count-end : left < 128 → (n ≡ length (spell_number v)) × (n ≤ 5)
@@ -61,20 +52,6 @@ pub write_start : (s : List ℕ) (a v : ℕ) → v ≤ greatest → a + length (
 write_start s a v h r = record { rest = spell_number v; spells = spelling-spells v h; ahead = refl; still = refl; size = refl; room = r }
 
 module _ {s : List ℕ} {a v : ℕ} {t : List ℕ} {i left : ℕ} (W : Writing s a v t i left) where
-  -- there is room for the next byte
-  pub write_inside : i < length t
-  write_inside = omega (arith, spells-some W.spells, W.ahead, W.size, W.room)
-
-  -- another group follows
-  pub write_next : 128 ≤ left → Writing s a v (set t i (128 + left % 128)) (i + 1) (left / 128)
-  write_next h = by W.spells W.ahead W.still
-    where
-      by : {l : List ℕ} → Spells left l → i + length l ≡ a + length (spell_number v) → sets t i l ≡ sets s a (spell_number v)
-          → Writing s a v (set t i (128 + left % 128)) (i + 1) (left / 128)
-      by (last g) e q = absurd (omega arith)
-      by (follows {l = l} g r) e q =
-          record { rest = l; spells = r; ahead = omega arith; still = rw (add-one i) q; size = length-set t i _ ∙ W.size; room = W.room }
-
   -- the last group
   pub write_end : left < 128 → (i + 1 ≡ a + length (spell_number v)) × (set t i left ≡ written s a v)
   unfolding written

@@ -13,15 +13,16 @@
 --   see n l           what the bytes l show, behind n others of their number
 --   see_number l      what the bytes l show at their front
 --   placed s at seen  the answer at place `at` of the file s: the value and the next place; or 5 and the file's length; or 6 and the
---                     refused byte's place
+--                     refused byte's place (`answers/Answers/flaw_number`)
 --   number_at s at    what the file s shows at place `at`
 --
 -- 01, 'The file on disk' and 'When the library says no' (5 and 6).
-use Rattle.std.specs.Prelude.{Bool, cond, ◌&&◌, ◌||◌, List, [], ◌∷◌, ◌++◌, ℕ, zero, suc}
+use Rattle.std.specs.Prelude.{Bool, cond, ◌&&◌, ◌||◌, List, [], ◌∷◌, ◌++◌, ℕ, zero, suc, Result, Ok, Err}
 use Rattle.std.specs.Prelude.{◌+◌, ◌*◌, ◌/◌, ◌%◌, ◌<◌, length, take, drop, eqb, ltb}
 use Rattle.words.specs.Lists.{at}
+use Rattle.answers.specs.declared.Fault.{Fault}
+use Rattle.answers.specs.declared.Flaw.TheVariants.{EndsEarly, Misspelled}
 use Rattle.number.specs.declared.Number.{Number}
-use Rattle.number.specs.declared.Number.TheVariants.{Value, Refused}
 
 abbrev pub Bytes : List ℕ → Type 0
 Bytes l = (i : ℕ) → at l i < 256
@@ -64,10 +65,10 @@ see n (b ∷ l) = cond (refuses n b) (refused n) (cond (ltb b 128) (number b (su
 unfoldable pub see_number : List ℕ → Seen
 see_number l = see 0 l
 
-abbrev pub placed : List ℕ → ℕ → Seen → Number
-placed s at (number v n) = Value v (record { at = at + n })
-placed s at ends = Refused 5 (length s)
-placed s at (refused n) = Refused 6 (at + n)
+abbrev pub placed : List ℕ → ℕ → Seen → Result Number Fault
+placed s at (number v n) = Ok (record { value = v; next = record { at = at + n } })
+placed s at ends = Err (record { flaw = EndsEarly; place = length s })
+placed s at (refused n) = Err (record { flaw = Misspelled; place = at + n })
 
-unfoldable pub number_at : List ℕ → ℕ → Number
+unfoldable pub number_at : List ℕ → ℕ → Result Number Fault
 number_at s at = placed s at (see_number (drop at s))

@@ -4,63 +4,69 @@
 ghost use Rattle.std.specs.Prelude.{◌≡◌, ◌+◌, ◌≤◌, length};
 ghost use Rattle.number.specs.Number.{spell_number, written, refuses, number_at};
 
+use answers::{Fault, Flaw};
+
 // A place in the file.
-#[derive(Clone, Copy)]
+#[derive(Clone, Copy, Debug, PartialEq, Eq)]
 pub struct Cursor {
     pub at: usize,
 }
 
-// The value and the next place; or the refusal's number and the byte where it shows.
-#[derive(Clone, Copy)]
-pub enum Number {
-    Value(u32, Cursor),
-    Refused(u8, usize),
+// A number that was read, and the place behind it.
+#[derive(Clone, Copy, Debug, PartialEq, Eq)]
+pub struct Number {
+    pub value: u32,
+    pub next: Cursor,
 }
 
 // Whether a byte is refused behind n others of its number.
+#[tactic(auto, using(std::proofs::lemmas::Bool::Decides::nat_tests), unfolding(crate::specs::Number::refuses))]
 fn refuses(n: usize, b: u8) -> bool
     ensures { result ≡ refuses n b }
 {
-    ((0 < n) & (b == 0)) | ((n == 4) & (15 < b))
+    (0 < n && b == 0) || (n == 4 && 15 < b)
 }
 
 // The number that the file shows at a place.
-fn read(file: &[u8], start: usize) -> Number
+fn read(file: &[u8], start: usize) -> Result<Number, Fault>
     ensures { result ≡ number_at file.now start }
 {
-    let mut at = start;
     let mut value: u32 = 0;
     let mut unit: u32 = 1;
-    while at < file.len() {
+    for at in start..file.len() {
         let b = file[at];
         if refuses(at - start, b) {
-            return Number::Refused(6, at);
+            return Err(Flaw::Misspelled.at(at));
         }
         value += unit * (b % 128) as u32;
         if b < 128 {
-            return Number::Value(value, Cursor { at: at + 1 });
+            return Ok(Number {
+                value,
+                next: Cursor { at: at + 1 },
+            });
         }
         unit *= 128;
-        at += 1;
     }
-    Number::Refused(5, file.len())
+    Err(Flaw::EndsEarly.at(file.len()))
 }
 
-// A reader over the lent bytes of a file, and its place.
+// A reader over the lent bytes of a file, and its place. It is passed by value, as 01 fixes it.
 #[derive(Clone, Copy)]
 pub struct Reader<'a> {
     pub file: &'a [u8],
-    pub at: usize,
+    pub cursor: Cursor,
 }
 
-// The number that a reader's file shows at its place.
-pub fn next<'a>(r: Reader<'a>) -> Number
-    ensures { result ≡ number_at r.entry.file.now r.entry.at }
-{
-    read(r.file, r.at)
+impl<'a> Reader<'a> {
+    // The number that the file shows at the reader's place.
+    pub fn next(self) -> Result<Number, Fault>
+        ensures { result ≡ number_at self.entry.file.now self.entry.cursor.at }
+    {
+        read(self.file, self.cursor.at)
+    }
 }
 
-// How many bytes a number takes.
+// How many bytes a number takes: one more for each group that is taken off it.
 pub fn width(v: u32) -> usize
     ensures { (result ≡ length (spell_number v)) × (result ≤ 5) }
 {
@@ -73,7 +79,7 @@ pub fn width(v: u32) -> usize
     n
 }
 
-// Writes a number at a place, and answers the next place.
+// Writes a number at a place, and answers the next place. Each group that is taken off the number moves the place on.
 pub fn write(out: &mut [u8], c: Cursor, v: u32) -> Cursor
     requires { c.at + length (spell_number v) ≤ length out.old }
     ensures { (result.at ≡ c.at + length (spell_number v)) × (out.new ≡ written out.old c.at v) }

@@ -7,16 +7,15 @@ use Prim.Native.Nat.{ℕ, zero, suc, ◌+◌, ◌-◌, ◌≤◌, ◌<◌}
 use native.Mathlib.Nat.{le_refl, add-zero}
 use native.Mathlib.Omega.{arith}
 use lib.ListN.{length, take, length-append, length-map}
-use lib.Seq.{length-take-le, take_all, take-suc}
+use lib.Seq.{length-take-le, take-suc}
 use Rattle.words.specs.Words.{Word, Place, letter, part, occurrences}
 use Rattle.words.proofs.Lists.{map-append}
 use Rattle.words.proofs.Words.{part_length}
 use Rattle.words.proofs.Occurrences.{since-start, since-past}
-use Rattle.border.specs.Borders.{longest_border, borders, longest_end, Known}
+use Rattle.border.specs.Borders.{longest_border, borders, longest_end}
 use Rattle.border.proofs.Beginnings.{end_none}
-use Rattle.border.proofs.Filling.{borders-length, borders-known}
 use Rattle.finds.specs.Finds.{filled}
-use Rattle.finds.proofs.Filling.{filled-nil, filled-length}
+use Rattle.finds.proofs.Filling.{filled-nil}
 use Rattle.pieces.specs.Kept.{kept, heard}
 use Rattle.pieces.proofs.Kept.{kept_shorter, kept-within, kept_beginning}
 use Rattle.pieces.proofs.OnlyKept.{kept-goes_on, finds_go_on}
@@ -67,22 +66,10 @@ module _ {w v : Word} {held past : ℕ} {F₀ F : List ℕ} {at keep count : ℕ
   keep_short =
       (omega (arith, R.keeps, kept_shorter w y some-letter), omega (arith, R.keeps, kept-within w y some-letter, y-length))
 
-  pub running_known : {row : List ℕ} → row ≡ borders w → ((keep < length w) × (keep ≤ length row)) × Known w row keep
-  running_known e = rw e (
-    (keep_short.0, omega (arith, keep_short.0, borders-length w)),
-    record { entry = λ j l. (borders-known w).entry j (omega (arith, keep_short.0)) },
-  )
-
-  pub running_length : length F ≡ length F₀
-  running_length = ap length R.list ∙ filled-length _ F₀
+  pub running_keep_short : keep < length w
+  running_keep_short = keep_short.0
 
   -- ── The piece ends ───────────────────────────────────────────────────────
-
-  pub running_end : length v ≤ at → (keep ≡ kept w (heard w held v)) × (count ≡ length (occurrences w (heard w held v)))
-      × (F ≡ filled (map (λ q. past - held + q) (occurrences w (heard w held v))) F₀)
-  running_end l =
-      let all : take at v ≡ v = take_all at v l in
-      (rw all at R.keeps, rw all at R.number, rw all at R.list)
 
   -- ── One letter more ──────────────────────────────────────────────────────
 

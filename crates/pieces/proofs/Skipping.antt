@@ -1,28 +1,39 @@
--- LETTERS THAT ARE SKIPPED, one by one: none of those from `at` up to place i is c.
-use mathlib.Core.Path.{◌≡◌, sym, ap, ◌∙◌}
+-- LETTERS THAT ARE SKIPPED: none of those from `at` up to the first c behind it is c.
+use mathlib.Core.Path.{◌≡◌, ap, ◌∙◌}
 use mathlib.Core.Logic.{◌≢◌}
-use Prim.Native.Nat.{ℕ, ◌+◌, ◌≤◌, ◌<◌}
-use native.Mathlib.Nat.{le_refl}
-use native.Mathlib.Decide.{ℕ_discrete}
+use mathlib.Core.Bool.{Bool, not}
+use mathlib.Core.List.{List}
+use Prim.Native.Nat.{ℕ, ◌+◌, ◌-◌, ◌≤◌, ◌<◌}
 use native.Mathlib.Omega.{arith}
-use lib.ListN.{length}
+use lib.Dec.{eqb}
+use lib.ListN.{length, drop, length-drop}
+use lib.Seq.{get_or-drop}
+use borrow.Author.Tests.{eqb-false}
+use Rattle.std.specs.Prelude.{Option}
+use Rattle.std.specs.List.{position, position_or_len}
+use Rattle.std.specs.Option.{unwrap_or}
+use Rattle.std.proofs.lemmas.List.Sums.{prefix_len-le-length, fails_before_first}
 use Rattle.words.specs.Words.{Word, Letter, Place, letter}
 
-pub record Skipped (v : Word) (at : Place) (c : Letter) (i : Place) : Type 0 where
-  pub from : at ≤ i
-  pub inside : i ≤ length v
-  pub none : (k : Place) → at ≤ k → k < i → letter v k ≢ c
+first_or_all : (p : ℕ → Bool) (l : List ℕ) → unwrap_or (position p l) (length l) ≡ position_or_len p l
+first_or_all p l = grind (arith, prefix_len-le-length {X = ℕ})
 
-pub skip-start : (v : Word) {at : Place} (c : Letter) → at ≤ length v → Skipped v at c at
-skip-start v {at} c h = record { from = le_refl at; inside = h; none = λ k l u. absurd (omega arith) }
-
-pub skip_step : {v : Word} {at c i : ℕ} → Skipped v at c i → i < length v → letter v i ≢ c → Skipped v at c (i + 1)
-skip_step {v} {at} {c} {i} S h d = record { from = omega (arith, S.from); inside = omega arith; none = λ k l u. by k l u (ℕ_discrete k i) }
+pub none-skipped : (v : Word) (at : Place) (c : Letter) → at ≤ length v → {r : Option ℕ} → r ≡ position (λ b. eqb b c) (drop at v)
+    → {n : ℕ} → n ≡ unwrap_or r (length (drop at v))
+    → (at ≤ at + n) × (at + n ≤ length v) × ((i : ℕ) → at ≤ i → i < at + n → letter v i ≢ c)
+none-skipped v at c h {r} found {n} told = (omega arith, omega (arith, inside, length-drop at v), other)
   where
-    by : (k : Place) → at ≤ k → k < i + 1 → Dec (k ≡ i) → letter v k ≢ c
-    by k l u (yes e) q = d (ap (letter v) (sym e) ∙ q)
-    by k l u (no e) q = S.none k l (omega arith) q
+    is_c : Letter → Bool
+    is_c b = eqb b c
 
-pub skip-end : {v : Word} {at c i : ℕ} → Skipped v at c i
-    → (at ≤ i) × (i ≤ length v) × ((k : ℕ) → at ≤ k → k < i → letter v k ≢ c)
-skip-end S = (S.from, S.inside, S.none)
+    count : n ≡ position_or_len is_c (drop at v)
+    count = told ∙ ap (λ (o : Option ℕ). unwrap_or o (length (drop at v))) found ∙ first_or_all is_c (drop at v)
+
+    inside : n ≤ length (drop at v)
+    inside = omega (arith, count, prefix_len-le-length (λ b. not (is_c b)) (drop at v))
+
+    other : (i : ℕ) → at ≤ i → i < at + n → letter v i ≢ c
+    other i low high e =
+        let here : at + (i - at) ≡ i = omega arith in
+        let not_c = fails_before_first is_c (drop at v) (i - at) 0 (omega (arith, count)) in
+        eqb-false (letter (drop at v) (i - at)) c not_c (get_or-drop at v (i - at) 0 ∙ ap (letter v) here ∙ e)

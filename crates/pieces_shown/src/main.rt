@@ -4,49 +4,19 @@
 // entry of the list is 77.
 #![tactic(auto)]
 
-ghost use Rattle.std.specs.Prelude.{◌≡◌, ◌<◌, ◌≤◌, length, IfOk};
+ghost use Rattle.std.specs.Prelude.{◌≡◌, ◌≤◌, length, IfOk};
 ghost use Rattle.words.specs.Limits.{longest_streamed, longest_text};
 ghost use Rattle.words.specs.Words.{occurrences};
-ghost use Rattle.answers.specs.Answers.{size_answer};
-ghost use Rattle.pieces_shown.specs.Counts.{count_of};
 
 use std::io;
 use std::io::Write;
 
-fn entries(rt: &impl Print, list: &[u32]) -> io::Result<()> {
-    let mut i = 0;
-    while i < list.len() {
-        let entry = list[i];
-        print!(rt; " {entry}")?;
-        i += 1;
-    }
-    Ok(())
-}
-
 fn tell(rt: &impl Print, end: usize, found: usize, list: &[u32]) -> io::Result<()> {
     print!(rt; "; to {end} found {found}, list")?;
-    entries(rt, list)
-}
-
-// Where the piece ends that starts at `at`: so many bytes further, or with the text.
-fn piece_end(at: usize, n: usize, size: usize) -> usize
-    requires { (at < n) × (1 ≤ size) }
-    ensures { (at < result) × (result ≤ n) }
-{
-    if size < n - at {
-        return at + size;
+    for entry in list {
+        print!(rt; " {entry}")?;
     }
-    n
-}
-
-// How many finds an answer tells of.
-fn found(answer: answers::SizeAnswer) -> usize
-    ensures { result ≡ count_of (size_answer answer) }
-{
-    match answer {
-        answers::SizeAnswer::Done(n) => n,
-        answers::SizeAnswer::Refused(why) => 0,
-    }
+    Ok(())
 }
 
 // How often the word stands in the text, which is taken in pieces of so many bytes. Only a failed write is an error.
@@ -56,18 +26,16 @@ fn in_pieces(rt: &impl Print, word: &[u8], text: &[u8], size: usize) -> io::Resu
 {
     let opened = stream::open(word);
     let mut s = opened.searcher;
-    let mut at = 0;
+    let mut end = 0;
     let mut count: usize = 0;
-    while at < text.len() {
+    for piece in text.chunks(size) {
         let mut list = [77u32; 3];
-        let end = piece_end(at, text.len(), size);
-        let taken = s.take(&text[at..end], &mut list);
+        let taken = s.take(piece, &mut list);
         s = taken.next;
-        let answer = taken.answer;
-        let more = found(answer);
+        let more = taken.answer.unwrap_or(0);
+        end += piece.len();
         tell(rt, end, more, &list)?;
         count += more;
-        at = end;
     }
     Ok(count)
 }
@@ -84,6 +52,7 @@ fn show(rt: &impl Print, word: &[u8], text: &[u8], size: usize) -> io::Result<()
     println!(rt; "; in all {all}")
 }
 
+#[tactic(auto, using(words::proofs::Limits::streamed_limit, words::proofs::Limits::text_limit))]
 fn main(rt: HostRuntime) -> io::Result<()> {
     show(&rt, b"aba", b"ababa", 1)?;
     show(&rt, b"aba", b"ababa", 2)?;

@@ -1,7 +1,7 @@
 -- COLUMNS: each letter gets one behind those that are given away, so they stay apart; and an entry of a letter's own column is an entry for
 -- no other letter and no other state.
 use mathlib.Core.Path.{◌≡◌, sym, ap, ◌∙◌}
-use mathlib.Core.Logic.{◌⊎◌, inl, inr, ◌≢◌}
+use mathlib.Core.Logic.{◌≢◌}
 use mathlib.Core.List.{List}
 use Prim.Native.Nat.{ℕ, ◌+◌, ◌≤◌, ◌<◌}
 use native.Mathlib.Decide.{ℕ_discrete}
@@ -11,24 +11,16 @@ use lib.Seq.{get_or-set_same, get_or-set_other}
 use Rattle.words.specs.Lists.{at}
 use Rattle.words.specs.Words.{Letter}
 use Rattle.oracle.specs.Arrows.{State}
-use Rattle.prepared.specs.Filling.{Zeros, Apart}
+use Rattle.prepared.specs.Filling.{Apart}
 
 -- ── Given away ─────────────────────────────────────────────────────────────
 
--- none yet, but the one at 0
-pub columns-start : {C : List ℕ} {k : ℕ} → Zeros 256 C → Apart C k k
-columns-start Z = record {
-  size = Z.size;
-  inside = λ c h. omega (arith, Z.zeros c);
-  apart = λ c d h l f z. absurd (z (Z.zeros c));
-}
-
--- one more, for letter b
+-- one column more, for letter b
 pub columns_more : {C : List ℕ} {k next b : ℕ} → Apart C k next → b < 256 → Apart (set C b next) k (next + k)
 columns_more {C} {k} {next} {b} A l = record {
   size = simp length-set A.size;
   inside = λ c h. within c h (ℕ_discrete c b);
-  apart = λ c d h i f z. parted c d h i f z (ℕ_discrete c b) (ℕ_discrete d b);
+  apart = λ c d h i f z x y p q. parted c d h i f z x y p q (ℕ_discrete c b) (ℕ_discrete d b);
 }
   where
     new : at (set C b next) b ≡ next
@@ -41,16 +33,12 @@ columns_more {C} {k} {next} {b} A l = record {
     within c h (yes e) = rw e (omega (arith, new))
     within c h (no f) = omega (arith, old c f, A.inside c h)
 
-    parted : (c d : Letter) → c < 256 → d < 256 → c ≢ d → at (set C b next) c ≢ 0 → Dec (c ≡ b) → Dec (d ≡ b)
-        → (at (set C b next) c + k ≤ at (set C b next) d) ⊎ (at (set C b next) d + k ≤ at (set C b next) c)
-    parted c d h i f z (yes e) (yes q) = absurd (f (e ∙ sym q))
-    parted c d h i f z (yes e) (no q) = rw e (inr (omega (arith, new, old d q, A.inside d i)))
-    parted c d h i f z (no e) (yes q) = rw q (inl (omega (arith, new, old c e, A.inside c h)))
-    parted c d h i f z (no e) (no q) = rw (old c e, old d q) (A.apart c d h i f (λ w. z (old c e ∙ w)))
-
--- no more
-pub columns-end : {C : List ℕ} {k next e : ℕ} → Apart C k next → next ≤ e → Apart C k e
-columns-end A h = record { size = A.size; inside = λ c l. omega (arith, A.inside c l); apart = A.apart }
+    parted : (c d : Letter) → c < 256 → d < 256 → c ≢ d → at (set C b next) c ≢ 0 → (x y : State) → x < k → y < k
+        → Dec (c ≡ b) → Dec (d ≡ b) → at (set C b next) c + x ≢ at (set C b next) d + y
+    parted c d h i f z x y p q (yes e) (yes r) = absurd (f (e ∙ sym r))
+    parted c d h i f z x y p q (yes e) (no r) = rw (e, new, old d r) (λ w. omega (arith, w, A.inside d i))
+    parted c d h i f z x y p q (no e) (yes r) = rw (r, new, old c e) (λ w. omega (arith, w, A.inside c h))
+    parted c d h i f z x y p q (no e) (no r) = rw (old c e, old d r) (A.apart c d h i f (λ w. z (old c e ∙ w)) x y p q)
 
 -- ── Entries ────────────────────────────────────────────────────────────────
 
@@ -62,11 +50,7 @@ module _ {C : List ℕ} {k : ℕ} (D : List ℕ) (A : Apart C k (length D)) {d :
   module _ (own : at C d ≢ 0) where
     -- and it is for no other letter, and no other state
     elsewhere : (c : Letter) (y : State) → c < 256 → y < k → c ≢ d → at C c + y ≢ at C d + x
-    elsewhere c y h l f q = by (A.apart d c byte h (λ r. f (sym r)) own)
-      where
-        by : (at C d + k ≤ at C c) ⊎ (at C c + k ≤ at C d) → ⊥
-        by (inl r) = omega arith
-        by (inr r) = omega arith
+    elsewhere c y h l f q = A.apart d c byte h (λ r. f (sym r)) own x y low l (sym q)
 
     another : (c : Letter) (y : State) → c < 256 → y < k → y ≢ x → at C c + y ≢ at C d + x
     another c y h l f q = by (ℕ_discrete c d)

@@ -2,7 +2,7 @@
 -- place of what stood there, so an entry has the arrow that the reading rule finds first. `Putting` is what holds before each slot.
 use mathlib.Core.Path.{◌≡◌, refl, sym, ap, ◌∙◌}
 use mathlib.Core.Logic.{◌⊎◌, inl, inr, ◌≢◌}
-use mathlib.Core.Bool.{Bool, true, false, cond}
+use mathlib.Core.Bool.{cond}
 use mathlib.Core.Option.{none, some}
 use mathlib.Core.List.{List}
 use Prim.Native.Nat.{ℕ, ◌+◌, ◌*◌, ◌-◌, ◌≤◌, ◌<◌}
@@ -12,6 +12,7 @@ use native.Mathlib.Omega.{arith}
 use lib.ListN.{length, set, length-set}
 use lib.Dec.{eqb}
 use borrow.Author.Tests.{eq-eqb, ne_eqb}
+use Rattle.std.proofs.Common.{IsOk, Ok}
 use Rattle.words.specs.Lists.{at}
 use Rattle.words.specs.Words.{Letter}
 use Rattle.oracle.specs.Arrows.{State}
@@ -19,41 +20,25 @@ use Rattle.table.specs.Table.{read_arrow}
 use Rattle.table.specs.Formed.{Formed}
 use Rattle.table.proofs.Formed.{first_of, arrow-far, arrow-spine, arrow-slots, slots-inside, slot-hit, slot_next, slot_end_lem}
 use Rattle.prepared.specs.Prepared.{told}
-use Rattle.prepared.specs.Filling.{Apart, Told, OthersKept, Put, PutState}
 use Rattle.prepared.proofs.Told.{told-some}
 use Rattle.prepared.proofs.Parting.{entry_new, entry-letter, entry-state}
-
-pub not_both : {X : Type 0} → ◌≡◌ {A = Bool} false true → X
-not_both t = let z : ◌≡◌ {A = ℕ} 0 1 = cc in absurd (omega arith)
+use Rattle.prepared.specs.Filling.{Apart, Told, OthersKept, Outcome, Put, PutState}
 
 -- ── One arrow ──────────────────────────────────────────────────────────────
 
-module _ {L C : List ℕ} {k : ℕ} {D : List ℕ} {x y : State} where
-  -- nobody asks for its letter
-  pub put_no_byte : 255 < at L y → Put L C k D x y D true
-  put_no_byte h = record {
-    size = refl;
-    others = λ z l f c b. refl;
-    over = λ _ c b. rw (ne_eqb (at L y) c (λ q. omega arith));
-  }
-
-  -- its letter has no column
-  pub put_no_column : Put L C k D x y D false
-  put_no_column = record { size = refl; others = λ z l f c b. refl; over = λ t. not_both t }
-
-  -- it is put
-  pub put-there : Apart C k (length D) → at L y < 256 → x < k → at C (at L y) ≢ 0 → y ≢ 65535
-      → Put L C k D x y (set D (at C (at L y) + x) y) true
-  put-there A byte low own small = record {
-    size = length-set D _ y;
-    others = λ z l f c b. entry-state D A byte low own y c z b l f;
-    over = λ _ c b. by c b (ℕ_discrete c (at L y));
-  }
-    where
-      by : (c : Letter) → c < 256 → Dec (c ≡ at L y)
-          → told (at (set D (at C (at L y) + x) y) (at C c + x)) ≡ cond (eqb (at L y) c) (some y) (told (at D (at C c + x)))
-      by c b (yes q) = rw (q, eq-eqb (at L y) (at L y) refl) (ap told (entry_new D A byte low own y) ∙ told-some y small)
-      by c b (no q) = rw (ne_eqb (at L y) c (λ r. q (sym r))) (ap told (entry-letter D A byte low own y c b q))
+-- its letter has a column: it is put
+pub put-there : {L C : List ℕ} {k : ℕ} {D : List ℕ} {x y : State} → Apart C k (length D) → at L y < 256 → x < k → at C (at L y) ≢ 0
+    → y ≢ 65535 → Put L C k D x y (set D (at C (at L y) + x) y) (Ok tt)
+put-there {L} {C} {k} {D} {x} {y} A byte low own small = record {
+  size = length-set D _ y;
+  others = λ z l f c b. entry-state D A byte low own y c z b l f;
+  over = λ _ c b. by c b (ℕ_discrete c (at L y));
+}
+  where
+    by : (c : Letter) → c < 256 → Dec (c ≡ at L y)
+        → told (at (set D (at C (at L y) + x) y) (at C c + x)) ≡ cond (eqb (at L y) c) (some y) (told (at D (at C c + x)))
+    by c b (yes q) = rw (q, eq-eqb (at L y) (at L y) refl) (ap told (entry_new D A byte low own y) ∙ told-some y small)
+    by c b (no q) = rw (ne_eqb (at L y) c (λ r. q (sym r))) (ap told (entry-letter D A byte low own y c b q))
 
 -- ── Slot by slot ───────────────────────────────────────────────────────────
 
@@ -74,7 +59,7 @@ pub record Putting (L : List ℕ) (m : ℕ) (C : List ℕ) (k : ℕ) (D₀ : Lis
 
 module _ {L : List ℕ} {m : ℕ} {C : List ℕ} {k : ℕ} {D₀ : List ℕ} {x : State} where
   -- no arrow leaves the last state
-  pub put_last : m ≤ x → PutState L m C k D₀ x D₀ true
+  pub put_last : m ≤ x → PutState L m C k D₀ x D₀ (Ok tt)
   put_last h = record {
     size = refl;
     others = λ y l f c b. refl;
@@ -91,16 +76,12 @@ module _ {L : List ℕ} {m : ℕ} {C : List ℕ} {k : ℕ} {D₀ : List ℕ} {x 
     row = λ R c l. R c l ∙ sym (slot_end_lem L c (3 * (m + 1)) (slot_end L m x) (slot_end L m x) (le_refl _));
   }
 
-  module _ {D : List ℕ} {s : ℕ} (P : Putting L m C k D₀ x D s) {y : State} {D' : List ℕ} {r : Bool} (Q : Put L C k D x y D' r) where
+  module _ {D : List ℕ} {s : ℕ} (P : Putting L m C k D₀ x D s) {y : State} {D' : List ℕ} {r : Outcome} (Q : Put L C k D x y D' r) where
     others_too : OthersKept C k D₀ x D'
     others_too z h f c l = Q.others z h f c l ∙ P.others z h f c l
 
-    -- an arrow could not be put
-    pub put-fails : r ≡ false → PutState L m C k D₀ x D' false
-    put-fails e = record { size = Q.size ∙ P.size; others = others_too; arrows = λ t. not_both t }
-
     -- one slot more is put
-    pub put_step : r ≡ true → {t : ℕ} → s ≡ t + 1 → slot_start L m x < s → 3 * (m + 1) + t < length L → y ≡ at L (3 * (m + 1) + t)
+    pub put_step : IsOk r → {t : ℕ} → s ≡ t + 1 → slot_start L m x < s → 3 * (m + 1) + t < length L → y ≡ at L (3 * (m + 1) + t)
         → Putting L m C k D₀ x D' t
     put_step e {t} one more inside its = record {
       size = Q.size ∙ P.size;

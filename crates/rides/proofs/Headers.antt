@@ -7,12 +7,13 @@ use Prim.Native.Nat.{ℕ, ◌+◌, ◌-◌, ◌≤◌, ◌<◌}
 use native.Mathlib.Omega.{arith}
 use lib.ListN.{length}
 use lib.Dec.{eqb}
+use Rattle.std.specs.Prelude.{Some, None}
 use borrow.Author.Tests.{eqb-true, eq-eqb, le-leb, lt-leb}
 use Rattle.words.specs.Words.{Word, Place, letter}
 use Rattle.words.proofs.Lists.{test_cases}
-use Rattle.rides.specs.Rides.{allowed, header_size, data_size, header_inside, in_header, ride_end, cut, whole, kind_of}
+use Rattle.rides.specs.Rides.{allowed, header_size, data_size, header_inside, in_header, ride_end, kind_of}
 use Rattle.rides.specs.Answers.{header_of}
-use Rattle.rides.specs.declared.Header.TheVariants.{Listed, Missing}
+use Rattle.rides.specs.declared.Kind.TheVariants.{Cut, Whole}
 
 pub allowed-exactly : (n : ℕ) → (allowed n ≡ true) ↔ ((n ≡ 12) ⊎ (n ≡ 14))
 unfolding allowed
@@ -35,16 +36,16 @@ module _ (t : Word) (q : Place) where
   abbrev s : Place
   s = q - 8
 
-  pub too_early : q < 8 → header_of t q ≡ Missing
+  pub too_early : q < 8 → header_of t q ≡ None
   unfolding in_header
   too_early h = simp (lt-leb 8 q h)
 
-  pub other_size : 8 ≤ q → allowed (header_size t s) ≡ false → header_of t q ≡ Missing
+  pub other_size : 8 ≤ q → allowed (header_size t s) ≡ false → header_of t q ≡ None
   unfolding in_header header_inside
   other_size late e = simp (le-leb 8 q late, e)
 
   module _ (late : 8 ≤ q) (size : allowed (header_size t s) ≡ true) where
-    pub behind_the_end : length t < s + header_size t s → header_of t q ≡ Missing
+    pub behind_the_end : length t < s + header_size t s → header_of t q ≡ None
     unfolding in_header header_inside
     behind_the_end h = simp (le-leb 8 q late, size, lt-leb (s + header_size t s) (length t) h)
 
@@ -55,11 +56,11 @@ module _ (t : Word) (q : Place) where
       unfolding in_header header_inside
       listed = simp (le-leb 8 q late, size, le-leb (s + header_size t s) (length t) inside)
 
-      pub listed-cut : length t < ride_end t s → header_of t q ≡ Listed (record { 0 = s }) cut
+      pub listed-cut : length t < ride_end t s → header_of t q ≡ Some (record { start = record { 0 = s }; kind = Cut })
       unfolding kind_of
       listed-cut h = simp (listed, lt-leb (ride_end t s) (length t) h)
 
-      pub listed-whole : ride_end t s ≤ length t → header_of t q ≡ Listed (record { 0 = s }) whole
+      pub listed-whole : ride_end t s ≤ length t → header_of t q ≡ Some (record { start = record { 0 = s }; kind = Whole })
       unfolding kind_of
       listed-whole h = simp (listed, le-leb (ride_end t s) (length t) h)
 

@@ -22,12 +22,12 @@ adds_more {X} {Y} {n} x y = record {
   behind = λ R S K e b. rw (← append_assoc R X Y) (y.behind (R ++ X) S K (length-append R X ∙ rw e) (x.behind R S K e b));
 }
 
--- what two_lists::note promises is that it adds one ride
-pub adds_one : {r : Ride} {n : ℕ} {A B A' B' : List ℕ}
-    → ((l j S K : List ℕ) → length l ≡ n → length j ≡ n → Both l j S K A B → Both (l ++ (r.start ∷ [])) (j ++ (r.kind ∷ [])) S K A' B')
+-- what two_lists::note promises is that it adds one ride, of the kind that it was given
+pub adds_one : {r : Ride} {k n : ℕ} {A B A' B' : List ℕ} → k ≡ r.kind
+    → ((l j S K : List ℕ) → length l ≡ n → length j ≡ n → Both l j S K A B → Both (l ++ (r.start ∷ [])) (j ++ (k ∷ [])) S K A' B')
     → Adds (r ∷ []) n A B A' B'
-adds_one {r} f = record {
+adds_one {r} {k} kind f = record {
   behind = λ R S K e b.
-      rw (map-append (λ (r : Ride). r.start) R (r ∷ []), map-append (λ (r : Ride). r.kind) R (r ∷ []))
+      rw (map-append (λ (r : Ride). r.start) R (r ∷ []), map-append (λ (r : Ride). r.kind) R (r ∷ []), ← kind)
       (f (starts R) (kinds R) S K (length-map R _ ∙ e) (length-map R _ ∙ e) b);
 }

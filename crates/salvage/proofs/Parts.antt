@@ -2,7 +2,7 @@
 -- (`part-finds`); so the finds of all parts are those of the text, none lost and none doubled.
 use mathlib.Core.Path.{◌≡◌, refl, sym, ap, ◌∙◌}
 use mathlib.Core.List.{List, ◌++◌, map}
-use Prim.Native.Nat.{ℕ, suc, ◌+◌, ◌-◌, ◌≤◌, ◌<◌}
+use Prim.Native.Nat.{ℕ, suc, ◌+◌, ◌-◌, ◌≤◌, ◌<◌, min}
 use native.Mathlib.Nat.{add-zero, zero-add}
 use native.Mathlib.Omega.{arith}
 use lib.ListN.{length, take, length-append, length-take}
@@ -50,6 +50,10 @@ pub record Searched (t : Word) (F F' : List ℕ) (a e n : ℕ) : Type 0 where
   pub short : e ≤ a + longest_part
   pub counted : n ≡ length (occurrences dot_fit (part t a (e - a)))
   pub filled_in : F' ≡ filled (occurrences dot_fit (part t a (e - a))) F
+
+-- where a part that begins at a ends, of which the text leaves n letters
+pub part_ends : (a n : ℕ) {k : ℕ} → a + 4 ≤ n → k ≡ min (n - a) longest_part → (a + 4 ≤ a + k) × (a + k ≤ n) × (a + k ≤ a + longest_part)
+part_ends a n more e = (omega arith, omega arith, omega arith)
 
 -- before the part that begins at a: F is the list for the finds of a part, A and B are the caller's lists, which were S and K
 pub record Before (t : Word) (S K F A B : List ℕ) (a count : ℕ) : Type 0 where

@@ -19,9 +19,10 @@ use Rattle.table.proofs.Theorems.{table-size}
 use Rattle.two_lists.specs.TwoLists.{fit_both, filled_to}
 use Rattle.rides.specs.Rides.{dot_fit, rides, starts, kinds}
 use Rattle.rides.proofs.Theorems.{starts-length}
-use Rattle.answers.specs.declared.SizeAnswer.{SizeAnswer}
+use Rattle.std.specs.Prelude.{Result}
+use Rattle.answers.specs.declared.Refusal.{Refusal}
 use Rattle.answers.specs.Answers.{done, refused, refuses_only, one_of}
-use Rattle.answers.proofs.Answers.{done_not_refused, size_answer-one}
+use Rattle.answers.proofs.Answers.{done_not_refused, answer_of-one}
 use Rattle.salvage.specs.Salvage.{dot_fit_room, Outcome, outcome, salvaged, salvage_says}
 use Rattle.salvage.specs.Cases.{SalvageCase, on_long_text, on_short_room, accepted}
 use Rattle.salvage.specs.Listing.{InLists}
@@ -144,8 +145,8 @@ module _ (t u : Word) (T : List ℕ) (S : List Place) (K : List ℕ) (n : length
 
 -- two outcomes that the promise of salvage allows are equal
 pub salvage_one : (text : Word) (T : List ℕ) (S : List Place) (K : List ℕ)
-    (r s : SizeAnswer) (A B : List ℕ) (C D : List Place) (E F : List ℕ)
+    (r s : Result ℕ Refusal) (A B : List ℕ) (C D : List Place) (E F : List ℕ)
     → salvaged r A C E ≡ salvage_says text T S K → salvaged s B D F ≡ salvage_says text T S K → (r ≡ s) × (A ≡ B) × (C ≡ D) × (E ≡ F)
 salvage_one text T S K r s A B C D E F e f =
     let g : salvaged r A C E ≡ salvaged s B D F = e ∙ sym f in
-    (size_answer-one r s (ap (λ o. o.answer) g), ap (λ o. o.tables) g, ap (λ o. o.starts) g, ap (λ o. o.kinds) g)
+    (answer_of-one r s (ap (λ o. o.answer) g), ap (λ o. o.tables) g, ap (λ o. o.starts) g, ap (λ o. o.kinds) g)

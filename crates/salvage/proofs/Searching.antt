@@ -35,8 +35,8 @@ dot_fit-steps t =
 
 -- the word w and the table L that are lent
 module _ {w L : List ℕ} (word : w ≡ dot_fit) (table : L ≡ table_of (mirror dot_fit)) where
-  pub scan_asks : {n : ℕ} → n < 4294967295 → (1 ≤ length w) × (n < 4294967295) × (4 ≡ after_find w)
-  scan_asks h = rw word (omega (arith, dot_fit-length), h, sym dot_fit_step)
+  pub sought_asks : (1 ≤ length w) × (length w < 65536) × (4 ≡ after_find w)
+  sought_asks = rw word (omega (arith, dot_fit-length), omega (arith, dot_fit-length), sym dot_fit_step)
 
   pub scan_formed : Formed L (length w)
   scan_formed =

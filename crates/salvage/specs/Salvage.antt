@@ -14,7 +14,8 @@ use Rattle.words.specs.Limits.{longest_text}
 use Rattle.table.specs.Table.{room, table_of}
 use Rattle.two_lists.specs.TwoLists.{fit_both, filled_to}
 use Rattle.rides.specs.Rides.{dot_fit, rides, starts, kinds}
-use Rattle.answers.specs.declared.SizeAnswer.{SizeAnswer}
+use Rattle.std.specs.Prelude.{Result}
+use Rattle.answers.specs.declared.Refusal.{Refusal}
 use Rattle.answers.specs.Answers.{Answer, done, refused, size_answer, long_text, short_room}
 
 abbrev pub dot_fit_room : ℕ
@@ -29,7 +30,7 @@ pub record Outcome : Type 0 where
 abbrev pub outcome : Answer ℕ → List ℕ → List Place → List ℕ → Outcome
 outcome a T S K = record { answer = a; tables = T; starts = S; kinds = K }
 
-abbrev pub salvaged : SizeAnswer → List ℕ → List Place → List ℕ → Outcome
+abbrev pub salvaged : Result ℕ Refusal → List ℕ → List Place → List ℕ → Outcome
 salvaged r T S K = outcome (size_answer r) T S K
 
 unfoldable pub salvage_says : Word → List ℕ → List Place → List ℕ → Outcome

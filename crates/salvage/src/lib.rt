@@ -9,10 +9,10 @@ ghost use Rattle.words.specs.Words.{mirror};
 ghost use Rattle.words.specs.Limits.{longest_text};
 ghost use Rattle.table.specs.Table.{table_of};
 ghost use Rattle.rides.specs.Rides.{dot_fit, rides_at, rides};
-ghost use Rattle.salvage.specs.Listing.{longest_part, most_finds, InLists, Adds, Within, behind_place};
+ghost use Rattle.salvage.specs.Listing.{most_finds, InLists, Adds, Within, behind_place};
 ghost use Rattle.salvage.specs.Salvage.{salvaged, salvage_says};
 
-use answers::{Refusal, SizeAnswer};
+use answers::Refusal;
 
 // How many letters a part has at most, and how many finds at most: `.FIT` does not overlap itself.
 const PART: usize = 4096;
@@ -35,10 +35,10 @@ fn list_find(
         × Adds (rides_at text.now (q.0 ∷ [])) count
         starts.old kinds.old starts.new kinds.new }
 {
-    let rides::Header::Listed(start, kind) = rides::read_header(text, q) else {
+    let Some(header) = rides::read_header(text, q) else {
         return count;
     };
-    two_lists::note(starts, kinds, count, start, kind)
+    two_lists::note(starts, kinds, count, header.start, u8::from(header.kind))
 }
 
 // The same of all finds of a part that begins at a place of the text.
@@ -55,29 +55,16 @@ fn list_finds(
         × Adds (rides_at text.now (map (behind_place at.0) finds.now)) count
         starts.old kinds.old starts.new kinds.new }
 {
-    let mut i = 0;
     let mut listed = count;
-    while i < finds.len() {
-        let q = at.0 + finds[i];
+    for find in finds {
+        let q = at.0 + find;
         listed = list_find(text, words::Place(q), starts, kinds, listed);
-        i += 1;
     }
     listed
 }
 
-// Where the part that begins at a place of a text of n letters ends.
-fn part_end(at: usize, n: usize) -> usize
-    requires { at + 4 ≤ n }
-    ensures { (at + 4 ≤ result) × (result ≤ n) × (result ≤ at + longest_part) }
-{
-    if n - at <= PART {
-        return n;
-    }
-    at + PART
-}
-
 // Lists the rides of a text with the word `.FIT` and its mirror's table. A part begins with the last three letters of the one before it.
-// The list of finds is scratch.
+// The list of finds is scratch. Both lists and the count are lent on as they are: a struct of them would be lent anew at each call.
 fn list_parts(
     word: &[u8],
     table: &[u16],
@@ -91,12 +78,18 @@ fn list_parts(
     ensures { (result ≡ length (rides text.now))
         × InLists (rides text.now) starts.old kinds.old starts.new kinds.new }
 {
+    let table = table::Table {
+        entries: table,
+        m: word.len(),
+    };
+    // Four places on after a find: no end of `.FIT` is a beginning of it.
+    let sought = search::Sought { word, step: 4 };
     let mut at = 0;
     let mut count = 0;
+    // Parts overlap by three letters, as no iterator of the library's does: so the place is counted by hand.
     while at + 4 <= text.len() {
-        let end = part_end(at, text.len());
-        // Four places on after a find: no end of `.FIT` is a beginning of it.
-        let tally = search::scan(word, 4, table, &text[at..end], finds);
+        let end = at + (text.len() - at).min(PART);
+        let tally = search::scan(&table, &sought, &text[at..end], finds);
         let from = at as u32;
         count = list_finds(
             text,
@@ -113,19 +106,26 @@ fn list_parts(
 
 // The rides of the text by their headers, where each begins and its kind. The lists get the first of them, as many as fit both; the count
 // is exact.
-pub fn salvage(text: &[u8], tables: &mut [u16], starts: &mut [u32], kinds: &mut [u8]) -> SizeAnswer
+pub fn salvage(
+    text: &[u8],
+    tables: &mut [u16],
+    starts: &mut [u32],
+    kinds: &mut [u8],
+) -> Result<usize, Refusal>
     ensures { salvaged result tables.new starts.new kinds.new
         ≡ salvage_says text.now tables.old starts.old kinds.old }
 {
+    // Sizes are tested here, as in other entries: `marks` says why.
     if words::TEXT_LIMIT < text.len() {
-        return SizeAnswer::Refused(Refusal::Numbered(answers::LONG_TEXT));
+        return Err(Refusal::LongText);
     }
-    if tables.len() < ROOM {
-        return SizeAnswer::Refused(Refusal::Numbered(answers::SHORT_ROOM));
+    let need = ROOM;
+    if tables.len() < need {
+        return Err(Refusal::ShortRoom);
     }
-    let word = [46u8, 70, 73, 84];
+    let word = *b".FIT";
     table::fill_mirror(&word, &mut tables[..ROOM]);
     let mut finds = [0u32; FINDS];
     let count = list_parts(&word, &tables[..ROOM], text, &mut finds, starts, kinds);
-    SizeAnswer::Done(count)
+    Ok(count)
 }

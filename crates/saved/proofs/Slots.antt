@@ -8,8 +8,6 @@ use native.Mathlib.Numerals.{add-one}
 use native.Mathlib.Omega.{arith}
 use lib.ListN.{length, drop, drop_of_length-le}
 use lib.Seq.{drop-cons}
-use mir.Syntax.{w16, w64}
-use mir.Val.{Fits}
 use Rattle.words.specs.Lists.{at}
 use Rattle.words.specs.Words.{Word}
 use Rattle.oracle.specs.Arrows.{State}
@@ -51,10 +49,6 @@ module _ (p : Word) where
   stand_start h = record { behind = omega arith; inside = omega arith }
 
 -- ── Where the table has them ───────────────────────────────────────────────
-
--- an entry fits a size
-pub entry-fits : (L : List ℕ) → ((i : ℕ) → Fits w16 (at L i)) → (i : ℕ) → Fits w64 (at L i)
-entry-fits L small i = omega (arith, small i)
 
 module _ {p : Word} {L : List ℕ} (T : Tabled p L) where
   abbrev m : ℕ

@@ -13,19 +13,19 @@ use Rattle.backward.specs.Steps.{read_down}
 use Rattle.backward.proofs.Reading.{read_done, read-fails, read_goes}
 use Rattle.prepared.specs.Prepared.{told}
 use Rattle.prepared.proofs.Told.{tells_none, tells-some}
-use Rattle.search.specs.declared.WindowRead.{WindowRead}
-use Rattle.search.specs.declared.WindowRead.TheVariants.{Failed, Whole}
+use Rattle.search.specs.Answers.{MaybePlace}
+use Rattle.std.specs.Prelude.{Some, None}
 use Rattle.search.specs.Answers.{failed_at, reading_of}
 
 -- ── What an answer says ────────────────────────────────────────────────────
 
 -- the window failed
-pub failed-told : (o : Option ℕ) (r : WindowRead) (f : Place) → r ≡ failed_at o → r ≡ Failed f → o ≡ some f.0
+pub failed-told : (o : Option ℕ) (r : MaybePlace) (f : Place) → r ≡ failed_at o → r ≡ Some f → o ≡ some f.0
 failed-told none r f says e = cc
 failed-told (some g) r f says e = cc
 
 -- it was read whole
-pub whole-told : (o : Option ℕ) (r : WindowRead) → r ≡ failed_at o → r ≡ Whole → o ≡ none
+pub whole-told : (o : Option ℕ) (r : MaybePlace) → r ≡ failed_at o → r ≡ None → o ≡ none
 whole-told none r says e = refl
 whole-told (some g) r says e = cc
 
@@ -43,11 +43,11 @@ module _ {δ : Delta} {t : Word} {s m : ℕ} {from : State} where
 
   module _ {left : ℕ} {x : State} (R : StillToRead δ t s m from left x) where
     -- no letter is left
-    pub none_to_read : left ≡ 0 → Whole ≡ reading_of (read_down δ t s m from)
+    pub none_to_read : left ≡ 0 → None ≡ reading_of (read_down δ t s m from)
     none_to_read e = let q = rw (e, read_done δ t s x) at R.same in rw q
 
     -- another reading ends with them
-    pub rest_read : {r : WindowRead} → r ≡ reading_of (read_down δ t s left x) → r ≡ reading_of (read_down δ t s m from)
+    pub rest_read : {r : MaybePlace} → r ≡ reading_of (read_down δ t s left x) → r ≡ reading_of (read_down δ t s m from)
     rest_read says = says ∙ ap failed_at (sym R.same)
 
     module _ (more : left ≢ 0) where
@@ -56,7 +56,7 @@ module _ {δ : Delta} {t : Word} {s m : ℕ} {from : State} where
 
       -- the last of them has no arrow
       pub letter-fails : δ x (letter t (s + (left - 1))) ≡ none
-          → Failed (record { 0 = s + (left - 1) }) ≡ reading_of (read_down δ t s m from)
+          → Some (record { 0 = s + (left - 1) }) ≡ reading_of (read_down δ t s m from)
       letter-fails e = let q = rw (one, read-fails δ t s (left - 1) x e) at R.same in rw q
 
       -- it has one
@@ -73,7 +73,7 @@ module _ {δ : Delta} {t : Word} {s m : ℕ} {from : State} where
 pub record EntryRead (δ : Delta) (t : Word) (s m : ℕ) (from : State) (left entry : ℕ) : Type 0 where
   pub within : left ≤ m
   pub small : entry < 65536
-  pub ends : entry ≡ 65535 → Failed (record { 0 = s + left }) ≡ reading_of (read_down δ t s m from)
+  pub ends : entry ≡ 65535 → Some (record { 0 = s + left }) ≡ reading_of (read_down δ t s m from)
   pub goes : entry ≢ 65535 → StillToRead δ t s m from left entry
 
 module _ {δ : Delta} {t : Word} {s m : ℕ} {from : State} where

@@ -14,8 +14,8 @@ use Rattle.backward.specs.Steps.{Sweep, read_down, after_find, windows, steps}
 use Rattle.backward.proofs.Reading.{FailedAt, failed-place, whole-letters}
 use Rattle.backward.proofs.AfterFind.{after_moves, after_most}
 use Rattle.backward.proofs.Windows.{next, with_window, next_moves, windows-past, windows-one, windows-enough, steps-letters}
-use Rattle.search.specs.declared.WindowRead.{WindowRead}
-use Rattle.search.specs.declared.WindowRead.TheVariants.{Failed, Whole}
+use Rattle.search.specs.Answers.{MaybePlace}
+use Rattle.std.specs.Prelude.{Some, None}
 use Rattle.search.specs.Answers.{reading_of, tally_of}
 use Rattle.finds.specs.Finds.{filled}
 use Rattle.search.proofs.Readings.{failed-told, whole-told}
@@ -89,22 +89,22 @@ module _ {δ : Delta} {w t : Word} {F₀ F : List ℕ} {s : Place} {count letter
       (rw (all-counted, all_read), rw all_found at I.list)
 
   -- the letters, with those ahead, are fewer than 2^48
-  pub letters_fit : length w < 65535 → length t < 4294967295 → letters + (ahead δ w t s).letters < 281474976710656
+  pub letters_fit : length w < 65536 → length t < 4294967295 → letters + (ahead δ w t s).letters < 281474976710656
   letters_fit m n =
       let places : suc (length t) - length w ≤ 4294967295 = omega arith in
-      let read : length w ≤ 65534 = omega arith in
+      let read : length w ≤ 65535 = omega arith in
       omega (arith, I.all_letters, steps-letters δ w t, mul-le-mul read places)
 
   -- ── One window more ──────────────────────────────────────────────────────
 
-  module _ (h : s + length w ≤ length t) (r : WindowRead) (says : r ≡ reading_of (read_down δ t s (length w) 0)) where
+  module _ (h : s + length w ≤ length t) (r : MaybePlace) (says : r ≡ reading_of (read_down δ t s (length w) 0)) where
     -- it was read whole: its letters fit too
-    pub find-fits : r ≡ Whole → length w < 65535 → length t < 4294967295 → letters + length w < 281474976710656
+    pub find-fits : r ≡ None → length w < 65536 → length t < 4294967295 → letters + length w < 281474976710656
     find-fits e m n = omega (arith, rw (ahead-whole δ w t s h (whole-told _ r says e)) at (letters_fit m n))
 
     -- and it is noted, as one find more
     pub so-far-find
-        : r ≡ Whole → 1 ≤ length w → {step : ℕ} → step ≡ after_find w → {F' : List ℕ} {count' : ℕ} → count' ≡ count + 1
+        : r ≡ None → 1 ≤ length w → {step : ℕ} → step ≡ after_find w → {F' : List ℕ} {count' : ℕ} → count' ≡ count + 1
         → ((l f : List ℕ) → length l ≡ count → F ≡ filled l f → F' ≡ filled (l ++ (s ∷ [])) f)
         → SoFar δ w t F₀ F' (s + step) count' (letters + length w)
     so-far-find e some-letter moves counted noted =
@@ -119,7 +119,7 @@ module _ {δ : Delta} {w t : Word} {F₀ F : List ℕ} {s : Place} {count letter
           inside = omega (arith, after_most w some-letter);
         })
 
-    module _ (f : Placed) (e : r ≡ Failed f) where
+    module _ (f : Placed) (e : r ≡ Some f) where
       -- it failed, at a letter of its own
       pub fails-inside : FailedAt s (length w) f.0 (read_down δ t s (length w) 0).letters
       fails-inside = failed-place δ t s (length w) 0 f.0 (failed-told _ r f says e)

@@ -1,22 +1,25 @@
 -- What the search's answers mean.
 --
---   reading_of r  how a window was read
+--   MaybePlace    how a window was read: where its first letter without an arrow stands, or that each has one
+--   reading_of r  how it was read by the steps
 --   tally_of R    what a search counts
 --
 -- 01, 'The backward search'.
 use Rattle.std.proofs.Math.Option.{Option, none, some}
-use Rattle.std.specs.Prelude.{length}
+use Rattle.std.specs.Prelude.{length, Option as Maybe, Some, None}
 use Rattle.words.specs.Words.{Place}
-use Rattle.search.specs.declared.WindowRead.{WindowRead}
-use Rattle.search.specs.declared.WindowRead.TheVariants.{Failed, Whole}
+use Rattle.words.specs.declared.Place.{Place as Placed}
 use Rattle.finds.specs.declared.Tally.{Tally}
 use Rattle.backward.specs.Steps.{Reading, Sweep}
 
-abbrev pub failed_at : Option Place → WindowRead
-failed_at none = Whole
-failed_at (some f) = Failed (record { 0 = f })
+abbrev pub MaybePlace : Type 0
+MaybePlace = Maybe Placed
 
-abbrev pub reading_of : Reading → WindowRead
+abbrev pub failed_at : Option Place → MaybePlace
+failed_at none = None
+failed_at (some f) = Some (record { 0 = f })
+
+abbrev pub reading_of : Reading → MaybePlace
 reading_of r = failed_at r.failed
 
 abbrev pub tally_of : Sweep → Tally

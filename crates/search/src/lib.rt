@@ -3,84 +3,95 @@
 #![tactic(auto)]
 
 ghost use Rattle.std.specs.Prelude.{◌≡◌, ◌+◌, ◌<◌, ◌≤◌, length, replicate};
-ghost use Rattle.table.specs.Formed.{Formed};
-ghost use Rattle.table.specs.Table.{read_arrow};
-ghost use Rattle.prepared.specs.Prepared.{Rows, Prepared};
+ghost use Rattle.table.specs.Asked.{arrow_of};
 ghost use Rattle.backward.specs.Steps.{read_down, after_find, steps};
 ghost use Rattle.search.specs.Answers.{reading_of, tally_of};
 ghost use Rattle.finds.specs.Finds.{filled};
 
-// How a window was read: up to the first letter without an arrow, or all its letters.
+// A word that is searched for, and how far the window moves after a find of it.
 #[derive(Clone, Copy)]
-pub enum WindowRead {
-    Failed(words::Place),
-    Whole,
+pub struct Sought<'a> {
+    pub word: &'a [u8],
+    pub step: usize,
+    ghost nonempty: { 1 ≤ length word.now },
+    ghost short: { length word.now < 65536 },
+    ghost moves: { step ≡ after_find word.now },
 }
 
-// Reads k letters from s on, from the last to the first and from a state, with the arrows of a word of m letters; the loop breaks with how
-// that went.
-fn read_window(
-    table: &[u16],
-    m: usize,
+impl<'a> Sought<'a> {
+    // The row, as long as the word, is scratch and zero afterwards.
+    pub fn new(word: &'a [u8], row: &mut [u16]) -> Self
+        requires { (1 ≤ length word.now) × (length word.now < 65536) × (length row.old ≡ length word.now) }
+        ensures word { result.word.now ≡ word.now }
+        ensures row { row.new ≡ replicate (length word.now) 0 }
+    {
+        border::fill(word, row);
+        let longest = row[word.len() - 1] as usize;
+        row.fill(0);
+        Sought {
+            word,
+            step: word.len() - longest,
+        }
+    }
+}
+
+// Reads k letters from s on, from the last to the first and from a state; the loop breaks with how that went.
+// The loop counts down and breaks with its result: 01 fixes that form for reading a window.
+pub fn read_window<A: words::Arrows>(
+    arrows: &A,
     text: &[u8],
     s: words::Place,
     k: usize,
     from: words::State,
-) -> WindowRead
-    requires k_in_bounds { (s.0 + k ≤ length text.now) × (length text.now < 4294967295) }
-    requires formed { Formed table.now m }
-    ensures { result ≡ reading_of (read_down (read_arrow m table.now) text.now s.0 k from.0) }
+) -> Option<words::Place>
+    requires { (s.0 + k ≤ length text.now) × (length text.now < 4294967295) }
+    ensures { result ≡ reading_of (read_down (A.arrow arrows.now) text.now s.0 k from.0) }
 {
     let start = s.0 as usize;
     let mut left = k;
     let mut x = from;
     loop {
         if left == 0 {
-            break WindowRead::Whole;
+            break None;
         }
         let at = start + (left - 1);
-        let c = text[at];
-        let words::Leads::To(next) = table::lookup(table, m, x, words::Letter(c)) else {
-            let f = at as u32;
-            break WindowRead::Failed(words::Place(f));
+        let Some(next) = arrows.lookup(x, words::Letter(text[at])) else {
+            break Some(words::Place(at as u32));
         };
         x = next;
         left -= 1;
     }
 }
 
-// The same with what is prepared for so many states, from the one that an entry tells; from a state beyond these on, with lookups. The
-// entry is wide so that the compiler keeps one register for it from letter to letter.
-pub fn read_on(
-    table: &[u16],
-    m: usize,
-    column: &[u16],
-    dense: &[u16],
-    rows: usize,
+// The same as `read_window` with what is prepared, from the state that an entry tells; from a state beyond the prepared ones on, with
+// lookups. The entry is wide so that the compiler keeps one register for it from letter to letter.
+// The loop counts down and breaks with its result: 01 fixes that form for reading a window.
+pub fn read_on<A: words::Arrows>(
+    columns: &prepared::Columns<'_, A>,
     text: &[u8],
     s: words::Place,
     k: usize,
     from: u32,
-) -> WindowRead
-    requires k_in_bounds { (s.0 + k ≤ length text.now) × (length text.now < 4294967295) × (from < 65535) }
-    requires formed { Formed table.now m × (0 < rows → Rows table.now m column.now dense.now rows) }
-    ensures { result ≡ reading_of (read_down (read_arrow m table.now) text.now s.0 k from) }
+) -> Option<words::Place>
+    requires { (s.0 + k ≤ length text.now) × (length text.now < 4294967295) × (from < 65535) }
+    ensures { result ≡ reading_of (read_down (A.arrow columns.now.arrows.now) text.now s.0 k from) }
 {
+    let column = columns.column;
+    let dense = columns.dense;
     let start = s.0 as usize;
     let mut left = k;
     let mut entry = from as usize;
     loop {
-        if rows <= entry {
+        if columns.rows <= entry {
             let x = entry as u16;
             if x == prepared::NOTHING {
-                let f = (start + left) as u32;
-                break WindowRead::Failed(words::Place(f));
+                break Some(words::Place((start + left) as u32));
             }
-            let rest = read_window(table, m, text, s, left, words::State(x));
+            let rest = read_window(columns.arrows, text, s, left, words::State(x));
             break rest;
         }
         if left < 1 {
-            break WindowRead::Whole;
+            break None;
         }
         left -= 1;
         let c = text[start + left] as usize;
@@ -90,37 +101,27 @@ pub fn read_on(
     }
 }
 
-// How far the window moves after a find. The row, as long as the word, is scratch and zero afterwards.
-pub fn step_after_find(word: &[u8], row: &mut [u16]) -> usize
-    requires { (1 ≤ length word.now) × (length word.now < 65536) × (length row.old ≡ length word.now) }
-    ensures { (result ≡ after_find word.now) × (row.new ≡ replicate (length word.now) 0) }
+// Moves the window over the text, and looks each arrow up.
+pub fn windows<A: words::Arrows>(
+    arrows: &A,
+    sought: &Sought<'_>,
+    text: &[u8],
+    finds: &mut [u32],
+) -> finds::Tally
+    requires { length text.now < 4294967295 }
+    ensures tally { result ≡ tally_of (steps (A.arrow arrows.now) sought.now.word.now text.now) }
+    ensures finds { finds.new ≡ filled (steps (A.arrow arrows.now) sought.now.word.now text.now).starts finds.old }
 {
-    border::fill(word, row);
-    let longest = row[word.len() - 1] as usize;
-    table::clear(row);
-    word.len() - longest
-}
-
-// Moves the window over the text, and looks each arrow up in the table.
-fn windows(word: &[u8], step: usize, table: &[u16], text: &[u8], finds: &mut [u32]) -> finds::Tally
-    requires in_bounds { (1 ≤ length word.now) × (length text.now < 4294967295) × (step ≡ after_find word.now) }
-    requires formed { Formed table.now (length word.now) }
-    ensures { (result ≡ tally_of
-        (steps (read_arrow (length word.now) table.now) word.now text.now))
-        × (finds.new ≡ filled
-        (steps (read_arrow (length word.now) table.now) word.now text.now).starts
-        finds.old) }
-{
-    let m = word.len();
+    let m = sought.word.len();
     let n = text.len();
     let mut s = words::Place(0);
     let mut count: usize = 0;
     let mut letters: u64 = 0;
     'window: while (s.0 as usize) + m <= n {
-        let WindowRead::Failed(f) = read_window(table, m, text, s, m, words::State(0)) else {
+        let Some(f) = read_window(arrows, text, s, m, words::State(0)) else {
             letters += m as u64;
             count = finds::note(finds, count, s);
-            let on = ((s.0 as usize) + step) as u32;
+            let on = ((s.0 as usize) + sought.step) as u32;
             s = words::Place(on);
             continue 'window;
         };
@@ -128,136 +129,114 @@ fn windows(word: &[u8], step: usize, table: &[u16], text: &[u8], finds: &mut [u3
         letters += ((s.0 as usize) + m - (f.0 as usize)) as u64;
         s = past;
     }
-    finds::Tally {
-        count: count,
-        letters: letters,
-    }
+    finds::Tally { count, letters }
 }
 
-// The same with what is prepared of the table. Most windows end with their last letter or the one before it: these are moved at once.
-fn windows_prepared(
-    word: &[u8],
-    step: usize,
-    table: &[u16],
-    first: &[u32],
-    flags: &[u8],
-    column: &[u16],
-    dense: &[u16],
-    rows: usize,
+// No twin of `windows`: one loop for both took up to 1.2 times as long (docs/DECISIONS.md).
+// The same as `windows` with what is prepared. Most windows end with their last letter or the one before it: these are moved at once, as it
+// is told where the last letter leads and whether any arrow can follow.
+pub fn windows_prepared<A: words::Arrows, S: prepared::Starts>(
+    columns: &prepared::Columns<'_, A>,
+    starts: &S,
+    sought: &Sought<'_>,
     text: &[u8],
     finds: &mut [u32],
 ) -> finds::Tally
-    requires in_bounds { (2 ≤ length word.now) × (length text.now < 4294967295) × (step ≡ after_find word.now) }
-    requires formed { Formed table.now (length word.now)
-        × Prepared table.now (length word.now) first.now flags.now column.now dense.now rows }
-    ensures { (result ≡ tally_of
-        (steps (read_arrow (length word.now) table.now) word.now text.now))
-        × (finds.new ≡ filled
-        (steps (read_arrow (length word.now) table.now) word.now text.now).starts
-        finds.old) }
+    requires in_bounds { (2 ≤ length sought.now.word.now) × (length text.now < 4294967295) }
+    requires agree { S.arrow starts.now ≡ A.arrow columns.now.arrows.now }
+    ensures tally { result ≡ tally_of
+        (steps (A.arrow columns.now.arrows.now) sought.now.word.now text.now) }
+    ensures finds { finds.new ≡ filled
+        (steps (A.arrow columns.now.arrows.now) sought.now.word.now text.now).starts
+        finds.old }
 {
-    let m = word.len();
+    let m = sought.word.len();
     let n = text.len();
     let mut start: usize = 0;
     let mut count: usize = 0;
     let mut letters: u64 = 0;
-    // For how many states the entries are asked: for all that have some, or for none.
-    let mut asked = rows;
+    // Whether the entries are asked.
+    let mut asked = true;
     'window: while start + m <= n {
         let end = start + m;
-        let c = text[end - 1] as usize;
-        let x = first[c];
-        if x == prepared::NOTHING as u32 {
+        let c = words::Letter(text[end - 1]);
+        let Some(x) = starts.first(c) else {
             letters += 1;
             start = end;
             continue 'window;
-        }
-        let d = text[end - 2] as usize;
-        if flags[31 * c + d] == 0 {
+        };
+        let d = words::Letter(text[end - 2]);
+        let follows = starts.may_follow(c, x, d);
+        if !follows {
             letters += 2;
             start = end - 1;
             continue 'window;
         }
         let s = words::Place(start as u32);
         // Two calls, so that each way of reading has a loop to itself.
-        let read = if asked == 0 {
-            read_window(table, m, text, s, m - 1, words::State(x as u16))
+        let read = if asked {
+            read_on(columns, text, s, m - 1, x.0 as u32)
         } else {
-            read_on(table, m, column, dense, rows, text, s, m - 1, x)
+            read_window(columns.arrows, text, s, m - 1, x)
         };
-        let WindowRead::Failed(f) = read else {
-            letters += word.len() as u64;
+        let Some(f) = read else {
+            letters += sought.word.len() as u64;
             // Where a word stands it often stands again.
-            asked = 0;
+            asked = false;
             count = finds::note(finds, count, s);
-            start += step;
+            start += sought.step;
             continue 'window;
         };
         let deep = end - (f.0 as usize);
         letters += deep as u64;
-        asked = prepared::rows_next(32, deep, rows);
+        // Where it was read deep, the text mostly goes on along the word itself, and a lookup tries the word's own next letter at once.
+        asked = deep < 32;
         start = (f.0 as usize) + 1;
     }
-    finds::Tally {
-        count: count,
-        letters: letters,
-    }
+    finds::Tally { count, letters }
 }
 
 // The same in a long text, once its arrows are prepared. It is called from two places, so that the compiler keeps the arrays in a frame of
 // their own, for which a search in a short text does not pay.
 fn scan_long(
-    word: &[u8],
-    step: usize,
-    table: &[u16],
+    table: &table::Table<'_>,
+    sought: &Sought<'_>,
     text: &[u8],
     finds: &mut [u32],
 ) -> finds::Tally
-    requires in_bounds { (2 ≤ length word.now) × (length text.now < 4294967295) × (step ≡ after_find word.now) }
-    requires formed { Formed table.now (length word.now) }
-    ensures { (result ≡ tally_of
-        (steps (read_arrow (length word.now) table.now) word.now text.now))
-        × (finds.new ≡ filled
-        (steps (read_arrow (length word.now) table.now) word.now text.now).starts
-        finds.old) }
+    requires { (2 ≤ length sought.now.word.now) × (length text.now < 4294967295) }
+    ensures tally { result ≡ tally_of (steps (arrow_of table.now) sought.now.word.now text.now) }
+    ensures finds { finds.new ≡ filled (steps (arrow_of table.now) sought.now.word.now text.now).starts finds.old }
 {
     let mut column = [0u16; 256];
     let mut dense = [prepared::NOTHING; prepared::ENTRIES];
-    let rows = prepared::prepare_rows(table, word.len(), &mut column, &mut dense);
-    if rows == 0 {
-        return windows(word, step, table, text, finds);
+    let columns = prepared::prepare_columns(table, &mut column, &mut dense);
+    if columns.rows == 0 {
+        return windows(columns.arrows, sought, text, finds);
     }
-    let mut first = [0u32; 256];
-    let mut flags = [0u8; prepared::FLAGS];
-    prepared::prepare_starts(
-        table,
-        word.len(),
-        &column,
-        &dense,
-        rows,
-        &mut first,
-        &mut flags,
-    );
-    windows_prepared(
-        word, step, table, &first, &flags, &column, &dense, rows, text, finds,
-    )
+    let mut first = [None; 256];
+    let mut flags = [false; prepared::FLAGS];
+    let ready = prepared::Prepared::new(columns, &mut first, &mut flags);
+    windows_prepared(&ready.columns, &ready, sought, text, finds)
 }
 
 // Moves the window over the text, with the arrows of the table.
-pub fn scan(word: &[u8], step: usize, table: &[u16], text: &[u8], finds: &mut [u32]) -> finds::Tally
-    requires in_bounds { (1 ≤ length word.now) × (length text.now < 4294967295) × (step ≡ after_find word.now) }
-    requires formed { Formed table.now (length word.now) }
-    ensures { (result ≡ tally_of
-        (steps (read_arrow (length word.now) table.now) word.now text.now))
-        × (finds.new ≡ filled
-        (steps (read_arrow (length word.now) table.now) word.now text.now).starts
-        finds.old) }
+pub fn scan(
+    table: &table::Table<'_>,
+    sought: &Sought<'_>,
+    text: &[u8],
+    finds: &mut [u32],
+) -> finds::Tally
+    requires { length text.now < 4294967295 }
+    ensures tally { result ≡ tally_of (steps (arrow_of table.now) sought.now.word.now text.now) }
+    ensures finds { finds.new ≡ filled (steps (arrow_of table.now) sought.now.word.now text.now).starts finds.old }
 {
-    if prepared::repays_short(2, word.len(), text.len()) {
-        return scan_long(word, step, table, text, finds);
+    let m = sought.word.len();
+    if prepared::repays_short(2, m, text.len()) {
+        return scan_long(table, sought, text, finds);
     }
-    if prepared::repays_long(word.len(), text.len()) {
-        return scan_long(word, step, table, text, finds);
+    if prepared::repays_long(m, text.len()) {
+        return scan_long(table, sought, text, finds);
     }
-    windows(word, step, table, text, finds)
+    windows(table, sought, text, finds)
 }

@@ -1,17 +1,20 @@
--- A refusal is no answer, whatever it carries.
+-- Code's test whether it is done is that of what it answers.
 use mathlib.Core.Path.{◌≡◌, refl}
-use mathlib.Core.Bool.{false}
 use Prim.Native.Nat.{ℕ}
-use Rattle.answers.specs.declared.Refusal.{Refusal as Why}
-use Rattle.answers.specs.declared.Refusal.TheVariants.{Numbered, Placed}
-use Rattle.answers.specs.declared.SizeAnswer.{SizeAnswer}
-use Rattle.answers.specs.declared.SizeAnswer.TheVariants.{Refused}
-use Rattle.answers.specs.Answers.{refused_as, size_answer}
+use Rattle.std.specs.Prelude.{Result, Ok, Err}
+use Rattle.std.specs.Result.{is_ok}
+use Rattle.answers.specs.declared.Refusal.{Refusal}
+use Rattle.answers.specs.declared.Refusal.TheVariants.{EmptyWord, LongWord, ShortRoom, LongText, ShortOutput, Unmade, ShortWord, InFile}
+use Rattle.answers.specs.Answers.{size_answer}
 use Rattle.searcher_bytes.specs.TakeBytes.{is_done}
 
-not_done : (r : Why) → false ≡ is_done (refused_as {A = ℕ} r)
-not_done (Numbered n) = refl
-not_done (Placed n p) = refl
-
-pub refusal_not_done : {answer : SizeAnswer} {why : Why} → answer ≡ Refused why → false ≡ is_done (size_answer answer)
-refusal_not_done {why = why} e = rw e (not_done why)
+pub done-is_ok : (r : Result ℕ Refusal) → is_ok r ≡ is_done (size_answer r)
+done-is_ok (Ok n) = refl
+done-is_ok (Err EmptyWord) = refl
+done-is_ok (Err LongWord) = refl
+done-is_ok (Err ShortRoom) = refl
+done-is_ok (Err LongText) = refl
+done-is_ok (Err ShortOutput) = refl
+done-is_ok (Err Unmade) = refl
+done-is_ok (Err ShortWord) = refl
+done-is_ok (Err (InFile f)) = refl

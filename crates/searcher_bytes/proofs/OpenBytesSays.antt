@@ -9,15 +9,18 @@ use native.Mathlib.Decide.{dec_lt}
 use native.Mathlib.Omega.{arith}
 use lib.ListN.{length, drop}
 use borrow.Author.Tests.{lt-ltb, le-ltb}
+use Rattle.std.specs.Prelude.{Result}
 use Rattle.words.specs.Limits.{longest_streamed}
 use Rattle.words.specs.Words.{Word}
-use Rattle.answers.specs.declared.SizeAnswer.{SizeAnswer}
+use Rattle.answers.specs.declared.Refusal.{Refusal}
 use Rattle.answers.specs.Answers.{done, refused, empty_word, long_word, short_room, refuses_only, one_of}
-use Rattle.answers.proofs.Answers.{done_not_refused, size_answer-one}
+use Rattle.answers.proofs.Answers.{done_not_refused, answer_of-one}
 use Rattle.stream.specs.declared.Opened.{Opened}
 use Rattle.stream.specs.Searchers.{searcher_of}
 use Rattle.stream.specs.Opening
 use Rattle.stream.specs.Opening.{open_says}
+use Rattle.stream.proofs.Sound.{Sound}
+use Rattle.stream.proofs.Reached.{searcher_sound}
 use Rattle.stream.proofs.OpenSays.{says-opened}
 use Rattle.searcher_bytes.specs.Packing.{searcher_bytes, packed}
 use Rattle.searcher_bytes.specs.OpenBytes.{Outcome, outcome, opened, open_bytes_says}
@@ -46,9 +49,12 @@ module _ (w : Word) (B : List ℕ) where
   says-done h l s = rw (le-ltb _ _ h, le-ltb _ _ l, le-ltb _ _ s)
 
   -- what code hands over to be packed
-  pub opened-searcher : 1 ≤ length w → length w ≤ longest_streamed → (o : Opened) → Opening.opened o ≡ open_says w
+  opened-searcher : 1 ≤ length w → length w ≤ longest_streamed → (o : Opened) → Opening.opened o ≡ open_says w
       → o.searcher ≡ searcher_of w []
   opened-searcher h l o e = ap (λ (x : Opening.Outcome). x.searcher) (e ∙ says-opened w h l)
+
+  pub sound_opened : 1 ≤ length w → length w ≤ longest_streamed → (o : Opened) → Opening.opened o ≡ open_says w → Sound o.searcher
+  sound_opened h l o e = rw (opened-searcher h l o e) (searcher_sound w [] h l (omega arith))
 
   pub says-packed : 1 ≤ length w → length w ≤ longest_streamed → 134 ≤ length B → (o : Opened) → Opening.opened o ≡ open_says w
       → {P : List ℕ} → P ≡ packed o.searcher → outcome (done (length w)) (P ++ drop 134 B) ≡ open_bytes_says w B
@@ -101,8 +107,8 @@ module _ (w : Word) (B : List ℕ) where
 -- ── One outcome ────────────────────────────────────────────────────────────
 
 -- two outcomes that the promise of open allows are equal
-pub open_one : (w : Word) (B : List ℕ) (r s : SizeAnswer) (P Q : List ℕ) → opened r P ≡ open_bytes_says w B
+pub open_one : (w : Word) (B : List ℕ) (r s : Result ℕ Refusal) (P Q : List ℕ) → opened r P ≡ open_bytes_says w B
     → opened s Q ≡ open_bytes_says w B → (r ≡ s) × (P ≡ Q)
 open_one w B r s P Q e f =
     let g : opened r P ≡ opened s Q = e ∙ sym f in
-    (size_answer-one r s (ap (λ o. o.answer) g), ap (λ o. o.bytes) g)
+    (answer_of-one r s (ap (λ o. o.answer) g), ap (λ o. o.bytes) g)

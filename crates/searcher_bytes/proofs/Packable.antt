@@ -40,8 +40,11 @@ module _ {s : Searcher} (S : Sound s) where
           let entry = ap (λ (l : List ℕ). at l i) S.its ∙ padded its (longest_streamed - length its) i in
           omega (arith, entry, border_small (word_of s) i)
 
+  pub taken-small : s.taken < 4294967296
+  taken-small = omega (arith, S.inside, texts_fit)
+
   pub sound_length : length (packed s) ≡ searcher_bytes
   sound_length = packed-length s (word_row S) (borders-row S)
 
   pub sound_back : unpacked (packed s) ≡ s
-  sound_back = packed_back s (word_row S) (borders-row S) (omega (arith, S.inside, texts_fit))
+  sound_back = packed_back s (word_row S) (borders-row S) taken-small

@@ -1,18 +1,18 @@
 -- PACKING: how code writes a searcher's bytes, three parts one behind the other, and that packing and unpacking undo each other. Four
 -- digits to the base 256 have one value below 256⁴, and bytes are their value's digits.
-use mathlib.Core.Path.{◌≡◌, refl, sym, ap, ◌∙◌}
+use mathlib.Core.Path.{◌≡◌, refl, sym, ap, ap₂, ◌∙◌}
 use mathlib.Core.List.{List, [], ◌∷◌, ◌++◌, append_assoc, append-nil}
 use Prim.Native.Nat.{ℕ, ◌+◌, ◌*◌, ◌/◌, ◌%◌, ◌<◌}
 use native.Mathlib.Omega.{arith}
-use lib.ListN.{length, take, drop, length-append, length-drop, drop_of_length-le, take-append-drop}
+use lib.ListN.{length, take, drop, length-append, drop_of_length-le, take-append-drop}
 use lib.Seq.{take_at, drop_at, drop-drop, drop-cons}
 use borrow.Rule.Slice.PartMut.{put_mid}
+use Rattle.std.specs.Int.{to_le_bytes, w64}
 use Rattle.words.specs.Lists.{at}
 use Rattle.words.specs.Limits.{longest_streamed}
 use Rattle.words.specs.Words.{part}
 use Rattle.words.proofs.Limits.{streamed_limit}
 use Rattle.words.proofs.Lists.{at-behind}
-use Rattle.words.proofs.Words.{part_length}
 use Rattle.number.specs.Number.{Bytes}
 use Rattle.stream.specs.declared.Searcher.{Searcher}
 use Rattle.stream.proofs.Reached.{bytes_take}
@@ -24,12 +24,6 @@ unfolding searcher_bytes
 searcher_bytes_lem = rw streamed_limit
 
 -- ── Three parts of a room ──────────────────────────────────────────────────
-
-pub middle_length : (O : List ℕ) {P W : List ℕ} → P ≡ W → length W ≡ 64 → length O ≡ searcher_bytes
-    → length (part (P ++ drop 64 O) 64 64) ≡ 64
-middle_length O {P} e w o =
-    let front : length P ≡ 64 = ap length e ∙ w in
-    part_length (P ++ drop 64 O) 64 64 (omega (arith, searcher_bytes_lem, length-append P (drop 64 O), length-drop 64 O))
 
 pub three_parts : (O P Q R : List ℕ) → length O ≡ 134 → length P ≡ 64 → length Q ≡ 64 → length R ≡ 6
     → put_mid 128 6 (put_mid 64 64 (P ++ drop 64 O) Q) R ≡ P ++ (Q ++ R)
@@ -57,6 +51,13 @@ three_parts O P Q R o p q r =
 
     nothing : drop 6 (drop 128 (P ++ (Q ++ drop 64 (drop 64 O)))) ≡ []
     nothing = ap (drop 6) behind ∙ drop-drop 6 128 O ∙ drop_of_length-le O {i = 134} (omega arith)
+
+-- the four lowest bytes of a number
+pub low-digits : (n : ℕ) {l : List ℕ} → l ≡ to_le_bytes w64 n → at l 0 ∷ at l 1 ∷ at l 2 ∷ at l 3 ∷ [] ≡ low_first 4 n
+low-digits n e =
+    let two : n / 65536 % 256 ≡ n / 256 / 256 % 256 = omega arith in
+    let three : n / 16777216 % 256 ≡ n / 256 / 256 / 256 % 256 = omega arith in
+    rw e (ap₂ (λ x y. n % 256 ∷ n / 256 % 256 ∷ x ∷ y ∷ []) two three)
 
 -- ── The bytes of a searcher ────────────────────────────────────────────────
 
@@ -116,19 +117,13 @@ module _ (s : Searcher) (own : length s.word ≡ 64) (its : length s.borders ≡
 -- ── The searcher of some bytes ─────────────────────────────────────────────
 
 -- it is read part by part
-pub unpacked-parts : (b : List ℕ) {P Q : List ℕ} → P ≡ part b 0 64 → Q ≡ part b 64 64
-    → ◌≡◌ {A = Searcher} (record {
-      word = P;
-      borders = Q;
-      size = at b 128;
-      keep = at b 129;
-      taken = at b 130 + 256 * at b 131 + 65536 * (at b 132 + 256 * at b 133);
-    }) (unpacked b)
+pub unpacked-parts : (b : List ℕ) {P Q : List ℕ} {size keep taken : ℕ} → P ≡ part b 0 64 → Q ≡ part b 64 64 → size ≡ at b 128
+    → keep ≡ at b 129 → taken ≡ at b 130 + at b 131 * 256 + at b 132 * 65536 + at b 133 * 16777216
+    → ◌≡◌ {A = Searcher} (record { word = P; borders = Q; size = size; keep = keep; taken = taken }) (unpacked b)
 unfolding unpacked
-unpacked-parts b p q =
-    let sum : at b 130 + 256 * at b 131 + 65536 * (at b 132 + 256 * at b 133)
-    ≡ at b 130 + 256 * (at b 131 + 256 * (at b 132 + 256 * at b 133)) = omega arith in
-    rw (streamed_limit, p, q, sum)
+unpacked-parts b {taken = taken} p q m k t =
+    let sum : taken ≡ at b 130 + 256 * (at b 131 + 256 * (at b 132 + 256 * at b 133)) = omega arith in
+    rw (streamed_limit, p, q, m, k, sum)
 
 -- its word is of bytes
 pub unpacked-bytes : (b : List ℕ) → Bytes b → Bytes (unpacked b).word

@@ -11,13 +11,14 @@ use native.Mathlib.Omega.{arith}
 use lib.ListN.{length, take, drop, length-take}
 use lib.Seq.{length-take-le}
 use borrow.Author.Tests.{lt-ltb, le-ltb}
+use Rattle.std.specs.Prelude.{Result}
 use Rattle.words.specs.Limits.{longest_text}
 use Rattle.words.specs.Words.{Word, Place}
 use Rattle.words.proofs.Lists.{true_not_false, test_cases}
 use Rattle.number.specs.Number.{Bytes}
-use Rattle.answers.specs.declared.SizeAnswer.{SizeAnswer}
+use Rattle.answers.specs.declared.Refusal.{Refusal}
 use Rattle.answers.specs.Answers.{refused, size_answer, unmade, refuses_only, one_of}
-use Rattle.answers.proofs.Answers.{done_not_refused, size_answer-one}
+use Rattle.answers.proofs.Answers.{done_not_refused, answer_of-one}
 use Rattle.stream.specs.declared.Searcher.{Searcher}
 use Rattle.stream.specs.declared.Taken.{Taken}
 use Rattle.stream.specs.Searchers.{after, Made, makeable}
@@ -176,8 +177,8 @@ done_sound s v F t says e = test_cases (makeable s)
 -- ── One outcome ────────────────────────────────────────────────────────────
 
 -- two outcomes that the promise of take allows are equal
-pub take-one : (B : List ℕ) (v : Word) (F : List Place) (q r : SizeAnswer) (P Q : List ℕ) (G H : List Place)
+pub take-one : (B : List ℕ) (v : Word) (F : List Place) (q r : Result ℕ Refusal) (P Q : List ℕ) (G H : List Place)
     → took q P G ≡ take_bytes_says B v F → took r Q H ≡ take_bytes_says B v F → (q ≡ r) × (P ≡ Q) × (G ≡ H)
 take-one B v F q r P Q G H e f =
     let g : took q P G ≡ took r Q H = e ∙ sym f in
-    (size_answer-one q r (ap (λ o. o.answer) g), ap (λ o. o.bytes) g, ap (λ o. o.list) g)
+    (answer_of-one q r (ap (λ o. o.answer) g), ap (λ o. o.bytes) g, ap (λ o. o.list) g)

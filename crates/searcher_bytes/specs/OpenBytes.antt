@@ -6,10 +6,10 @@
 --                         taken nothing, and those behind them as they were
 --
 -- 02, 'Uploads in pieces'; demand 1.
-use Rattle.std.specs.Prelude.{cond, List, [], ◌++◌, ℕ, length, drop, ltb}
+use Rattle.std.specs.Prelude.{cond, List, [], ◌++◌, ℕ, length, drop, ltb, Result}
 use Rattle.words.specs.Limits.{longest_streamed}
 use Rattle.words.specs.Words.{Word}
-use Rattle.answers.specs.declared.SizeAnswer.{SizeAnswer}
+use Rattle.answers.specs.declared.Refusal.{Refusal}
 use Rattle.answers.specs.Answers.{Answer, done, refused, size_answer, empty_word, long_word, short_room}
 use Rattle.stream.specs.Searchers.{searcher_of}
 use Rattle.searcher_bytes.specs.Packing.{searcher_bytes, packed}
@@ -21,7 +21,7 @@ pub record Outcome : Type 0 where
 abbrev pub outcome : Answer ℕ → List ℕ → Outcome
 outcome a B = record { answer = a; bytes = B }
 
-abbrev pub opened : SizeAnswer → List ℕ → Outcome
+abbrev pub opened : Result ℕ Refusal → List ℕ → Outcome
 opened r B = outcome (size_answer r) B
 
 unfoldable pub open_bytes_says : Word → List ℕ → Outcome

@@ -8,9 +8,9 @@
 --                         first bytes says, whose bytes are changed by a success only, and those behind them never
 --
 -- 02, 'Uploads in pieces'; demand 1.
-use Rattle.std.specs.Prelude.{Bool, true, false, cond, List, ◌++◌, ℕ, length, take, drop, ltb}
+use Rattle.std.specs.Prelude.{Bool, true, false, cond, List, ◌++◌, ℕ, length, take, drop, ltb, Result}
 use Rattle.words.specs.Words.{Word, Place}
-use Rattle.answers.specs.declared.SizeAnswer.{SizeAnswer}
+use Rattle.answers.specs.declared.Refusal.{Refusal}
 use Rattle.answers.specs.Answers.{Answer, done, refused, refused_at, size_answer, unmade}
 use Rattle.stream.specs.Taking
 use Rattle.stream.specs.Taking.{take_says}
@@ -24,7 +24,7 @@ pub record Outcome : Type 0 where
 abbrev pub outcome : Answer ℕ → List ℕ → List Place → Outcome
 outcome a B F = record { answer = a; bytes = B; list = F }
 
-abbrev pub took : SizeAnswer → List ℕ → List Place → Outcome
+abbrev pub took : Result ℕ Refusal → List ℕ → List Place → Outcome
 took r B F = outcome (size_answer r) B F
 
 abbrev pub is_done : Answer ℕ → Bool

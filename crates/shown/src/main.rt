@@ -3,41 +3,25 @@
 // alone, and they are the file `stdout`. Before a call each lent byte is 6, each table entry 7, the answer 0 and the offset 99999.
 #![tactic(auto)]
 
+use std::fmt::Display;
 use std::io;
 use words::WORD_LIMIT;
 
 // Table entries for every word.
 const ENTRIES: usize = 6 * (WORD_LIMIT + 1);
 
-fn from(rt: &impl Print, place: usize, value: u64) -> io::Result<()> {
-    print!(rt; " {place}:{value}")
+// A case: the file to be loaded, or the word to be saved.
+enum Case<'a> {
+    Load(&'a [u8]),
+    Save(&'a [u8]),
 }
 
-// Each place where another value begins, with it; so with table entries.
-fn bytes(rt: &impl Print, s: &[u8]) -> io::Result<()> {
-    let mut last = 256;
-    let mut i = 0;
-    while i < s.len() {
-        let x = s[i] as u64;
-        if x != last {
-            from(rt, i, x)?;
+// Each place where another value begins, with it.
+fn values<T: PartialEq + Display>(rt: &impl Print, xs: &[T]) -> io::Result<()> {
+    for (i, x) in xs.iter().enumerate() {
+        if i == 0 || xs[i - 1] != *x {
+            print!(rt; " {i}:{x}")?;
         }
-        last = x;
-        i += 1;
-    }
-    Ok(())
-}
-
-fn entries(rt: &impl Print, s: &[u16]) -> io::Result<()> {
-    let mut last = 65536;
-    let mut i = 0;
-    while i < s.len() {
-        let x = s[i] as u64;
-        if x != last {
-            from(rt, i, x)?;
-        }
-        last = x;
-        i += 1;
     }
     Ok(())
 }
@@ -48,52 +32,53 @@ fn tell(rt: &impl Print, number: u32, answer: u64) -> io::Result<()> {
 
 fn show(rt: &impl Print, room: &[u8], tables: &[u16]) -> io::Result<()> {
     print!(rt; "; bytes")?;
-    bytes(rt, room)?;
+    values(rt, room)?;
     print!(rt; "; entries")?;
-    entries(rt, tables)?;
+    values(rt, tables)?;
     println!(rt; "")
 }
 
-// One load (L) or one save (S), in lent rooms.
-fn run(
-    rt: &impl Print,
-    kind: u8,
-    given: &[u8],
-    room: &mut [u8],
-    tables: &mut [u16],
-) -> io::Result<()> {
+// One load or one save, in lent rooms.
+fn run(rt: &impl Print, case: Case, room: &mut [u8], tables: &mut [u16]) -> io::Result<()> {
     let mut answer: u64 = 0;
-    if kind == b'L' {
-        let mut offset: u64 = 99999;
-        print!(rt; "load")?;
-        bytes(rt, given)?;
-        let number = marks_c::marks_load(given, room, tables, &mut answer, &mut offset);
-        tell(rt, number, answer)?;
-        print!(rt; ", offset {offset}")?;
-        return show(rt, room, tables);
+    match case {
+        Case::Load(file) => {
+            let mut offset: u64 = 99999;
+            print!(rt; "load")?;
+            values(rt, file)?;
+            let number = marks_c::marks_load(file, room, tables, &mut answer, &mut offset);
+            tell(rt, number, answer)?;
+            print!(rt; ", offset {offset}")?;
+        }
+        Case::Save(word) => {
+            print!(rt; "save")?;
+            values(rt, word)?;
+            let number = marks_c::marks_save(word, tables, room, &mut answer);
+            tell(rt, number, answer)?;
+        }
     }
-    print!(rt; "save")?;
-    bytes(rt, given)?;
-    let number = marks_c::marks_save(given, tables, room, &mut answer);
-    tell(rt, number, answer)?;
     show(rt, room, tables)
 }
 
-// A table of cases: for each its kind, how many bytes are handed over, and these. The rooms are enough for every word.
+// A table of cases: for each its kind, L or S, how many bytes are handed over, and these. It is packed, since the wrong program
+// `case_past_the_table` is one that leaves its bytes. The rooms are enough for every word.
 fn cases(rt: &impl Print, table: &[u8]) -> io::Result<()> {
-    let mut at = 0;
-    while 2 <= table.len() - at {
+    let mut left = table;
+    while let [kind, size, rest @ ..] = left {
         let mut room = [6u8; WORD_LIMIT];
         let mut tables = [7u16; ENTRIES];
-        let kind = table[at];
-        let long = table[at + 1] as usize;
-        let start = at + 2;
-        if table.len() - start < long {
+        let long = usize::from(*size);
+        if rest.len() < long {
             return Ok(());
         }
-        let end = start + long;
-        run(rt, kind, &table[start..end], &mut room, &mut tables)?;
-        at = end;
+        let (given, behind) = rest.split_at(long);
+        let case = if *kind == b'L' {
+            Case::Load(given)
+        } else {
+            Case::Save(given)
+        };
+        run(rt, case, &mut room, &mut tables)?;
+        left = behind;
     }
     Ok(())
 }
@@ -106,7 +91,7 @@ fn long_file(rt: &impl Print, declared: u32, room: &mut [u8]) -> io::Result<()> 
     let width = number::width(declared);
     number::write(&mut file, number::Cursor { at: 1 }, declared);
     let end = 1 + width + WORD_LIMIT;
-    run(rt, b'L', &file[0..end], room, &mut tables)
+    run(rt, Case::Load(&file[..end]), room, &mut tables)
 }
 
 // Loads the file of the longest word that is a, b and then a's, with its last arrow's second number changed. It has the extra arrows 0-2
@@ -119,12 +104,8 @@ fn last_arrow_wrong(rt: &impl Print, room: &mut [u8]) -> io::Result<()> {
     number::write(&mut file, number::Cursor { at: 1 }, WORD_LIMIT as u32);
     let end = 1 + width + WORD_LIMIT;
     file[2 + width] = b'b';
-    file[end] = 2;
-    file[end + 1] = 0;
-    file[end + 2] = 0;
-    file[end + 3] = 1;
-    file[end + 4] = 2;
-    run(rt, b'L', &file[0..end + 5], room, &mut tables)
+    file[end..end + 5].copy_from_slice(&[2, 0, 0, 1, 2]);
+    run(rt, Case::Load(&file[..end + 5]), room, &mut tables)
 }
 
 fn main(rt: HostRuntime) -> io::Result<()> {

@@ -18,9 +18,10 @@ use Rattle.table.specs.Table.{read_word}
 use Rattle.storacle.specs.StoracleRule.{storacle}
 use Rattle.storacle_table.specs.StoracleTable.{storacle_room, storacle_table, read_storacle}
 use Rattle.storacle_table.proofs.Theorems.{table-size, word_read, arrow-read}
-use Rattle.answers.specs.declared.SizeAnswer.{SizeAnswer}
+use Rattle.std.specs.Prelude.{Result}
+use Rattle.answers.specs.declared.Refusal.{Refusal}
 use Rattle.answers.specs.Answers.{done, refused, refuses_only, one_of}
-use Rattle.answers.proofs.Answers.{done_not_refused, size_answer-one}
+use Rattle.answers.proofs.Answers.{done_not_refused, answer_of-one}
 use Rattle.marks.specs.Build.{Outcome, outcome, built}
 use Rattle.storacle_entries.specs.StoracleBuild.{storacle_build_says}
 use Rattle.storacle_entries.specs.Cases.{StoracleBuildCase}
@@ -109,8 +110,8 @@ module _ (word : Word) (T : List ℕ) where
 -- ── One outcome ────────────────────────────────────────────────────────────
 
 -- two outcomes that the promise of storacle_build allows are equal
-pub storacle_build_one : (word : Word) (T : List ℕ) (r s : SizeAnswer) (A B : List ℕ)
+pub storacle_build_one : (word : Word) (T : List ℕ) (r s : Result ℕ Refusal) (A B : List ℕ)
     → built r A ≡ storacle_build_says word T → built s B ≡ storacle_build_says word T → (r ≡ s) × (A ≡ B)
 storacle_build_one word T r s A B e f =
     let g : built r A ≡ built s B = e ∙ sym f in
-    (size_answer-one r s (ap (λ o. o.answer) g), ap (λ o. o.tables) g)
+    (answer_of-one r s (ap (λ o. o.answer) g), ap (λ o. o.tables) g)

@@ -21,9 +21,6 @@ module _ {p : Word} {m : ℕ} {L : List ℕ} {i : ℕ} (S : TableAfter p m L i) 
   after-laid : Laid p (storacle_after p i) L
   after-laid = stitched-laid (all-walked p i (omega (arith, S.inside, S.sized.long))).stitched S.table
 
-  pub after-size : length L ≡ storacle_room m
-  after-size = rw (← S.sized.long) after-laid.size
-
   -- the word is read from row 0
   pub after-word : read_word m L ≡ p
   after-word = rw (← S.sized.long) (laid_word after-laid)

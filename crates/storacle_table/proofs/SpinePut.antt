@@ -64,24 +64,24 @@ module _ {p : Word} {m : ℕ} (long : length p ≡ m) where
       abbrev x : State
       x = next - 1
 
-      column-there : at L (m + 1 + next) ≡ column p (letter p x)
+      column-there : at L (m + 1 + (x + 1)) ≡ column p (letter p x)
       column-there =
-          let e : m + 1 + next ≡ length p + 1 + suc x = omega arith in
+          let e : m + 1 + (x + 1) ≡ length p + 1 + suc x = omega arith in
           rw e (P.laid.columns (suc x) (omega (arith, P.inside)) ∙ column_of p x (omega (arith, P.inside)))
 
-      pub spine-column : at L (m + 1 + next) ≤ m
+      pub spine-column : at L (m + 1 + (x + 1)) ≤ m
       spine-column = rw column-there (omega (arith, column-inside p (letter p x)))
 
-      pub spine-cell : cell_of m (next - 1) (at L (m + 1 + next)) < length L
-      spine-cell = omega (arith, spine-size, cell-inside m x (at L (m + 1 + next)) (omega (arith, P.inside)) spine-column)
+      pub spine-cell : cell_of m x (at L (m + 1 + (x + 1))) < length L
+      spine-cell = omega (arith, spine-size, cell-inside m x (at L (m + 1 + (x + 1))) (omega (arith, P.inside)) spine-column)
 
-      pub spine-fits : m < 65535 → cell_of m (next - 1) (at L (m + 1 + next)) ≤ 65536 * 65536
-      spine-fits small = cell-fits m x (at L (m + 1 + next)) small (omega (arith, P.inside)) spine-column
+      pub spine-fits : m < 65535 → cell_of m x (at L (m + 1 + (x + 1))) ≤ 65536 * 65536
+      spine-fits small = cell-fits m x (at L (m + 1 + (x + 1))) small (omega (arith, P.inside)) spine-column
 
-      pub spine_step : SpinePut p (set L (cell_of m (next - 1) (at L (m + 1 + next))) next) (next - 1)
+      pub spine_step : SpinePut p (set L (cell_of m x (at L (m + 1 + (x + 1)))) (x + 1)) x
       spine_step =
-          let cell_same = ap (λ n. cell_of n x (at L (m + 1 + next))) (sym long) ∙ ap (cell_of (length p) x) column-there in
+          let cell_same = ap (λ n. cell_of n x (at L (m + 1 + (x + 1)))) (sym long) ∙ ap (cell_of (length p) x) column-there in
           let one : next ≡ suc x = omega arith in
+          let above : x + 1 ≡ suc x = omega arith in
           let before : SpinePut p L (suc x) = rw one at P in
-          let after = arrow_more x (omega (arith, P.inside)) before in
-          rw cell_same (rw (← one) at after)
+          rw (cell_same, above) (arrow_more x (omega (arith, P.inside)) before)

@@ -1,5 +1,6 @@
 // The table of a storacle, filled from a word. Serves the entry above. As the rule goes, suffix after suffix is walked, and an arrow is
 // added where one lacks; but the walk goes on from there, as it would come there again.
+// The slice and its size go side by side: no fact on its entries holds at every write.
 #![tactic(auto)]
 
 ghost use Rattle.std.specs.Prelude.{◌≡◌, ◌+◌, ◌≤◌, ◌<◌, length};
@@ -13,14 +14,10 @@ fn first_alike(table: &[u16], x: usize, y: usize) -> usize
     requires { (x < y) × (y < length table.now) }
     ensures { FirstAlike table.now x y result }
 {
-    let letter = table[y];
-    let mut z = x + 1;
-    while z < y {
-        let other = table[z];
-        if other == letter {
+    for z in x + 1..y {
+        if table[z] == table[y] {
             return z;
         }
-        z += 1;
     }
     y
 }
@@ -38,11 +35,8 @@ fn put_columns(table: &mut [u16], m: usize)
     requires { Sized (read_word m table.old) m × (table.old ≡ word_put (read_word m table.old)) }
     ensures { table.new ≡ blank (read_word m table.old) }
 {
-    let mut i = 1;
-    while i <= m {
-        let column = first_alike(table, 0, i);
-        table[m + 1 + i] = column as u16;
-        i += 1;
+    for i in 1..=m {
+        table[m + 1 + i] = first_alike(table, 0, i) as u16;
     }
 }
 
@@ -51,24 +45,20 @@ fn put_spine(table: &mut [u16], m: usize)
     requires { Sized (read_word m table.old) m × (table.old ≡ blank (read_word m table.old)) }
     ensures { table.new ≡ storacle_table_from (read_word m table.old) (spine (read_word m table.old)) }
 {
-    let mut next = m;
-    while 0 < next {
-        let x = words::State((next - 1) as u16);
+    for x in (0..m).rev() {
+        let next = x + 1;
         let column = table[m + 1 + next] as usize;
-        let place = cell(m, x, column);
-        table[place] = next as u16;
-        next -= 1;
+        table[cell(m, words::State(x as u16), column)] = next as u16;
     }
 }
 
-// Walks the suffix behind the first i + 1 letters, and adds the arrows that it lacks.
+// Walks the suffix behind the first i + 1 letters, and adds the arrows that it lacks. An entry of 0 is no arrow: docs/TABLE.md fixes that.
 fn add_suffix(table: &mut [u16], m: usize, i: usize)
     requires { TableAfter (read_word m table.old) m table.old i × (i + 1 < m) }
     ensures { TableAfter (read_word m table.old) m table.new (i + 1) }
 {
-    let mut k = i + 1;
     let mut x = words::State(0);
-    while k < m {
+    for k in i + 1..m {
         let column = table[m + 1 + k + 1] as usize;
         let place = cell(m, x, column);
         let mut y = table[place];
@@ -77,7 +67,6 @@ fn add_suffix(table: &mut [u16], m: usize, i: usize)
             table[place] = y;
         }
         x = words::State(y);
-        k += 1;
     }
 }
 
@@ -86,10 +75,8 @@ fn finish(table: &mut [u16], m: usize)
     requires { TableAfter (read_word m table.old) m table.old 0 }
     ensures { table.new ≡ storacle_table (read_word m table.old) }
 {
-    let mut i = 0;
-    while i + 1 < m {
+    for i in 0..m - 1 {
         add_suffix(table, m, i);
-        i += 1;
     }
 }
 
@@ -98,9 +85,9 @@ pub fn fill(word: &[u8], table: &mut [u16])
     requires { (1 ≤ length word.now) × (length word.now < 65535) × (length table.old ≡ storacle_room (length word.now)) }
     ensures { table.new ≡ storacle_table word.now }
 {
-    table::clear(table);
     let m = word.len();
-    table::put_word(word, &mut table[1..m + 1]);
+    table.fill(0);
+    rows::widen(word, &mut table[1..=m]);
     put_columns(table, m);
     put_spine(table, m);
     finish(table, m);

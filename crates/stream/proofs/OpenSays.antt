@@ -12,7 +12,7 @@ use borrow.Author.Tests.{lt-ltb, le-ltb}
 use Rattle.words.specs.Limits.{longest_streamed}
 use Rattle.words.specs.Words.{Word}
 use Rattle.answers.specs.Answers.{done, refused, empty_word, long_word, refuses_only, one_of}
-use Rattle.answers.proofs.Answers.{done_not_refused, size_answer-one}
+use Rattle.answers.proofs.Answers.{done_not_refused, answer_of-one}
 use Rattle.stream.specs.declared.Opened.{Opened}
 use Rattle.stream.specs.Searchers.{searcher_of}
 use Rattle.stream.specs.Opening.{blank, Outcome, outcome, opened, open_says}
@@ -77,6 +77,6 @@ module _ (w : Word) where
 pub open_one : (w : Word) (r s : Opened) → opened r ≡ open_says w → opened s ≡ open_says w → r ≡ s
 open_one w r s e f =
     let g : opened r ≡ opened s = e ∙ sym f in
-    let a = size_answer-one r.answer s.answer (ap (λ o. o.answer) g) in
+    let a = answer_of-one r.answer s.answer (ap (λ o. o.answer) g) in
     let b = ap (λ (o : Outcome). o.searcher) g in
     λ i. record { answer = a i; searcher = b i }

@@ -1,7 +1,7 @@
 -- WHAT THE TEST SAYS, part by part: a searcher passes exactly if it is sound. So code that answers false has found a part that fails. What
 -- this tells of its rows, how many finds a piece may have, and that it leaves the searcher sound.
-use mathlib.Core.Path.{◌≡◌, sym, ap, ◌∙◌}
-use mathlib.Core.Bool.{Bool, true, false, not-eq-not}
+use mathlib.Core.Path.{◌≡◌, ap, ◌∙◌}
+use mathlib.Core.Bool.{true, false, not-eq-not}
 use mathlib.Core.List.{List}
 use Prim.Native.Nat.{ℕ, ◌+◌, ◌-◌, ◌≤◌, ◌<◌}
 use native.Mathlib.Omega.{arith}
@@ -12,7 +12,7 @@ use borrow.Author.Tests.{leb-true, ltb-true, le-leb, lt-ltb}
 use Rattle.words.specs.Limits.{longest_streamed, longest_text}
 use Rattle.words.specs.Words.{Word, part, same, occurrences}
 use Rattle.words.proofs.Limits.{streamed_limit}
-use Rattle.words.proofs.Lists.{and_true, true_not_false, test_cases}
+use Rattle.words.proofs.Lists.{and_true}
 use Rattle.words.proofs.Words.{same_true, same_refl, part_length}
 use Rattle.words.proofs.Occurrences.{occurrences-few}
 use Rattle.border.specs.Borders.{borders}
@@ -33,7 +33,7 @@ pub record Sound (s : Searcher) : Type 0 where
 
 -- ── The test ───────────────────────────────────────────────────────────────
 
-pub same-eq : (u v : List ℕ) → u ≡ v → same u v ≡ true
+same-eq : (u v : List ℕ) → u ≡ v → same u v ≡ true
 same-eq u v e = rw e (same_refl v)
 
 pub makeable_sound : (s : Searcher) → makeable s ≡ true → Sound s
@@ -55,6 +55,9 @@ makeable_sound s e =
       its = same_true _ _ g.1;
     }
 
+pub few_letters : (s : Searcher) → makeable s ≡ true → s.size ≤ 64
+few_letters s e = omega (arith, (makeable_sound s e).few, streamed_limit)
+
 pub sound_makeable : (s : Searcher) → Sound s → makeable s ≡ true
 unfolding makeable
 sound_makeable s S =
@@ -70,12 +73,6 @@ sound_makeable s S =
 
 pub unsound : (s : Searcher) → (Sound s → ⊥) → makeable s ≡ false
 unsound s f = (not-eq-not {b = false}).0 (λ e. f (makeable_sound s e))
-
--- code's own test is this one, if it is true of the sound ones alone
-pub tested : (s : Searcher) {b : Bool} → (b ≡ true → Sound s) → (Sound s → b ≡ true) → b ≡ makeable s
-tested s {b} f g = test_cases b
-    (λ e. e ∙ sym (sound_makeable s (f e)))
-    (λ e. e ∙ sym (unsound s (λ S. true_not_false (sym (g S) ∙ e))))
 
 -- ── Its rows ───────────────────────────────────────────────────────────────
 

@@ -15,7 +15,7 @@ use Rattle.finds.specs.Finds.{filled}
 use Rattle.pieces.specs.Kept.{kept}
 use Rattle.number.specs.Number.{Bytes}
 use Rattle.answers.specs.Answers.{done, refused, long_text, unmade, refuses_only, one_of}
-use Rattle.answers.proofs.Answers.{done_not_refused, size_answer-one}
+use Rattle.answers.proofs.Answers.{done_not_refused, answer_of-one}
 use Rattle.stream.specs.declared.Searcher.{Searcher}
 use Rattle.stream.specs.declared.Taken.{Taken}
 use Rattle.stream.specs.Searchers.{word_of, heard_by, after, finds, Made, makeable}
@@ -113,6 +113,6 @@ pub take-one : (s : Searcher) (v : Word) (F : List Place) (q r : Taken) (G H : L
     → took r H ≡ take_says s v F → (q ≡ r) × (G ≡ H)
 take-one s v F q r G H e f =
     let g : took q G ≡ took r H = e ∙ sym f in
-    let a = size_answer-one q.answer r.answer (ap (λ o. o.answer) g) in
+    let a = answer_of-one q.answer r.answer (ap (λ o. o.answer) g) in
     let b = ap (λ (o : Outcome). o.next) g in
     (λ i. record { answer = a i; next = b i }, ap (λ (o : Outcome). o.list) g)

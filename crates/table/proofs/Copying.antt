@@ -1,16 +1,10 @@
--- LETTERS COPIED into a row of a table: each fits an entry, and those of a mirror are the word's, counted from its end.
+-- LETTERS COPIED into a row of a table: those of a mirror are the word's, counted from its end, and bytes.
 use mathlib.Core.Path.{◌≡◌, sym, ap, ◌∙◌}
 use Prim.Native.Nat.{ℕ, ◌-◌, ◌<◌}
 use native.Mathlib.Omega.{arith}
 use lib.ListN.{length, length-reverse}
-use mir.Syntax.{w8, w16}
-use mir.Val.{Fits}
 use Rattle.words.specs.Words.{Word, letter, mirror}
 use Rattle.words.proofs.Words.{part-cons, mirror-part}
-
--- a letter fits an entry
-pub letter-fits : (w : Word) → ((i : ℕ) → Fits w8 (letter w i)) → (i : ℕ) → Fits w16 (letter w i)
-letter-fits w small i = omega (arith, small i)
 
 -- letter i of the mirror stands i letters before the word's last
 pub mirror-at : (w : Word) (i : ℕ) → i < length w → letter w (length w - 1 - i) ≡ letter (mirror w) i

@@ -1,6 +1,6 @@
 -- LAYING ALL CHAINS OUT, from the last state to the first: `Laying` is what holds before each state. The chains of the states still to come
 -- are as they were at entry, and their heads too, since what is written lies in row 3 and in row 2 behind them.
-use mathlib.Core.Path.{◌≡◌, refl, sym, ◌∙◌}
+use mathlib.Core.Path.{◌≡◌, sym, ◌∙◌}
 use mathlib.Core.Logic.{inl, inr}
 use mathlib.Core.List.{List, reverse, reverse-reverse}
 use Prim.Native.Nat.{ℕ, suc, ◌+◌, ◌*◌, ◌-◌, ◌≤◌, ◌<◌}
@@ -8,7 +8,7 @@ use native.Mathlib.Nat.{le_refl}
 use native.Mathlib.Numerals.{add-one}
 use native.Mathlib.Decide.{dec_lt, ℕ_discrete}
 use native.Mathlib.Omega.{arith}
-use lib.ListN.{length, length-reverse, get_or-eq_default}
+use lib.ListN.{length, length-reverse}
 use Rattle.words.specs.Lists.{at}
 use Rattle.oracle.specs.Arrows.{State}
 use Rattle.oracle.specs.SuffixRule.{oracle}
@@ -45,19 +45,6 @@ pub record Laying (L : List ℕ) (m : ℕ) (K : List ℕ) (x : State) (e : ℕ) 
 module _ {L : List ℕ} {m u : ℕ} (H : ChainsOf L m L u) where
   abbrev n : ℕ
   n = suc m
-
-  -- no state is laid out
-  pub lay_start : Laying L m L (m + 1) u
-  lay_start = rw (add-one m) (record {
-    size = refl;
-    state = le_refl n;
-    place = H.counted;
-    inside = H.slots;
-    kept = λ i h. refl;
-    slots = λ i h. refl;
-    starts = λ k h l. absurd (omega arith);
-    targets = λ s h l. H.unlaid s l ∙ sym (get_or-eq_default (before L m n) 0 (omega (arith, H.counted)));
-  })
 
   module _ {K : List ℕ} {x : State} {e : ℕ} (Y : Laying L m K (suc x) e) where
     room : length (before L m x) + length (own L m x) ≡ e

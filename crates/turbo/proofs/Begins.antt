@@ -7,22 +7,22 @@ use Rattle.words.specs.declared.Place.{Place as Placed}
 use Rattle.oracle.specs.Arrows.{Delta}
 use Rattle.backward.specs.Steps.{read_down}
 use Rattle.backward.proofs.Reading.{FailedAt, failed-place, whole-letters}
-use Rattle.search.specs.declared.WindowRead.{WindowRead}
-use Rattle.search.specs.declared.WindowRead.TheVariants.{Failed, Whole}
+use Rattle.search.specs.Answers.{MaybePlace}
+use Rattle.std.specs.Prelude.{Some, None}
 use Rattle.search.specs.Answers.{reading_of}
 use Rattle.search.proofs.Readings.{failed-told, whole-told}
 use Rattle.turbo.specs.Readings.{begins_at}
 
-module _ (δ : Delta) (t : Word) {c end : Place} (fits : c ≤ end) (h : ℕ) {r : WindowRead}
+module _ (δ : Delta) (t : Word) {c end : Place} (fits : c ≤ end) (h : ℕ) {r : MaybePlace}
     (says : r ≡ reading_of (read_down δ t c (end - c) 0)) where
   -- all its letters were read
-  pub begins_whole : r ≡ Whole
+  pub begins_whole : r ≡ None
       → record { place = record { 0 = c }; keep = h; letters = end - c } ≡ begins_at c h (read_down δ t c (end - c) 0)
   begins_whole e =
       let told = whole-told (read_down δ t c (end - c) 0).failed r says e in
       rw (told, whole-letters δ t c (end - c) 0 told)
 
-  module _ {f : Placed} (e : r ≡ Failed f) where
+  module _ {f : Placed} (e : r ≡ Some f) where
     -- a letter failed
     failed : FailedAt c (end - c) f.0 (read_down δ t c (end - c) 0).letters
     failed = failed-place δ t c (end - c) 0 f.0 (failed-told _ r f says e)

@@ -91,12 +91,6 @@ going_start i s f n = record {
 
 module _ {w t : Word} {e c₀ h₀ count₀ : ℕ} {F₀ F : List ℕ} {c h count : ℕ} (I : Going w t e c₀ h₀ count₀ F₀ F c h count)
     (fits : e ≤ length t) where
-  pub going_known : {row : List ℕ} → row ≡ borders w → ((h < length w) × (h ≤ length row)) × Known w row h
-  going_known rows = rw rows (
-    (I.short, omega (arith, I.short, borders-length w)),
-    record { entry = λ j l. (borders-known w).entry j (omega (arith, I.short)) },
-  )
-
   -- ── It stops ─────────────────────────────────────────────────────────────
 
   pub going_stops : {to : ℕ} → to ≡ cond (leb (length w) (2 * h)) (length t) e → to ≤ c

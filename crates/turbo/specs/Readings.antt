@@ -7,16 +7,15 @@
 --                    a reading forward from c, where h letters are kept, so many finds are listed and the list is F, stops as r says and
 --                    leaves F': whatever the place before which what is kept may not start, as `forward` does; its finds are listed behind
 --                    those before
---   Swept w T t F r F'
---                    all windows, with the arrows of the table T: r is what the Turbo steps count, and their finds fill the list F, which
---                    becomes F'
+--   Swept δ w t F r F'
+--                    all windows, with the arrows δ: r is what the Turbo steps count, and their finds fill the list F, which becomes F'
 --
 -- 02, 'Linear on hostile text'.
 use Rattle.std.specs.Prelude.{◌≡◌, List, ◌++◌, ℕ, ◌+◌, ◌-◌, ◌≤◌, length}
 use Rattle.std.proofs.Math.Option.{Option, none, some}
 use Rattle.words.specs.Words.{Word, Place}
 use Rattle.backward.specs.Steps.{Reading}
-use Rattle.table.specs.Table.{read_arrow}
+use Rattle.oracle.specs.Arrows.{Delta}
 use Rattle.search.specs.Answers.{tally_of}
 use Rattle.finds.specs.declared.Tally.{Tally}
 use Rattle.finds.specs.Finds.{filled}
@@ -39,5 +38,5 @@ pub record StopsAs (w t : Word) (e c : Place) (h count : ℕ) (F : List ℕ) (r 
       × (r.count ≡ count + length o.starts)
       × ((l G : List ℕ) → length l ≡ count → F ≡ filled l G → F' ≡ filled (l ++ o.starts) G)
 
-abbrev pub Swept : Word → List ℕ → Word → List ℕ → Tally → List ℕ → Type 0
-Swept w T t F r F' = let o = turbo_steps (read_arrow (length w) T) w t in (r ≡ tally_of o) × (F' ≡ filled o.starts F)
+abbrev pub Swept : Delta → Word → Word → List ℕ → Tally → List ℕ → Type 0
+Swept δ w t F r F' = let o = turbo_steps δ w t in (r ≡ tally_of o) × (F' ≡ filled o.starts F)

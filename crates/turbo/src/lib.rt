@@ -5,10 +5,7 @@
 
 ghost use Rattle.std.specs.Prelude.{◌≡◌, cond, ◌-◌, ◌*◌, ◌<◌, ◌≤◌, length, leb};
 ghost use Rattle.words.specs.Limits.{longest_word, longest_text};
-ghost use Rattle.border.specs.Borders.{borders};
-ghost use Rattle.table.specs.Formed.{Formed};
-ghost use Rattle.table.specs.Table.{read_arrow};
-ghost use Rattle.prepared.specs.Prepared.{Rows};
+ghost use Rattle.table.specs.Asked.{arrow_of};
 ghost use Rattle.backward.specs.Steps.{read_down};
 ghost use Rattle.turbo.specs.Readings.{begins_at, StopsAs, Swept};
 
@@ -28,38 +25,30 @@ pub struct Stop {
     pub count: usize,
 }
 
-// Reads the letters from the window's end down to c, where `keep` letters are kept.
+// Reads the letters from the window's end down to c, where `keep` letters are kept; the prepared entries are asked or not. Two calls,
+// as in the backward search, so that each way of reading has a loop to itself.
 fn read_back(
-    table: &[u16],
-    m: usize,
-    column: &[u16],
-    dense: &[u16],
-    rows: usize,
+    columns: &prepared::Columns<'_, table::Table<'_>>,
+    asked: bool,
     text: &[u8],
     c: words::Place,
     keep: usize,
     end: usize,
 ) -> Begin
-    requires c_le_end { (c.0 ≤ end) × (end ≤ length text.now) × (length text.now ≤ longest_text) }
-    requires formed { Formed table.now m × (0 < rows → Rows table.now m column.now dense.now rows) }
-    ensures { result ≡ begins_at c.0 keep (read_down (read_arrow m table.now) text.now c.0 (end - c.0) 0) }
+    requires { (c.0 ≤ end) × (end ≤ length text.now) × (length text.now ≤ longest_text) }
+    ensures { result ≡ begins_at c.0 keep (read_down (arrow_of columns.now.arrows.now) text.now c.0 (end - c.0) 0) }
 {
-    let start = c.0 as usize;
-    let search::WindowRead::Failed(f) = search::read_on(
-        table,
-        m,
-        column,
-        dense,
-        rows,
-        text,
-        c,
-        end - start,
-        0,
-    ) else {
+    let letters = end - (c.0 as usize);
+    let read = if asked {
+        search::read_on(columns, text, c, letters, 0)
+    } else {
+        search::read_window(columns.arrows, text, c, letters, words::State(0))
+    };
+    let Some(f) = read else {
         return Begin {
             place: c,
-            keep: keep,
-            letters: end - start,
+            keep,
+            letters,
         };
     };
     Begin {
@@ -80,11 +69,11 @@ fn reach(m: usize, keep: usize, end: usize, n: usize) -> usize
     end
 }
 
+// No twin of `pieces::run`: how far it goes, and how far it skips, depends on what is kept.
 // Reads forward from c, where `kept` letters are kept and so many finds are listed, to the window's end, and on while at least half the
 // word is kept.
 fn forward(
-    word: &[u8],
-    row: &[u16],
+    borders: &border::Borders<'_>,
     text: &[u8],
     finds: &mut [u32],
     c: words::Place,
@@ -92,25 +81,25 @@ fn forward(
     found: usize,
     end: usize,
 ) -> Stop
-    requires kept_in_bounds { (kept < length word.now) × (kept ≤ c.0) × (row.now ≡ borders word.now) }
+    requires kept_in_bounds { (kept < length borders.now.word.now) × (kept ≤ c.0) }
     requires found_le_c { (found ≤ c.0) × (c.0 ≤ length text.now) × (end ≤ length text.now) × (length text.now ≤ longest_text) }
-    ensures { StopsAs word.now text.now end c.0 kept found finds.old result finds.new }
+    ensures { StopsAs borders.now.word.now text.now end c.0 kept found finds.old result finds.new }
 {
-    let m = word.len();
+    let m = borders.word.len();
     let n = text.len();
-    let border = row[m - 1] as usize;
+    let border = borders.longest();
     let mut at = c.0 as usize;
     let mut keep = kept;
     let mut count = found;
     while at < reach(m, keep, end, n) {
         let b = text[at];
-        let long = border::extend(word, row, keep, words::Letter(b));
+        let long = borders.extend(keep, words::Letter(b));
         at += 1;
         if long == 0 {
             // Nothing is kept, and nothing will be before the word's first letter comes.
             keep = 0;
             if at < end {
-                at = pieces::skip(&text[..end], at, words::Letter(word[0]));
+                at = pieces::skip(&text[..end], at, words::Letter(borders.word[0]));
             }
             continue;
         }
@@ -124,83 +113,76 @@ fn forward(
     }
     Stop {
         place: words::Place(at as u32),
-        keep: keep,
-        count: count,
+        keep,
+        count,
     }
 }
 
-// Moves the window over the text, with the arrows of the table, what is prepared of it, and the row of the word's borders.
+// Moves the window over the text, with arrows and what is prepared of them, and the word's borders.
 fn windows(
-    word: &[u8],
-    row: &[u16],
-    table: &[u16],
-    column: &[u16],
-    dense: &[u16],
-    rows: usize,
+    columns: &prepared::Columns<'_, table::Table<'_>>,
+    borders: &border::Borders<'_>,
     text: &[u8],
     finds: &mut [u32],
 ) -> finds::Tally
-    requires in_bounds { (1 ≤ length word.now) × (length text.now ≤ longest_text) × (row.now ≡ borders word.now) }
-    requires formed { Formed table.now (length word.now)
-        × (0 < rows → Rows table.now (length word.now) column.now dense.now rows) }
-    ensures { Swept word.now table.now text.now finds.old result finds.new }
+    requires { length text.now ≤ longest_text }
+    ensures { Swept (arrow_of columns.now.arrows.now) borders.now.word.now text.now finds.old result finds.new }
 {
-    let m = word.len();
+    let m = borders.word.len();
     let n = text.len();
     let mut c = words::Place(0);
     let mut keep: usize = 0;
     let mut count: usize = 0;
     let mut letters: u64 = 0;
-    // For how many states the entries are asked: for all that have some, or for none.
-    let mut asked = rows;
+    // Whether the entries are asked.
+    let mut asked = true;
     'window: while (c.0 as usize) - keep + m <= n {
         let end = (c.0 as usize) - keep + m;
-        let begin = read_back(table, m, column, dense, asked, text, c, keep, end);
-        let stop = forward(word, row, text, finds, begin.place, begin.keep, count, end);
+        let begin = read_back(columns, asked, text, c, keep, end);
+        let stop = forward(borders, text, finds, begin.place, begin.keep, count, end);
         letters += begin.letters as u64 + (stop.place.0 - begin.place.0) as u64;
         c = stop.place;
         keep = stop.keep;
         count = stop.count;
-        asked = prepared::rows_next(16, begin.letters, rows);
+        // Where it was read deep, the text mostly goes on along the word itself, and a lookup tries the word's own next letter at once.
+        asked = begin.letters < 16;
     }
-    finds::Tally {
-        count: count,
-        letters: letters,
-    }
+    finds::Tally { count, letters }
 }
 
 // The same in a long text, once its arrows are prepared. Called from two places, as that of the backward search.
 fn scan_long(
-    word: &[u8],
-    row: &[u16],
-    table: &[u16],
+    table: &table::Table<'_>,
+    borders: &border::Borders<'_>,
     text: &[u8],
     finds: &mut [u32],
 ) -> finds::Tally
-    requires in_bounds { (1 ≤ length word.now) × (length text.now ≤ longest_text) × (row.now ≡ borders word.now) }
-    requires formed { Formed table.now (length word.now) }
-    ensures { Swept word.now table.now text.now finds.old result finds.new }
+    requires { length text.now ≤ longest_text }
+    ensures { Swept (arrow_of table.now) borders.now.word.now text.now finds.old result finds.new }
 {
     let mut column = [0u16; 256];
     let mut dense = [prepared::NOTHING; prepared::ENTRIES];
-    let rows = prepared::prepare_rows(table, word.len(), &mut column, &mut dense);
-    windows(word, row, table, &column, &dense, rows, text, finds)
+    let columns = prepared::prepare_columns(table, &mut column, &mut dense);
+    windows(&columns, borders, text, finds)
 }
 
 // Every place where the word stands, with the arrows of the table; at most two letters are read for each of the text's.
-pub fn scan(word: &[u8], table: &[u16], text: &[u8], finds: &mut [u32]) -> finds::Tally
-    requires in_bounds { (1 ≤ length word.now) × (length word.now ≤ longest_word) × (length text.now ≤ longest_text) }
-    requires formed { Formed table.now (length word.now) }
-    ensures { Swept word.now table.now text.now finds.old result finds.new }
+pub fn scan(table: &table::Table<'_>, word: &[u8], text: &[u8], finds: &mut [u32]) -> finds::Tally
+    requires { (1 ≤ length word.now) × (length word.now ≤ longest_word) × (length text.now ≤ longest_text) }
+    ensures { Swept (arrow_of table.now) word.now text.now finds.old result finds.new }
 {
     let m = word.len();
     let mut row = [0u16; words::WORD_LIMIT];
     border::fill(word, &mut row[..m]);
+    let borders = border::Borders {
+        word,
+        row: &row[..m],
+    };
     if prepared::repays_short(8, m, text.len()) {
-        return scan_long(word, &row[..m], table, text, finds);
+        return scan_long(table, &borders, text, finds);
     }
     if prepared::repays_long(m, text.len()) {
-        return scan_long(word, &row[..m], table, text, finds);
+        return scan_long(table, &borders, text, finds);
     }
-    windows(word, &row[..m], table, table, table, 0, text, finds)
+    windows(&prepared::Columns::none(table), &borders, text, finds)
 }

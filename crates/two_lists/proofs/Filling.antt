@@ -2,7 +2,7 @@
 -- taken of l is then all of it; where one of them is full, what is taken stays as it was.
 use mathlib.Core.Path.{◌≡◌, refl, sym, ap, ◌∙◌}
 use mathlib.Core.List.{List, [], ◌∷◌, ◌++◌}
-use Prim.Native.Nat.{ℕ, ◌≤◌, ◌<◌}
+use Prim.Native.Nat.{ℕ, ◌≤◌, ◌<◌, min}
 use native.Mathlib.Omega.{arith}
 use lib.ListN.{length, take, set, length-append}
 use lib.Seq.{take-nil, take_all, take-append-le}
@@ -57,14 +57,9 @@ module _ {count : ℕ} {l j S G A B : List ℕ} (number : length l ≡ count) (n
   }
 
   -- one of them is full
-  past : (a b : ℕ) → fit_both S G ≤ count → Both (l ++ (a ∷ [])) (j ++ (b ∷ [])) S G A B
-  past a b h = record {
-    one = to_past l S a both.one (omega arith);
-    other = to_past j G b both.other (omega arith);
-  }
-
-  pub one-past : (a b : ℕ) → length A ≤ count → Both (l ++ (a ∷ [])) (j ++ (b ∷ [])) S G A B
-  one-past a b h = past a b (omega (arith, one_size))
-
-  pub other_past : (a b : ℕ) → length B ≤ count → Both (l ++ (a ∷ [])) (j ++ (b ∷ [])) S G A B
-  other_past a b h = past a b (omega (arith, other_size))
+  pub past : (a b : ℕ) → min (length A) (length B) ≤ count → Both (l ++ (a ∷ [])) (j ++ (b ∷ [])) S G A B
+  past a b h =
+      let full : fit_both S G ≤ count = omega (arith, one_size, other_size) in record {
+        one = to_past l S a both.one (omega arith);
+        other = to_past j G b both.other (omega arith);
+      }

@@ -1,10 +1,11 @@
 -- LOOPS OVER A LIST, entry by entry from the first. `Copied D s L i` is what holds before entry i is written where the entries of s are
--- copied over those of D, L being what stands there by then; a loop's proof needs its start, one step and its end. Clearing copies zeros.
-use mathlib.Core.Path.{◌≡◌, refl, sym, ◌∙◌}
+-- copied over those of D, L being what stands there by then; a loop's proof needs its start, one step and its end. And what zeros are
+-- looked up as.
+use mathlib.Core.Path.{◌≡◌, refl, ◌∙◌}
 use mathlib.Core.List.{List, [], ◌∷◌, ◌++◌}
 use Prim.Native.Nat.{ℕ, zero, suc, ◌+◌, ◌≤◌, ◌<◌}
 use native.Mathlib.Omega.{arith}
-use lib.ListN.{length, set, replicate, length-set, length-replicate}
+use lib.ListN.{length, set, replicate, length-set}
 use lib.Seq.{get_or-set_same, get_or-set_other, ext_get_or}
 use borrow.Author.Count.{below_more}
 use Rattle.words.specs.Lists.{at}
@@ -33,7 +34,7 @@ copy_step {D} {s} {L} {i} {v} C h e = record { size = simp length-set C.size; pa
 pub copy_end : {D s L : List ℕ} {i : ℕ} → Copied D s L i → length D ≡ length s → length D ≤ i → L ≡ s
 copy_end {D} {s} {L} C e h = ext_get_or 0 L s (C.size ∙ e) (λ k l. C.passed k (omega (arith, C.size)))
 
--- ── Clearing ───────────────────────────────────────────────────────────────
+-- ── Zeros ──────────────────────────────────────────────────────────────────
 
 -- a list of zeros has no other entry
 pub zeros-at : (n i : ℕ) → at (replicate n 0) i ≡ 0
@@ -46,15 +47,3 @@ pub padded : (l : List ℕ) (n i : ℕ) → at (l ++ replicate n 0) i ≡ at l i
 padded [] n i = zeros-at n i
 padded (a ∷ l) n zero = refl
 padded (a ∷ l) n (suc i) = padded l n i
-
-abbrev pub Cleared : List ℕ → List ℕ → ℕ → Type 0
-Cleared D L i = Copied D (replicate (length D) 0) L i
-
-pub clear-start : (D : List ℕ) → Cleared D D 0
-clear-start D = copy_start D (replicate (length D) 0)
-
-pub clear_step : {D L : List ℕ} {i : ℕ} → Cleared D L i → i < length L → Cleared D (set L i 0) (i + 1)
-clear_step {D} {i = i} C h = copy_step C (omega (arith, C.size)) (sym (zeros-at (length D) i))
-
-pub clear-end : {D L : List ℕ} {i : ℕ} → Cleared D L i → length L ≤ i → L ≡ replicate (length D) 0
-clear-end {D} C h = copy_end C (sym (length-replicate (length D) 0)) (omega (arith, C.size))

@@ -4,6 +4,10 @@
 // set, and the least word that is saved.
 #![tactic(auto)]
 
+ghost use Rattle.std.specs.Prelude.{◌≡◌, ℕ};
+ghost use Rattle.std.proofs.Math.Option.{Option};
+ghost use Rattle.words.specs.Answers.{arrow_to};
+
 pub const WORD_LIMIT: usize = 4096;
 
 pub const TEXT_LIMIT: usize = 16777216;
@@ -16,25 +20,21 @@ pub const MARKS_LIMIT: usize = 16;
 
 pub const LEAST_SAVED: usize = 2;
 
-#[derive(Clone, Copy)]
+#[derive(Clone, Copy, Debug, PartialEq, Eq)]
 pub struct Letter(pub u8);
 
-#[derive(Clone, Copy)]
+// A text stays a slice, and each clause asks that its places fit: a type for that one fact would stand in every clause that names a text.
+#[derive(Clone, Copy, Debug, PartialEq, Eq)]
 pub struct Place(pub u32);
 
-#[derive(Clone, Copy)]
+// Where an arrow leads and what a supply is, is a state or none: `Option<State>`.
+#[derive(Clone, Copy, Debug, PartialEq, Eq)]
 pub struct State(pub u16);
 
-// Where the arrow from a state on a letter leads.
-#[derive(Clone, Copy)]
-pub enum Leads {
-    To(State),
-    Missing,
-}
+// What is asked where its arrows lead.
+pub trait Arrows {
+    ghost arrow: { Self → ℕ → ℕ → Option ℕ };
 
-// What the supply of a state is. State 0 has none.
-#[derive(Clone, Copy)]
-pub enum Supply {
-    Of(State),
-    Without,
+    fn lookup(&self, x: State, c: Letter) -> Option<State>
+        ensures { result ≡ arrow_to (arrow self.now x.0 c.0) };
 }

@@ -1,5 +1,4 @@
--- `border::fill` meets its contract: `Filling` holds before each letter. The measure is how many letters are left.
-use mathlib.Core.Path.{sym, ◌∙◌}
+-- `border::fill` meets its contract: `Filling` holds before each letter.
 use native.Mathlib.Omega.{arith}
 use Rattle.border.proofs.Filling.{filling_start, last_shorter, last-known, next_shorter, filling_next, filling_end}
 use Rattle.border.proofs.fill.Goals as goal
@@ -22,17 +21,9 @@ overflow_cast-row c =
     let next = next_shorter c.loop-k.invariant c.loop-k-test.true c.extend-border.ensures in
     omega (arith, c.requires.1, c.loop-k-test.true)
 
-pub bounds-row-k : goal.bounds-row-k
-bounds-row-k c =
-    omega (arith, c.loop-k.invariant.size, c.loop-k-test.true)
-
 pub loop-k-preserved : goal.loop-k-preserved
 loop-k-preserved c =
     filling_next c.loop-k.invariant c.loop-k-test.true c.extend-border.ensures
-
-pub shape_of-row : goal.shape_of-row
-shape_of-row c =
-    c.loop-k.invariant.size ∙ sym c.requires.2
 
 pub returns : goal.returns
 returns c = filling_end c.loop-k.invariant c.loop-k-test.false

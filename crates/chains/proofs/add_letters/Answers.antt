@@ -3,7 +3,7 @@
 use mathlib.Core.Path.{sym, ◌∙◌}
 use native.Mathlib.Omega.{arith}
 use Rattle.words.specs.Lists.{at}
-use Rattle.chains.proofs.Firsts.{firsts-start, code-zero, code-new, code_old}
+use Rattle.chains.proofs.Firsts.{firsts-start, code-zero, code-next}
 use Rattle.chains.proofs.Grown.{grown_start, code-begun, code-letter, code-end}
 use Rattle.chains.proofs.add_letters.Goals as goal
 
@@ -25,25 +25,15 @@ add_letter-used-requires c =
     let zero = code-zero K G more c.loop-t.invariant.1 in
     record {
       n_bound = omega (arith, c.requires.m_bound);
-      begun = (code-begun K G more, rw c.zero_arrow.ensures zero);
+      begun = (code-begun K G more, zero);
     }
-
-pub bounds-firsts-c-then-first-eq0 : goal.bounds-firsts-c-then-first-eq0
-bounds-firsts-c-then-first-eq0 c = omega (arith, c.loop-t.invariant.1.size)
-
-pub loop-t-preserved-then-first-eq0 : goal.loop-t-preserved-then-first-eq0
-loop-t-preserved-then-first-eq0 c =
-    let K = c.requires.blank in
-    let G = c.loop-t.invariant.0 in
-    let more = c.loop-t-test.true in
-    (code-letter K G more c.add_letter-used.ensures, code-new K G more c.loop-t.invariant.1 c.if-first-eq0.true)
 
 pub loop-t-preserved : goal.loop-t-preserved
 loop-t-preserved c =
     let K = c.requires.blank in
     let G = c.loop-t.invariant.0 in
     let more = c.loop-t-test.true in
-    (code-letter K G more c.add_letter-used.ensures, code_old K G more c.loop-t.invariant.1 c.if-first-eq0.false)
+    (code-letter K G more c.add_letter-used.ensures, code-next K G more c.loop-t.invariant.1 c.or.ensures)
 
 pub shape_of-table : goal.shape_of-table
 shape_of-table c =

@@ -1,4 +1,3 @@
-use Prim.Native.Nat.{◌-◌}
 use Rattle.words.specs.Lists.{at}
 use Rattle.chains.specs.Letters.{Firsts}
 use Rattle.chains.proofs.Grown.{Grown}
@@ -6,6 +5,3 @@ use Rattle.chains.proofs.add_letters.Given as goal
 
 abbrev pub invariant-loop-t : goal.invariant-loop-t
 invariant-loop-t l = Grown l.initial.table l.m l.table l.t l.used × Firsts (at l.initial.table) l.t l.firsts
-
-abbrev pub decreases-loop-t : goal.decreases-loop-t
-decreases-loop-t l = l.m - l.t

@@ -1,27 +1,36 @@
--- `compact_search::lay_columns` meets its contract: before each letter `Laying` holds. The measure is how many letters are left.
+-- `compact_search::lay_columns` meets its contract: before each letter `Laying` holds, and so many columns as letters had arrows stand
+-- before the next.
 use mathlib.Core.Path.{sym, ◌∙◌}
 use native.Mathlib.Omega.{arith}
+use Rattle.compact.specs.Compact.{in_set}
 use Rattle.compact.proofs.ReadBack.{reads_none}
-use Rattle.compact_search.proofs.Laying.{laying_start, laying_end, laying_none, laying_column}
+use Rattle.compact_search.proofs.Laying.{room_there, counted_same, counted_column, laying_none, laying_column}
+use Rattle.compact_search.proofs.lay_columns.Goals.{then-has_arrow, else-has_arrow}
 use Rattle.compact_search.proofs.lay_columns.Goals as goal
 
-pub loop-i-init : goal.loop-i-init
-loop-i-init c =
-    laying_start c.requires.compact_formed.1 c.requires.zeros.0 c.requires.zeros.1
-
-pub returns-then-next-rows : goal.returns-then-next-rows
-returns-then-next-rows c = λ h. absurd (omega (arith, h))
-
-pub loop-i-preserved-then-has_arrow : goal.loop-i-preserved-then-has_arrow
-loop-i-preserved-then-has_arrow c =
-    laying_column c.loop-i.invariant c.loop-i-test.true (omega (arith, c.if-next-rows.false, c.loop-i.invariant.most))
-    c.fill_column.auto.column c.fill_column.ensures
+pub slice_bounds-fill_column-end : goal.slice_bounds-fill_column-end
+slice_bounds-fill_column-end c =
+    let there = sym c.has_arrow.ensures ∙ c.if-has_arrow.true in
+    let room = room_there (in_set c.args.arrows.now.sets.now 0) c.args.rows c.loop-i.invariant.1 there c.requires.room c.loop-i-test.true in
+    omega (arith, room, c.loop-i.invariant.0.entries)
 
 pub loop-i-preserved : goal.loop-i-preserved
 loop-i-preserved c =
-    let absent = sym c.has_arrow.ensures ∙ c.if-has_arrow.false in
-    let none-from-first = reads_none c.args.m _ _ 0 _ (omega arith) c.loop-i-test.true absent in
-    laying_none c.loop-i.invariant (λ x. c.requires.compact_formed.0.firsts x _ none-from-first)
-
-pub returns : goal.returns
-returns c = λ _. laying_end c.loop-i.invariant c.loop-i-test.false
+    let f = in_set c.args.arrows.now.sets.now 0 in
+    let Y = c.loop-i.invariant.0 in
+    elim c.if-has_arrow.branch [
+      | then-has_arrow w ↦
+          let there = sym c.has_arrow.ensures ∙ w.if-has_arrow.true in
+          let room = room_there f c.args.rows c.loop-i.invariant.1 there c.requires.room c.loop-i-test.true in
+          rw (w.column-is, w.dense-is, w.next-is) (
+            laying_column Y c.loop-i-test.true room w.fill_column.auto.column w.fill_column.ensures,
+            counted_column f c.args.rows c.loop-i.invariant.1 there,
+          )
+      | else-has_arrow w ↦
+          let absent = sym c.has_arrow.ensures ∙ w.if-has_arrow.false in
+          let none-from-first = reads_none c.args.arrows.now.m _ _ 0 _ (omega arith) c.loop-i-test.true absent in
+          rw (w.column-is, w.dense-is, w.next-is) (
+            laying_none Y (λ x. c.args.arrows.now.formed.firsts x _ none-from-first),
+            counted_same f c.args.rows c.loop-i.invariant.1 absent,
+          )
+    ]

@@ -1,10 +1,9 @@
 -- `crc::half_byte` meets its contract, by the table's rule.
-use native.Mathlib.Omega.{arith}
-use Rattle.crc.proofs.Table.{four, table-small}
+use mathlib.Core.Path.{ap, ◌∙◌}
+use Prim.Native.Nat.{◌/◌}
+use lib.Bits.{bit_xor}
+use Rattle.crc.proofs.Table.{four}
 use Rattle.crc.proofs.half_byte.Goals as goal
 
-pub overflow_cast-result : goal.overflow_cast-result
-overflow_cast-result c = omega (arith, table-small c.args.r)
-
 pub returns : goal.returns
-returns c = four _
+returns c = ap (bit_xor (c.args.r / 16)) c.from.ensures ∙ four _

@@ -1,36 +1,35 @@
--- `crc_wide::by_sixes` meets its contract: the register, settled and fed with what is ahead, gives the check of all. What is ahead is a
--- multiple of six. The measure is how many bytes are left.
+-- `crc_wide::by_sixes` meets its contract: the register, settled and fed with what is ahead, gives the check of all.
 use mathlib.Core.Path.{refl, sym, ap, ◌∙◌}
-use Prim.Native.Nat.{◌+◌}
-use lib.ListN.{drop}
+use mathlib.Core.List.{List, []}
+use Prim.Native.Nat.{ℕ, ◌+◌}
 use native.Mathlib.Omega.{arith}
-use borrow.Author.Rules.{rules}
+use lib.ListN.{drop, drop_of_length-le}
+use Rattle.std.specs.List.{concat}
+use Rattle.std.proofs.lemmas.List.{at_drop_more}
 use Rattle.crc.specs.Check.{shifted, shifts, fed, bits_of, check}
-use Rattle.crc.proofs.Fed.{none_ahead}
-use Rattle.crc_wide.specs.Wide.{taken_six}
 use Rattle.crc_wide.proofs.Ahead.{six_taken}
 use Rattle.crc_wide.proofs.by_sixes.Goals as goal
 
-pub loop-i-init : goal.loop-i-init
+pub loop-six-init : goal.loop-six-init
 unfolding check shifts shifted
-loop-i-init c = (search rules, omega arith, refl)
+loop-six-init c = refl
 
-pub six_at-six-requires : goal.six_at-six-requires
-six_at-six-requires c = omega arith
-
-pub loop-i-preserved : goal.loop-i-preserved
-loop-i-preserved c =
-    let known = c.type_inv.bytes in
-    let bytes = c.args.bytes.now in
-    let acc = c.loop-i.acc in
-    let i = c.loop-i.i in (
-      omega arith,
-      omega arith,
-      ap (λ x. fed (shifts 64 x) (bits_of (drop (i + 6) bytes))) (c.take_six-acc.ensures ∙ ap (taken_six acc) c.six_at-six.ensures.0)
-          ∙ six_taken bytes (λ j. (known j).fits) acc i (omega arith)
-          ∙ c.loop-i.invariant.2,
-    )
+pub loop-six-preserved : goal.loop-six-preserved
+loop-six-preserved c =
+    let sixes = c.args.sixes.now in
+    let acc = c.loop-six.acc in
+    let i = c.loop-six.six-index in
+    let rest = concat (drop (i + 1) sixes) in
+    let ahead : List (List ℕ) → ℕ = λ l. fed (shifts 64 acc) (bits_of (concat l)) in
+    ap (λ x. fed (shifts 64 x) (bits_of rest)) c.take_six-acc.ensures
+    ∙ six_taken acc _ _ rest c.number_of.ensures.0 c.number_of.ensures.1
+    ∙ sym (at_drop_more ahead sixes i [] (omega arith))
+    ∙ c.loop-six.invariant
 
 pub returns : goal.returns
+unfolding fed bits_of
 returns c =
-    let at-loop = c.loop-i in sym (none_ahead (shifts 64 at-loop.acc) _ at-loop.i (omega arith)) ∙ at-loop.invariant.2
+    let at-loop = c.loop-six in
+    let sixes = c.args.sixes.now in
+    ap (λ l. fed (shifts 64 at-loop.acc) (bits_of (concat l))) (sym (drop_of_length-le sixes {i = at-loop.six-index} (omega arith)))
+    ∙ at-loop.invariant

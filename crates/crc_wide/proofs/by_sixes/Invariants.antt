@@ -1,12 +1,8 @@
 use mathlib.Core.Path.{◌≡◌}
-use Prim.Native.Nat.{◌-◌, ◌%◌, ◌≤◌}
-use lib.ListN.{length, drop}
+use lib.ListN.{drop}
+use Rattle.std.specs.List.{concat}
 use Rattle.crc.specs.Check.{shifts, fed, bits_of, check}
 use Rattle.crc_wide.proofs.by_sixes.Given as goal
 
-abbrev pub invariant-loop-i : goal.invariant-loop-i
-invariant-loop-i l =
-    (l.i ≤ length l.bytes) × ((length l.bytes - l.i) % 6 ≡ 0) × (fed (shifts 64 l.acc) (bits_of (drop l.i l.bytes)) ≡ check l.bytes)
-
-abbrev pub decreases-loop-i : goal.decreases-loop-i
-decreases-loop-i l = length l.bytes - l.i
+abbrev pub invariant-loop-six : goal.invariant-loop-six
+invariant-loop-six l = fed (shifts 64 l.acc) (bits_of (concat (drop l.six-index l.sixes))) ≡ check (concat l.sixes)

@@ -1,7 +1,9 @@
 -- `failure_entries::failure_search` meets its contract: each way out is a case of `FailureSearchCase`, and for each `given` says what is to
 -- be answered. The scratch entries lie within those of the table, which are all written afterwards.
-use mathlib.Core.Path.{sym, ◌∙◌}
+use mathlib.Core.Path.{ap, sym, ◌∙◌}
+use Rattle.marks.proofs.Empty.{no_letter, some_letter}
 use native.Mathlib.Omega.{arith}
+use lib.ListN.{length}
 use lib.Seq.{length-take-le}
 use borrow.Author.Rules.{rules}
 use Rattle.words.proofs.Limits.{word_limit, text_limit}
@@ -9,67 +11,67 @@ use Rattle.failure_entries.specs.Cases.{FailureSearchCase}
 use Rattle.failure_entries.proofs.SearchSays.{given, lent-formed, scan_counts, scratched_enough, scratched_kept}
 use Rattle.failure_entries.proofs.failure_search.Goals as goal
 
-pub returns-then-m-lt1 : goal.returns-then-m-lt1
-returns-then-m-lt1 c = sym (given _ _ _ _ (FailureSearchCase.on_empty_word c.if-m-lt1.true))
+pub returns-then-is_empty : goal.returns-then-is_empty
+returns-then-is_empty c = sym (given _ _ _ _ (FailureSearchCase.on_empty_word (no_letter c.is_empty.ensures c.if-is_empty.true)))
 
 pub returns-then-m-gt-WORD_LIMIT : goal.returns-then-m-gt-WORD_LIMIT
 returns-then-m-gt-WORD_LIMIT c =
-    sym (given _ _ _ _ (FailureSearchCase.on_long_word c.if-m-lt1.false (omega (arith, word_limit, c.if-m-gt-WORD_LIMIT.true))))
+    let least = some_letter c.is_empty.ensures c.if-is_empty.false in
+    sym (given _ _ _ _ (FailureSearchCase.on_long_word least (omega (arith, word_limit, c.if-m-gt-WORD_LIMIT.true))))
 
 pub returns-then-text-gt-TEXT_LIMIT : goal.returns-then-text-gt-TEXT_LIMIT
 returns-then-text-gt-TEXT_LIMIT c =
+    let least = some_letter c.is_empty.ensures c.if-is_empty.false in
     let most = c.if-m-gt-WORD_LIMIT.false in
     sym (given _ _ _ _
-    (FailureSearchCase.on_long_text c.if-m-lt1.false (omega (arith, word_limit, most))
+    (FailureSearchCase.on_long_text least (omega (arith, word_limit, most))
     (omega (arith, text_limit, c.if-text-gt-TEXT_LIMIT.true))))
 
 pub returns-then-tables-need : goal.returns-then-tables-need
 returns-then-tables-need c =
+    let least = some_letter c.is_empty.ensures c.if-is_empty.false in
     let most = c.if-m-gt-WORD_LIMIT.false in
     let short = c.if-text-gt-TEXT_LIMIT.false in
     sym (given _ _ _ _
-    (FailureSearchCase.on_short_room c.if-m-lt1.false (omega (arith, word_limit, most))
+    (FailureSearchCase.on_short_room least (omega (arith, word_limit, most))
     (omega (arith, text_limit, short)) c.if-tables-need.true))
 
-pub slice_bounds-step_after_find-end-2 : goal.slice_bounds-step_after_find-end-2
-slice_bounds-step_after_find-end-2 c = sym (length-take-le _ _ (omega (arith, c.if-tables-need.false)))
+pub slice_bounds-new-end-2 : goal.slice_bounds-new-end-2
+slice_bounds-new-end-2 c = sym (length-take-le _ _ (omega (arith, c.if-tables-need.false)))
 
-pub step_after_find-step-requires : goal.step_after_find-step-requires
-step_after_find-step-requires c =
-    (c.if-m-lt1.false, omega (arith, c.if-m-gt-WORD_LIMIT.false), length-take-le _ _ (omega (arith, c.if-tables-need.false)))
+pub new-sought-requires : goal.new-sought-requires
+new-sought-requires c =
+    let least = some_letter c.is_empty.ensures c.if-is_empty.false in
+    (least, omega (arith, c.if-m-gt-WORD_LIMIT.false), length-take-le _ _ (omega (arith, c.if-tables-need.false)))
 
 pub slice_bounds-fill_mirror-end-2 : goal.slice_bounds-fill_mirror-end-2
 slice_bounds-fill_mirror-end-2 c =
-    sym (length-take-le _ _ (scratched_enough _ _ _ c.step_after_find-step.ensures.1 c.if-tables-need.false))
+    sym (length-take-le _ _ (scratched_enough _ _ _ c.new-sought.ensures.row c.if-tables-need.false))
 
 pub fill_mirror-requires : goal.fill_mirror-requires
 fill_mirror-requires c =
-    let enough = scratched_enough _ _ _ c.step_after_find-step.ensures.1 c.if-tables-need.false in
-    (c.if-m-lt1.false, omega (arith, c.if-m-gt-WORD_LIMIT.false), length-take-le _ _ enough)
+    let least = some_letter c.is_empty.ensures c.if-is_empty.false in
+    let enough = scratched_enough _ _ _ c.new-sought.ensures.row c.if-tables-need.false in
+    (least, omega (arith, c.if-m-gt-WORD_LIMIT.false), length-take-le _ _ enough)
 
-pub slice_bounds-scan-end-2 : goal.slice_bounds-scan-end-2
-slice_bounds-scan-end-2 c = sym (length-take-le _ _ (search rules))
+pub invariant_of-table : goal.invariant_of-table
+invariant_of-table c =
+    let least = some_letter c.is_empty.ensures c.if-is_empty.false in
+    let word = c.args.word.now in
+    let tables = c.args.tables.now in
+    let formed = lent-formed word c.args.text.now tables c.args.finds.now _ c.fill_mirror.ensures least in
+    record { formed = formed (omega (arith, c.if-m-gt-WORD_LIMIT.false)) }
 
 pub scan-requires : goal.scan-requires
 scan-requires c =
-    let least = c.if-m-lt1.false in
-    let word = c.args.word.now in
-    let text = c.args.text.now in
-    let tables = c.args.tables.now in
-    let filled = c.fill_mirror.ensures in
-    let formed = lent-formed word text tables c.args.finds.now _ filled least (omega (arith, c.if-m-gt-WORD_LIMIT.false)) in
-    record {
-      in_bounds = (least, omega (arith, text_limit, c.if-text-gt-TEXT_LIMIT.false), c.step_after_find-step.ensures.0);
-      failure_formed = formed;
-    }
+    (ap length (sym c.new-sought.ensures.word), omega (arith, text_limit, c.if-text-gt-TEXT_LIMIT.false))
 
 pub returns : goal.returns
 returns c =
-    let least = c.if-m-lt1.false in
+    let least = some_letter c.is_empty.ensures c.if-is_empty.false in
     let most = c.if-m-gt-WORD_LIMIT.false in
     let short = c.if-text-gt-TEXT_LIMIT.false in
-    let scanned = c.scan.ensures in
-    scan_counts _ _ _ _ _ c.fill_mirror.ensures least scanned.0 scanned.1
-    (scratched_kept _ _ _ c.step_after_find-step.ensures.1 c.if-tables-need.false)
+    scan_counts _ _ _ _ _ c.fill_mirror.ensures least c.new-sought.ensures.word c.scan.ensures.tally c.scan.ensures.finds
+    (scratched_kept _ _ _ c.new-sought.ensures.row c.if-tables-need.false)
     ∙ sym (given _ _ _ _
     (FailureSearchCase.accepted least (omega (arith, word_limit, most)) (omega (arith, text_limit, short)) c.if-tables-need.false))

@@ -1,10 +1,6 @@
-use Prim.Native.Nat.{◌-◌, ◌≤◌}
-use lib.ListN.{length}
-use Rattle.failure_table.proofs.Sharing.{Counted}
+use Rattle.std.proofs.Common.{◌≡◌, ◌<◌, ℕ, ◌↔◌, IsTrue}
+use Rattle.words.specs.Lists.{at}
 use Rattle.failure_table.proofs.same_row.Given as goal
 
 abbrev pub invariant-loop-i : goal.invariant-loop-i
-invariant-loop-i l = Counted l.a l.b l.equal l.i × (l.i ≤ length l.a)
-
-abbrev pub decreases-loop-i : goal.decreases-loop-i
-decreases-loop-i l = length l.a - l.i
+invariant-loop-i l = IsTrue l.same ↔ ((k : ℕ) → k < l.i → at l.a k ≡ at l.b k)

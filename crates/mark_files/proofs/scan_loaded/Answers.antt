@@ -15,16 +15,12 @@ module _ {L : List ℕ} {m : ℕ} (P : Formed L m × Spare L m) {r : List ℕ} (
   still_formed : Formed (with_row m L r) m
   still_formed = rw kept P.0
 
-pub scan-requires : goal.scan-requires
-scan-requires c =
-    let step = c.step_after_find-step.ensures in
-    record {
-      in_bounds = (c.requires.in_bounds.0, c.requires.in_bounds.1, step.0);
-      formed = still_formed c.requires.formed step.1;
-    }
+pub invariant_of-table : goal.invariant_of-table
+invariant_of-table c = record { formed = still_formed c.requires.formed c.new-sought.ensures.row }
 
 pub returns : goal.returns
 returns c =
-    let as_before = kept c.requires.formed c.step_after_find-step.ensures.1 in
-    let scanned = rw as_before at c.scan.ensures in
-    (scanned.0, scanned.1, as_before)
+    let as_before = kept c.requires.formed c.new-sought.ensures.row in
+    let tally = rw (as_before, c.new-sought.ensures.word) at c.scan.ensures.tally in
+    let finds = rw (as_before, c.new-sought.ensures.word) at c.scan.ensures.finds in
+    (tally, finds, as_before)

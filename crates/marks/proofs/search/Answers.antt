@@ -6,27 +6,31 @@ use lib.Seq.{length-take-le}
 use Rattle.words.proofs.Limits.{word_limit, text_limit}
 use Rattle.marks.proofs.SearchSays.{says-empty, says-long, says-long_text, says-short, says-done}
 use Rattle.marks.proofs.SearchSays.{lent-formed, scan_counts}
+use Rattle.marks.proofs.Empty.{no_letter, some_letter}
 use native.Mathlib.Omega.{arith}
 use borrow.Author.Rules.{rules}
 use Rattle.marks.proofs.search.Goals as goal
 
-pub returns-then-m-lt1 : goal.returns-then-m-lt1
-returns-then-m-lt1 c = sym (says-empty _ _ _ _ c.if-m-lt1.true)
+pub returns-then-is_empty : goal.returns-then-is_empty
+returns-then-is_empty c = sym (says-empty _ _ _ _ (no_letter c.is_empty.ensures c.if-is_empty.true))
 
 pub returns-then-m-gt-WORD_LIMIT : goal.returns-then-m-gt-WORD_LIMIT
-returns-then-m-gt-WORD_LIMIT c = sym (says-long _ _ _ _ c.if-m-lt1.false (omega (arith, word_limit, c.if-m-gt-WORD_LIMIT.true)))
+returns-then-m-gt-WORD_LIMIT c =
+    let least = some_letter c.is_empty.ensures c.if-is_empty.false in
+    sym (says-long _ _ _ _ least (omega (arith, word_limit, c.if-m-gt-WORD_LIMIT.true)))
 
-pub returns-then-text-gt-TEXT_LIMIT : goal.returns-then-text-gt-TEXT_LIMIT
-returns-then-text-gt-TEXT_LIMIT c =
+pub returns-then-longest-text : goal.returns-then-longest-text
+returns-then-longest-text c =
+    let least = some_letter c.is_empty.ensures c.if-is_empty.false in
     let most = c.if-m-gt-WORD_LIMIT.false in
-    sym (says-long_text _ _ _ _ c.if-m-lt1.false (omega (arith, word_limit, most))
-    (omega (arith, text_limit, c.if-text-gt-TEXT_LIMIT.true)))
+    sym (says-long_text _ _ _ _ least (omega (arith, word_limit, most))
+    (omega (arith, text_limit, c.if-longest-text.true)))
 
 pub returns-then-tables-need : goal.returns-then-tables-need
 returns-then-tables-need c =
-    let least = c.if-m-lt1.false in
+    let least = some_letter c.is_empty.ensures c.if-is_empty.false in
     let most = c.if-m-gt-WORD_LIMIT.false in
-    let short = c.if-text-gt-TEXT_LIMIT.false in
+    let short = c.if-longest-text.false in
     sym (says-short _ _ _ _ least (omega (arith, word_limit, most)) (omega (arith, text_limit, short)) c.if-tables-need.true)
 
 pub slice_bounds-fill_mirror-end-2 : goal.slice_bounds-fill_mirror-end-2
@@ -36,24 +40,19 @@ pub fill_mirror-requires : goal.fill_mirror-requires
 fill_mirror-requires c =
     (omega (arith, c.if-m-gt-WORD_LIMIT.false), length-take-le _ _ c.if-tables-need.false)
 
-pub slice_bounds-scan-end-2 : goal.slice_bounds-scan-end-2
-slice_bounds-scan-end-2 c = sym (length-take-le _ _ (search rules))
+pub invariant_of-table : goal.invariant_of-table
+invariant_of-table c =
+    record {
+      formed = lent-formed c.args.word.now _ c.fill_mirror.ensures c.new-sought.ensures.row (omega (arith, c.if-m-gt-WORD_LIMIT.false));
+    }
 
 pub scan-requires : goal.scan-requires
-scan-requires c =
-    let word = c.args.word.now in
-    let few = c.if-m-gt-WORD_LIMIT.false in
-    let step = c.step_after_find-step.ensures in
-    record {
-      in_bounds = (c.if-m-lt1.false, omega (arith, c.if-text-gt-TEXT_LIMIT.false), step.0);
-      formed = lent-formed word _ c.fill_mirror.ensures step.1 (omega (arith, few));
-    }
+scan-requires c = omega (arith, c.if-longest-text.false)
 
 pub returns : goal.returns
 returns c =
-    let scanned = c.scan.ensures in
-    let least = c.if-m-lt1.false in
+    let least = some_letter c.is_empty.ensures c.if-is_empty.false in
     let most = c.if-m-gt-WORD_LIMIT.false in
-    let short = c.if-text-gt-TEXT_LIMIT.false in
-    scan_counts _ _ c.fill_mirror.ensures c.step_after_find-step.ensures.1 _ _ scanned.0 scanned.1
+    let short = c.if-longest-text.false in
+    scan_counts _ _ c.fill_mirror.ensures c.new-sought.ensures.row _ _ c.new-sought.ensures.word c.scan.ensures.tally c.scan.ensures.finds
     ∙ sym (says-done _ _ _ _ least (omega (arith, word_limit, most)) (omega (arith, text_limit, short)) c.if-tables-need.false)

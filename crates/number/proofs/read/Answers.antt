@@ -10,7 +10,7 @@ loop-at-init c = read-start _ _
 
 pub returns-then-refuses : goal.returns-then-refuses
 returns-then-refuses c =
-    read-refused c.loop-at.invariant c.loop-at-test.true (sym c.refuses.ensures ∙ c.if-refuses.true)
+    rw c.at.ensures (read-refused c.loop-at.invariant c.loop-at-test.true (sym c.refuses.ensures ∙ c.if-refuses.true))
 
 pub overflow_mul-value : goal.overflow_mul-value
 overflow_mul-value c =
@@ -38,4 +38,4 @@ loop-at-preserved c =
     (read_next c.loop-at.invariant c.loop-at-test.true passed c.if-b-lt128.false).1
 
 pub returns : goal.returns
-returns c = read-end c.loop-at.invariant c.loop-at-test.false
+returns c = rw c.at-2.ensures (read-end c.loop-at.invariant c.loop-at-test.false)

@@ -1,10 +1,6 @@
-use Prim.Native.Nat.{◌-◌}
-use lib.ListN.{length}
-use Rattle.pieces_shown.proofs.Handed.{Handed}
+use Rattle.std.specs.Slice.Iter.{chunks_rest, chunks_size}
+use Rattle.pieces_shown.proofs.Handed.{HandedOn}
 use Rattle.pieces_shown.proofs.in_pieces.Given as goal
 
-abbrev pub invariant-loop-at : goal.invariant-loop-at
-invariant-loop-at g l = Handed l.word l.text l.s l.at l.count
-
-abbrev pub decreases-loop-at : goal.decreases-loop-at
-decreases-loop-at g l = length l.text - l.at
+abbrev pub invariant-loop-piece : goal.invariant-loop-piece
+invariant-loop-piece g l = HandedOn l.word l.text l.s (chunks_rest l.piece-iterator) (chunks_size l.piece-iterator) l.end l.count

@@ -5,12 +5,12 @@ use native.Mathlib.Omega.{arith}
 use Rattle.rides.proofs.Headers.{allowed-size, too_early, other_size, behind_the_end, listed-cut, listed-whole, data_size-fits}
 use Rattle.rides.proofs.read_header.Goals as goal
 
-pub returns-then-q-lt8 : goal.returns-then-q-lt8
-returns-then-q-lt8 c = sym (too_early _ _ (omega (arith, c.if-q-lt8.true)))
+pub returns-then-q-earliest : goal.returns-then-q-earliest
+returns-then-q-earliest c = sym (too_early _ _ (omega (arith, c.if-q-earliest.true)))
 
 pub returns-then-not-is_header_size : goal.returns-then-not-is_header_size
 returns-then-not-is_header_size c =
-    let late = c.if-q-lt8.false in
+    let late = c.if-q-earliest.false in
     sym (other_size _ _ late (sym c.is_header_size.ensures ∙ c.if-not-is_header_size.true))
 
 pub overflow_cast-behind : goal.overflow_cast-behind
@@ -25,7 +25,7 @@ overflow_add-behind c =
 
 pub returns-then-text-least : goal.returns-then-text-least
 returns-then-text-least c =
-    let late = c.if-q-lt8.false in
+    let late = c.if-q-earliest.false in
     let size = sym c.is_header_size.ensures ∙ c.if-not-is_header_size.false in
     sym (behind_the_end _ _ late size (omega (arith, c.if-text-least.true)))
 
@@ -50,12 +50,12 @@ overflow_add-end-2 c =
 
 pub returns-then-text-end : goal.returns-then-text-end
 returns-then-text-end c =
-    let late = c.if-q-lt8.false in
+    let late = c.if-q-earliest.false in
     let size = sym c.is_header_size.ensures ∙ c.if-not-is_header_size.false in
     sym (listed-cut _ _ late size c.if-text-least.false (omega (arith, c.data_size.ensures, c.if-text-end.true)))
 
 pub returns : goal.returns
 returns c =
-    let late = c.if-q-lt8.false in
+    let late = c.if-q-earliest.false in
     let size = sym c.is_header_size.ensures ∙ c.if-not-is_header_size.false in
     sym (listed-whole _ _ late size c.if-text-least.false (omega (arith, c.data_size.ensures, c.if-text-end.false)))

@@ -18,5 +18,5 @@ returns-in_default c =
 
 pub returns : goal.returns
 returns c =
-    let told = ride_told _ _ c.read_header.ensures ∙ ap ride_in c.in-Listed.is in
-    rw told (c.note.ensures.0, adds_one c.note.ensures.1)
+    let told = ride_told _ _ c.read_header.ensures ∙ ap ride_in c.in-Some.is in
+    rw told (c.note.ensures.0, adds_one c.from.ensures c.note.ensures.1)

@@ -11,18 +11,18 @@ use Rattle.salvage.proofs.salvage.Goals as goal
 pub returns-then-text-gt-TEXT_LIMIT : goal.returns-then-text-gt-TEXT_LIMIT
 returns-then-text-gt-TEXT_LIMIT c = sym (given _ _ _ _ (on_long_text (omega (arith, text_limit, c.if-text-gt-TEXT_LIMIT.true))))
 
-pub returns-then-tables-lt-ROOM : goal.returns-then-tables-lt-ROOM
-returns-then-tables-lt-ROOM c =
+pub returns-then-tables-need : goal.returns-then-tables-need
+returns-then-tables-need c =
     let short = c.if-text-gt-TEXT_LIMIT.false in
-    sym (given _ _ _ _ (on_short_room (omega (arith, text_limit, short)) (omega (arith, dot_fit_room_lem, c.if-tables-lt-ROOM.true))))
+    sym (given _ _ _ _ (on_short_room (omega (arith, text_limit, short)) (omega (arith, dot_fit_room_lem, c.if-tables-need.true))))
 
 pub slice_bounds-fill_mirror-end-3 : goal.slice_bounds-fill_mirror-end-3
 slice_bounds-fill_mirror-end-3 c =
-    sym (length-take-le 30 c.args.tables.now c.if-tables-lt-ROOM.false)
+    sym (length-take-le 30 c.args.tables.now c.if-tables-need.false)
 
 pub fill_mirror-requires : goal.fill_mirror-requires
 fill_mirror-requires c =
-    (omega arith, length-take-le 30 c.args.tables.now c.if-tables-lt-ROOM.false)
+    (omega arith, length-take-le 30 c.args.tables.now c.if-tables-need.false)
 
 pub slice_bounds-list_parts-end-3 : goal.slice_bounds-list_parts-end-3
 slice_bounds-list_parts-end-3 c =
@@ -42,4 +42,4 @@ pub returns : goal.returns
 returns c =
     let listed = c.list_parts-count.ensures in
     let table = mirror-filled c.fill_mirror.ensures in
-    says-listed _ _ _ _ table listed.0 listed.1 (omega (arith, text_limit, c.if-text-gt-TEXT_LIMIT.false)) c.if-tables-lt-ROOM.false
+    says-listed _ _ _ _ table listed.0 listed.1 (omega (arith, text_limit, c.if-text-gt-TEXT_LIMIT.false)) c.if-tables-need.false

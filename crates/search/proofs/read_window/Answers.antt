@@ -6,17 +6,17 @@ use Rattle.search.proofs.Readings.{all_to_read, none_to_read, letter-fails, lett
 use Rattle.search.proofs.read_window.Goals as goal
 
 pub loop-left-init : goal.loop-left-init
-loop-left-init c = all_to_read
+loop-left-init g c = all_to_read
 
 pub loop-left-preserved : goal.loop-left-preserved
-loop-left-preserved c =
+loop-left-preserved g c =
     letter-goes c.loop-left.invariant (λ z. omega (arith, c.if-left-eq0.false))
-    (arrow-told _ _ _ c.lookup.ensures c.in-To.is)
+    (arrow-told _ _ _ c.lookup.ensures c.in-Some.is)
 
 pub returns-then-left-eq0 : goal.returns-then-left-eq0
-returns-then-left-eq0 c = none_to_read c.loop-left.invariant (omega (arith, c.if-left-eq0.true))
+returns-then-left-eq0 g c = none_to_read c.loop-left.invariant (omega (arith, c.if-left-eq0.true))
 
 pub returns-in_default : goal.returns-in_default
-returns-in_default c =
+returns-in_default g c =
     letter-fails c.loop-left.invariant (λ z. omega (arith, c.if-left-eq0.false))
     (arrow-untold _ _ c.lookup.ensures c.in_default.is)

@@ -1,10 +1,11 @@
 -- `searcher_bytes::pack` meets its contract: three parts, one behind the other, and each is copied.
-use mathlib.Core.Path.{◌≡◌, sym, ◌∙◌}
+use mathlib.Core.Path.{◌≡◌, sym, ap, ◌∙◌}
+use mathlib.Core.List.{◌∷◌}
 use native.Mathlib.Omega.{arith}
 use lib.ListN.{length}
 use lib.Seq.{length-take-le}
 use borrow.Author.Rules.{rules}
-use Rattle.searcher_bytes.proofs.Packing.{searcher_bytes_lem, middle_length, packed-parts}
+use Rattle.searcher_bytes.proofs.Packing.{searcher_bytes_lem, low-digits, packed-parts}
 use Rattle.searcher_bytes.proofs.pack.Goals as goal
 
 pub slice_bounds-copy-end-2 : goal.slice_bounds-copy-end-2
@@ -16,18 +17,12 @@ slice_bounds-copy-end-3 c =
 
 pub copy-requires : goal.copy-requires
 copy-requires c =
-    let row : length c.args.s.word ≡ 64 = search (rules, c.well_formed) in
+    let row : length c.args.s.now.word ≡ 64 = search rules in
     length-take-le 64 c.args.out.now (omega (arith, searcher_bytes_lem, c.requires.out_len)) ∙ sym row
 
 pub slice_bounds-narrow-end-2 : goal.slice_bounds-narrow-end-2
 slice_bounds-narrow-end-2 c =
     omega (arith, searcher_bytes_lem, c.requires.out_len, c.copy.auto.to)
-
-pub narrow-requires : goal.narrow-requires
-narrow-requires c =
-    let row : length c.args.s.borders ≡ 64 = search (rules, c.well_formed) in
-    let own : length c.args.s.word ≡ 64 = search (rules, c.well_formed) in
-    (middle_length c.args.out.now c.copy.ensures own c.requires.out_len ∙ sym row, c.requires.size_bound.2)
 
 pub slice_bounds-copy-end-5 : goal.slice_bounds-copy-end-5
 slice_bounds-copy-end-5 c =
@@ -35,8 +30,8 @@ slice_bounds-copy-end-5 c =
 
 pub returns : goal.returns
 returns c =
-    let s = c.args.s in
-    let own : length s.word ≡ 64 = search (rules, c.well_formed) in
-    let its : length s.borders ≡ 64 = search (rules, c.well_formed) in
+    let s = c.args.s.now in
+    let own : length s.word ≡ 64 = search rules in
+    let its : length s.borders ≡ 64 = search rules in
     packed-parts s own its c.args.out.now c.requires.out_len c.copy.ensures c.narrow.ensures
-    c.copy-2.ensures
+    (c.copy-2.ensures ∙ ap (λ l. s.size ∷ s.keep ∷ l) (low-digits s.taken c.to_le_bytes.ensures))

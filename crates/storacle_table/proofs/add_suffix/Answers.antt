@@ -1,30 +1,18 @@
 -- `storacle_table::add_suffix` meets its contract: before each letter `Walking` holds, and at the word's end the table is that of the rule.
--- The measure is how many letters are left.
-use mathlib.Core.Path.{refl, sym, ◌∙◌}
+use mathlib.Core.Path.{refl}
 use native.Mathlib.Omega.{arith}
-use mir.Facts.{Fits-widen}
 use Rattle.storacle_table.proofs.Walking.{walking_size, step_column, step_cell, step_fits, step_goes, step_adds}
 use Rattle.storacle_table.proofs.Walking.{after_walking, after-walked}
 use Rattle.storacle_table.proofs.add_suffix.Goals as goal
 use Rattle.storacle_table.proofs.add_suffix.Goals.{then-y-eq0, else-y-eq0}
 
-pub overflow_add-k : goal.overflow_add-k
-overflow_add-k c = omega (arith, c.requires.1, c.requires.0.sized.small)
-
 pub loop-k-init : goal.loop-k-init
 loop-k-init c = after_walking c.requires.0 c.requires.1
-
-pub overflow_add-column-in-loop-k-2 : goal.overflow_add-column-in-loop-k-2
-overflow_add-column-in-loop-k-2 c =
-    omega (arith, c.loop-k-test.true, c.requires.0.sized.small)
 
 pub bounds-table-m : goal.bounds-table-m
 bounds-table-m c =
     let sized = c.requires.0.sized in
     omega (arith, c.loop-k-test.true, walking_size sized.long c.loop-k.invariant)
-
-pub overflow_cast-column : goal.overflow_cast-column
-overflow_cast-column c = Fits-widen tt (c.type_inv.table _)
 
 pub cell-place-requires : goal.cell-place-requires
 cell-place-requires c =
@@ -42,19 +30,11 @@ bounds-table-place c =
     let sized = c.requires.0.sized in
     rw c.cell-place.ensures (step_cell sized.long c.loop-k.invariant c.loop-k-test.true)
 
-pub overflow_add-k-then-y-eq0 : goal.overflow_add-k-then-y-eq0
-overflow_add-k-then-y-eq0 c =
-    omega (arith, c.loop-k-test.true, c.requires.0.sized.small)
-
 pub first_alike-y-requires : goal.first_alike-y-requires
 first_alike-y-requires c =
     let sized = c.requires.0.sized in
     let inv = c.loop-k.invariant in
     (omega (arith, inv.low), omega (arith, walking_size sized.long inv, c.loop-k-test.true))
-
-pub overflow_cast-y : goal.overflow_cast-y
-overflow_cast-y c =
-    omega (arith, c.first_alike-y.ensures.within, c.loop-k-test.true, c.requires.0.sized.small)
 
 pub offset_bounds-table-place-then-y-eq0 : goal.offset_bounds-table-place-then-y-eq0
 offset_bounds-table-place-then-y-eq0 c =
@@ -78,11 +58,6 @@ loop-k-preserved c =
       | else-y-eq0 w ↦
           rw (w.table-is, w.y-is) (step_goes long inv c.loop-k-test.true _ (rw place refl) w.if-y-eq0.false)
     ]
-
-pub shape_of-table : goal.shape_of-table
-shape_of-table c =
-    let long = c.requires.0.sized.long in
-    walking_size long c.loop-k.invariant ∙ sym (walking_size long (after_walking c.requires.0 c.requires.1))
 
 pub returns : goal.returns
 returns c =

@@ -7,24 +7,24 @@ use Rattle.storacle_table.proofs.fill.Goals as goal
 
 pub put_columns-requires : goal.put_columns-requires
 put_columns-requires c =
-    word-ready c.requires.2 c.clear.ensures c.put_word.ensures refl c.requires.1
+    word-ready c.requires.2 (c.fill.ensures.after (λ y e. e)) c.widen.ensures refl c.requires.1
 
 pub put_spine-requires : goal.put_spine-requires
 put_spine-requires c =
-    let ready = word-ready c.requires.2 c.clear.ensures c.put_word.ensures refl c.requires.1 in
+    let ready = word-ready c.requires.2 (c.fill.ensures.after (λ y e. e)) c.widen.ensures refl c.requires.1 in
     blank-ready ready.0 c.put_columns.ensures
 
 pub finish-requires : goal.finish-requires
 finish-requires c =
-    let ready = word-ready c.requires.2 c.clear.ensures c.put_word.ensures refl c.requires.1 in
+    let ready = word-ready c.requires.2 (c.fill.ensures.after (λ y e. e)) c.widen.ensures refl c.requires.1 in
     let blank = blank-ready ready.0 c.put_columns.ensures in
     after-own (spine-after blank.0 c.requires.0 c.put_spine.ensures)
 
 pub returns : goal.returns
 returns c =
     let size = c.requires.2 in
-    let cleared = c.clear.ensures in
-    let put = c.put_word.ensures in
+    let cleared = (c.fill.ensures.after (λ y e. e)) in
+    let put = c.widen.ensures in
     let ready = word-ready size cleared put refl c.requires.1 in
     let blank = blank-ready ready.0 c.put_columns.ensures in
     let spine-word = after-word (spine-after blank.0 c.requires.0 c.put_spine.ensures) in

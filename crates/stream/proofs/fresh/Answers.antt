@@ -20,8 +20,8 @@ slice_bounds-copy-end c = sym (length-take-le _ _ (omega (arith, streamed_limit,
 pub copy-requires : goal.copy-requires
 copy-requires c = length-take-le _ _ (omega (arith, streamed_limit, c.requires.1))
 
-pub slice_bounds-row-end : goal.slice_bounds-row-end
-slice_bounds-row-end c = omega (arith, streamed_limit, c.requires.1)
+pub slice_bounds-borders-end : goal.slice_bounds-borders-end
+slice_bounds-borders-end c = omega (arith, streamed_limit, c.requires.1)
 
 pub slice_bounds-fill-end : goal.slice_bounds-fill-end
 slice_bounds-fill-end c = sym (length-take-le _ _ (omega (arith, streamed_limit, c.requires.1)))

@@ -2,25 +2,26 @@
 use mathlib.Core.Path.{sym, ap, ◌∙◌}
 use native.Mathlib.Omega.{arith}
 use lib.ListN.{length}
+use Rattle.std.proofs.lemmas.Bool.Decides.{nat_tests}
 use Rattle.words.proofs.Limits.{streamed_limit}
 use Rattle.answers.specs.Answers.{done}
 use Rattle.stream.specs.Opening.{outcome}
 use Rattle.stream.proofs.OpenSays.{says-empty, says-long, says-opened}
 use Rattle.stream.proofs.open.Goals as goal
 
-pub returns-then-word-lt1 : goal.returns-then-word-lt1
-returns-then-word-lt1 c = c.unopened.ensures ∙ sym (says-empty _ c.if-word-lt1.true)
+pub returns-then-is_empty : goal.returns-then-is_empty
+returns-then-is_empty c = c.unopened.ensures ∙ sym (says-empty _ (grind (arith, nat_tests)))
 
 pub returns-then-word-gt-STREAMED_LIMIT : goal.returns-then-word-gt-STREAMED_LIMIT
 returns-then-word-gt-STREAMED_LIMIT c =
     c.unopened-then-word-gt-STREAMED_LIMIT.ensures
-    ∙ sym (says-long _ c.if-word-lt1.false (omega (arith, streamed_limit, c.if-word-gt-STREAMED_LIMIT.true)))
+    ∙ sym (says-long _ (grind (arith, nat_tests)) (omega (arith, streamed_limit, c.if-word-gt-STREAMED_LIMIT.true)))
 
-pub fresh-s-requires : goal.fresh-s-requires
-fresh-s-requires c = (c.if-word-lt1.false, omega (arith, streamed_limit, c.if-word-gt-STREAMED_LIMIT.false))
+pub fresh-requires : goal.fresh-requires
+fresh-requires c = (grind (arith, nat_tests), omega (arith, streamed_limit, c.if-word-gt-STREAMED_LIMIT.false))
 
 pub returns : goal.returns
 returns c =
     let word = c.args.word.now in
-    ap (λ s. outcome (done (length word)) s) c.fresh-s.ensures
-    ∙ sym (says-opened word c.if-word-lt1.false (omega (arith, streamed_limit, c.if-word-gt-STREAMED_LIMIT.false)))
+    ap (λ s. outcome (done (length word)) s) c.fresh.ensures
+    ∙ sym (says-opened word (grind (arith, nat_tests)) (omega (arith, streamed_limit, c.if-word-gt-STREAMED_LIMIT.false)))

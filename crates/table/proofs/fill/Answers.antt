@@ -8,8 +8,8 @@ use Rattle.table.proofs.fill.Goals as goal
 
 pub finish-requires : goal.finish-requires
 finish-requires c =
-    let put = c.put_word.ensures in
-    let blank = word_blank c.requires.1 c.clear.ensures put refl in
+    let put = c.widen.ensures in
+    let blank = word_blank c.requires.1 (c.fill.ensures.after (λ y e. e)) put refl in
     record {
       m_bound = c.requires.0;
       blank = blank (λ i h. omega (arith, c.type_inv.word i));
@@ -17,4 +17,4 @@ finish-requires c =
 
 pub returns : goal.returns
 returns c =
-    c.finish.ensures ∙ ap table_of (word_put_lem c.requires.1 c.clear.ensures c.put_word.ensures refl)
+    c.finish.ensures ∙ ap table_of (word_put_lem c.requires.1 (c.fill.ensures.after (λ y e. e)) c.widen.ensures refl)

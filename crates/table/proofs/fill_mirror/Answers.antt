@@ -14,11 +14,11 @@ finish-requires c =
     let put = c.put_mirror.ensures in
     record {
       m_bound = c.requires.0;
-      blank = word_blank c.requires.1 c.clear.ensures put (length-reverse w) small;
+      blank = word_blank c.requires.1 (c.fill.ensures.after (λ y e. e)) put (length-reverse w) small;
     }
 
 pub returns : goal.returns
 returns c =
     let same_size = length-reverse c.args.word.now in
     let put = c.put_mirror.ensures in
-    c.finish.ensures ∙ ap table_of (word_put_lem c.requires.1 c.clear.ensures put same_size)
+    c.finish.ensures ∙ ap table_of (word_put_lem c.requires.1 (c.fill.ensures.after (λ y e. e)) put same_size)

@@ -13,4 +13,4 @@ lay_out-requires c =
 pub returns : goal.returns
 returns c =
     let laid = c.lay_out.ensures in
-    finished c.requires.blank c.add_letters-used.ensures laid c.clear.ensures (omega arith)
+    finished c.requires.blank c.add_letters-used.ensures laid (c.fill.ensures.after (λ y e. e)) (omega arith)

@@ -1,32 +1,17 @@
 -- `turbo::forward` meets its contract: the laws of Going, one for each way through the loop. The measure is how many letters are left.
-use mathlib.Core.Path.{sym, ap, ◌∙◌}
-use mathlib.Core.List.{List}
-use Prim.Native.Nat.{ℕ, ◌-◌}
+use mathlib.Core.Path.{sym}
 use native.Mathlib.Omega.{arith}
-use lib.ListN.{length}
 use lib.Seq.{length-take-le}
-use Rattle.words.specs.Lists.{at}
 use Rattle.words.proofs.Limits.{texts_fit}
-use Rattle.border.proofs.Filling.{borders-length, borders-last}
-use Rattle.turbo.proofs.Going.{going_start, going_known, going_stops, going_more}
+use Rattle.turbo.proofs.Going.{going_start, going_stops, going_more}
 use Rattle.turbo.proofs.Going.{going_short, going_skip, going_inside, going_find}
 use Rattle.turbo.proofs.forward.Goals as goal
 
-pub bounds-row-m : goal.bounds-row-m
-bounds-row-m c =
-    let size = ap length c.requires.kept_in_bounds.2 ∙ borders-length c.args.word.now in
-    omega (arith, size, c.requires.kept_in_bounds.0)
-
-pub overflow_cast-border : goal.overflow_cast-border
-overflow_cast-border c = omega (arith, c.type_inv.row (length c.args.word.now - 1))
-
 pub loop-at-init : goal.loop-at-init
 loop-at-init c =
-    let word = c.args.word.now in
     let kept = c.requires.kept_in_bounds in
     let found = c.requires.found_le_c in
-    let last = ap (λ (row : List ℕ). at row (length word - 1)) kept.2 ∙ borders-last word (omega (arith, kept.0)) in
-    (last, going_start found.1 kept.0 kept.1 found.0)
+    (c.longest-border.ensures, going_start found.1 kept.0 kept.1 found.0)
 
 pub reach-requires : goal.reach-requires
 reach-requires c = c.loop-at.invariant.1.short
@@ -35,17 +20,12 @@ pub bounds-text-at : goal.bounds-text-at
 bounds-text-at c =
     going_more c.loop-at.invariant.1 c.requires.found_le_c.2 c.reach.ensures c.loop-at-test.true
 
-pub extend-long-requires : goal.extend-long-requires
-extend-long-requires c =
-    let asked = going_known c.loop-at.invariant.1 c.requires.found_le_c.2 c.requires.kept_in_bounds.2 in
-    record { start_in_bounds = asked.0; known = asked.1 }
-
 pub slice_bounds-skip-end : goal.slice_bounds-skip-end
 slice_bounds-skip-end c =
     sym (length-take-le _ _ c.requires.found_le_c.2)
 
-pub bounds-word-0 : goal.bounds-word-0
-bounds-word-0 c =
+pub bounds-borders-0 : goal.bounds-borders-0
+bounds-borders-0 c =
     omega (arith, c.loop-at.invariant.1.short)
 
 pub skip-at-requires : goal.skip-at-requires

@@ -7,7 +7,8 @@ use Rattle.turbo.proofs.forward.Given as goal
 
 abbrev pub invariant-loop-at : goal.invariant-loop-at
 invariant-loop-at l =
-    (l.border ≡ longest_border l.word) × Going l.word l.text l.end l.initial.at l.kept l.found l.initial.finds l.finds l.at l.keep l.count
+    (l.border ≡ longest_border l.borders.word.now)
+    × Going l.borders.word.now l.text l.end l.initial.at l.kept l.found l.initial.finds l.finds l.at l.keep l.count
 
 abbrev pub decreases-loop-at : goal.decreases-loop-at
 decreases-loop-at l = length l.text - l.at

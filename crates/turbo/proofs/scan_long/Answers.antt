@@ -2,16 +2,5 @@
 use Rattle.prepared.proofs.Made.{zeros-made, empty-made}
 use Rattle.turbo.proofs.scan_long.Goals as goal
 
-pub prepare_rows-rows-requires : goal.prepare_rows-rows-requires
-prepare_rows-rows-requires c =
-    record {
-      formed = c.requires.formed;
-      zeros = (zeros-made 256, empty-made);
-    }
-
-pub windows-requires : goal.windows-requires
-windows-requires c =
-    record {
-      in_bounds = c.requires.in_bounds;
-      formed = (c.requires.formed, λ _. c.prepare_rows-rows.ensures);
-    }
+pub prepare_columns-columns-requires : goal.prepare_columns-columns-requires
+prepare_columns-columns-requires c = record { zeros = (zeros-made 256, empty-made) }

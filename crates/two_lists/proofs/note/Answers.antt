@@ -1,14 +1,18 @@
--- `two_lists::note` meets its contract: where a list is full nothing is written (`one-past`, `other_past`), else both entries stand behind
--- the others (`both_inside`).
+-- `two_lists::note` meets its contract: where both lists have an entry left the find stands in it (`both_inside`), else one of them is
+-- full (`past`).
 use mathlib.Core.Path.{refl}
-use Rattle.two_lists.proofs.Filling.{both_inside, one-past, other_past}
+use native.Mathlib.Omega.{arith}
+use Rattle.two_lists.proofs.Filling.{both_inside, past}
+use Rattle.two_lists.proofs.note.Goals.{then-count-min, else-count-min}
 use Rattle.two_lists.proofs.note.Goals as goal
 
-pub returns-then-starts-count : goal.returns-then-starts-count
-returns-then-starts-count c = (refl, λ l j S G e f b. one-past e f b _ _ c.if-starts-count.true)
-
-pub returns-then-tags-count : goal.returns-then-tags-count
-returns-then-tags-count c = (refl, λ l j S G e f b. other_past e f b _ _ c.if-tags-count.true)
-
 pub returns : goal.returns
-returns c = (refl, λ l j S G e f b. both_inside e f b _ _ c.if-starts-count.false c.if-tags-count.false)
+returns c = (
+  refl,
+  λ l j S G e f b. elim c.if-count-min.branch [
+    | then-count-min w ↦
+        rw (w.starts-is, w.tags-is)
+        (both_inside e f b _ _ (omega (arith, w.if-count-min.true)) (omega (arith, w.if-count-min.true)))
+    | else-count-min w ↦ rw (w.starts-is, w.tags-is) (past e f b _ _ (omega (arith, w.if-count-min.false)))
+  ],
+)

@@ -1,8 +1,0 @@
--- `compact_fill::mark` meets its contract: the law of one bit (`bit_set`).
-use native.Mathlib.Omega.{arith}
-use Rattle.compact.specs.Compact.{arrow_number}
-use Rattle.compact_fill.proofs.Marking.{bit_set}
-use Rattle.compact_fill.proofs.mark.Goals as goal
-
-pub returns : goal.returns
-returns c = bit_set c.args.sets.now (arrow_number c.args.x.0 c.args.c.0) (omega (arith, c.requires))
