@@ -10,6 +10,17 @@ ghost use Rattle.words.specs.Answers.{arrow_to};
 ghost use Rattle.compact.specs.Compact.{sets_room, compact_room, arrow_number, bit_at, in_set, how_many};
 ghost use Rattle.compact.specs.CompactFormed.{CompactFormed, OnesBelow};
 
+// Whether an arrow on c leaves x. It is asked of a set alone, so it takes no `Rows`.
+pub fn has_arrow(sets: &[u64], x: words::State, c: words::Letter) -> bool
+    requires { 4 * x.0 + 4 ≤ length sets.now }
+    ensures { result ≡ in_set sets.now x.0 c.0 }
+{
+    let number = 256 * (x.0 as usize) + (c.0 as usize);
+    let word = sets[number / 64];
+    let bit = (number % 64) as u32;
+    (word >> bit) % 2 == 1
+}
+
 // How many bits of a word are 1. Most words have one or none, which is told without counting: one less has then no bit in common.
 pub fn ones_of(word: u64) -> usize
     ensures { result ≡ ones word }
@@ -84,15 +95,12 @@ pub struct Rows<'a> {
 impl<'a> Rows<'a> {
     ghost use Rattle.compact.specs.Asked.{arrow_of};
 
-    // Whether an arrow on c leaves x.
+    // The same of these rows.
     pub fn has_arrow(&self, x: words::State, c: words::Letter) -> bool
         requires { 4 * x.0 + 4 ≤ length self.now.sets.now }
         ensures { result ≡ in_set self.now.sets.now x.0 c.0 }
     {
-        let number = 256 * (x.0 as usize) + (c.0 as usize);
-        let word = self.sets[number / 64];
-        let bit = (number % 64) as u32;
-        (word >> bit) % 2 == 1
+        has_arrow(self.sets, x, c)
     }
 
     // Where the arrow from x on c leads, which is there.

@@ -12,18 +12,15 @@ use native.Mathlib.Omega.{arith}
 use lib.ListN.{length}
 use Rattle.words.specs.Lists.{at}
 use Rattle.words.specs.Words.{Letter}
-use Rattle.words.specs.Answers.{MaybeState, arrow_to}
-use Rattle.words.proofs.Answers.{arrow-told}
 use Rattle.oracle.specs.Arrows.{State, Delta}
 use Rattle.oracle.proofs.Targets.{never}
-use Rattle.prepared.specs.Prepared.{told, leads, FewStates}
-use Rattle.prepared.specs.Filling.{Copied}
-use Rattle.prepared.proofs.Told.{told-some}
+use Rattle.prepared.specs.Prepared.{told, FewStates}
+use Rattle.prepared.proofs.Told.{told-some, tells-some}
 use Rattle.compact.specs.Compact.{in_set, how_many, read_compact}
 use Rattle.compact.specs.CompactFormed.{CompactFormed}
 use Rattle.compact.proofs.ReadBack.{beyond_bytes}
 use Rattle.compact.proofs.Looking.{look_far, look_none, look_inside, look_some}
-use Rattle.compact_search.specs.Preparing.{FirstTargets}
+use Rattle.compact_search.specs.Preparing.{FirstTargets, FirstEntries}
 
 -- ── One entry ──────────────────────────────────────────────────────────────
 
@@ -55,13 +52,13 @@ pub record Telling (δ : Delta) (c : Letter) (n : ℕ) (F : List ℕ) (i : ℕ) 
 -- ── The first ones ─────────────────────────────────────────────────────────
 
 -- of all columns, copied: they tell the arrows of state 0
-pub copied_first : {Z L C D : List ℕ} {F : List MaybeState} {m rows : ℕ} → CompactFormed Z L m → FewStates (read_compact m Z L) C D rows
-    → 0 < rows → Copied C D F 256 → FirstTargets (read_compact m Z L) m F
+pub copied_first : {Z L C D F : List ℕ} {m rows : ℕ} → CompactFormed Z L m → FewStates (read_compact m Z L) C D rows
+    → 0 < rows → FirstEntries C D F 256 → FirstTargets (read_compact m Z L) m F
 copied_first {Z} {L} {C} {D} {F} {m} W R h K = record {
   size = K.size;
   arrows = tells;
-  states = λ c b x e. target-inside W 0 c (arrow-told _ _ x (tells c b) e);
+  states = λ c b f. target-inside W 0 c (tells-some (tells c b) f);
 }
   where
-    tells : (c : Letter) → c < 256 → leads F c ≡ arrow_to (read_compact m Z L 0 c)
-    tells c b = K.same c b ∙ ap arrow_to (ap told (ap (at D) (sym (add-zero (at C c)))) ∙ R.arrows 0 h c b)
+    tells : (c : Letter) → c < 256 → told (at F c) ≡ read_compact m Z L 0 c
+    tells c b = ap told (K.same c b ∙ ap (at D) (sym (add-zero (at C c)))) ∙ R.arrows 0 h c b

@@ -12,7 +12,7 @@ ghost use Rattle.finds.specs.Finds.{filled};
 ghost use Rattle.search.specs.Answers.{tally_of};
 ghost use Rattle.compact.specs.Compact.{in_set, how_many};
 ghost use Rattle.compact.specs.Asked.{arrow_of};
-ghost use Rattle.compact_search.specs.Preparing.{FirstTargets, Column, Untold};
+ghost use Rattle.compact_search.specs.Preparing.{FirstTargets, FirstEntries, Column, Untold};
 
 use words::Arrows;
 
@@ -75,11 +75,21 @@ fn lay_columns(
     }
 }
 
-// The columns of compact rows, and the arrows of state 0 by letter.
+// The first entry of each letter's column.
+fn fill_first(column: &[u16; 256], dense: &[u16; ENTRIES], first: &mut [u16; 256])
+    requires by_index { (c : ℕ) → c < 256 → at column.now c < length dense.now }
+    ensures { FirstEntries column.now dense.now first.new 256 }
+{
+    for (c, entry) in first.iter_mut().enumerate() {
+        *entry = dense[column[c] as usize];
+    }
+}
+
+// The columns of compact rows, and the arrows of state 0 by letter: entries, as an Option of a state would take twice the stack.
 #[derive(Drop)]
 struct Prepared<'a, 'r> {
     columns: prepared::Columns<'a, compact::Rows<'r>>,
-    first: &'a [Option<words::State>; 256],
+    first: &'a [u16; 256],
     ghost firsts: { FirstTargets (arrow_of columns.arrows.now) columns.arrows.now.m first.now },
 }
 
@@ -87,7 +97,7 @@ impl<'a, 'r> Prepared<'a, 'r> {
     // Prepares them, in arrays that are empty.
     fn new(
         arrows: &'a compact::Rows<'r>,
-        first: &'a mut [Option<words::State>; 256],
+        first: &'a mut [u16; 256],
         column: &'a mut [u16; 256],
         dense: &'a mut [u16; ENTRIES],
     ) -> Self
@@ -96,7 +106,7 @@ impl<'a, 'r> Prepared<'a, 'r> {
     {
         let rows = rows_for(arrows);
         lay_columns(arrows, rows, column, dense);
-        prepared::firsts(column, dense, first);
+        fill_first(column, dense, first);
         let columns = prepared::Columns {
             arrows,
             column,
@@ -111,7 +121,7 @@ impl<'a, 'r> prepared::Starts for Prepared<'a, 'r> {
     ghost arrow = { λ p. arrow_of p.columns.arrows.now };
 
     fn first(&self, c: words::Letter) -> Option<words::State> {
-        self.first[c.0 as usize]
+        prepared::tell(self.first[c.0 as usize])
     }
 
     fn may_follow(&self, _c: words::Letter, x: words::State, d: words::Letter) -> bool {
@@ -130,11 +140,14 @@ fn scan_long(
     ensures tally { result ≡ tally_of (steps (arrow_of arrows.now) sought.now.word.now text.now) }
     ensures finds { finds.new ≡ filled (steps (arrow_of arrows.now) sought.now.word.now text.now).starts finds.old }
 {
-    let mut first = [None; 256];
+    let mut first = [0u16; 256];
     let mut column = [0u16; 256];
     let mut dense = [prepared::NOTHING; ENTRIES];
-    let ready = Prepared::new(arrows, &mut first, &mut column, &mut dense);
-    search::windows_prepared(&ready.columns, &ready, sought, text, finds)
+    // Copies, so that the compiler keeps what is asked in registers.
+    let arrows = *arrows;
+    let sought = *sought;
+    let ready = Prepared::new(&arrows, &mut first, &mut column, &mut dense);
+    search::windows_prepared(&ready.columns, &ready, &sought, text, finds)
 }
 
 // Moves the window over the text, with the arrows that are read from compact rows.

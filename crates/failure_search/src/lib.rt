@@ -2,7 +2,7 @@
 // find by itself, so the word is compared. Serves the entries.
 #![tactic(auto)]
 
-ghost use Rattle.std.specs.Prelude.{◌≡◌, ◌+◌, ◌-◌, ◌<◌, ◌≤◌, length};
+ghost use Rattle.std.specs.Prelude.{◌≡◌, ◌+◌, ◌-◌, ◌<◌, ◌≤◌, length, None, IsSome, slice_index_or};
 ghost use Rattle.words.specs.Words.{letter};
 ghost use Rattle.finds.specs.Finds.{filled};
 ghost use Rattle.failure.specs.FailureSteps.{read_both, failure_steps_with};
@@ -32,31 +32,44 @@ pub struct First {
     pub taken: u16,
 }
 
-// A table, and what it told of the letters with which windows began: each is asked for once.
-#[derive(Drop)]
-struct Firsts<'a> {
-    table: failure_table::FailureTable<'a>,
-    told: [Option<First>; 256],
-    ghost right: { Remembers (ask_of table) told },
+// Asks the table where a letter leads from state 0, and remembers it. Not inlined, as each letter is asked for once, so that the windows
+// have the registers to themselves.
+#[inline(never)]
+fn remember(
+    table: &failure_table::FailureTable<'_>,
+    told: &mut [Option<First>; 256],
+    c: words::Letter,
+)
+    requires { Remembers (ask_of table.now) told.old }
+    ensures told { Remembers (ask_of table.now) told.new }
+    ensures there { IsSome (slice_index_or told.new c.0 None) }
+{
+    let a = table.ask(words::State(0), c);
+    told[c.0 as usize] = Some(First {
+        leads: a.leads,
+        taken: a.taken as u16,
+    });
 }
 
-impl<'a> Firsts<'a> {
-    fn ask(&mut self, c: words::Letter) -> First
-        ensures table { self.new.table ≡ self.old.table }
-        ensures told { TellsFirst (ask_of self.old.table) c.0 result }
-    {
-        let on = c.0 as usize;
-        if let Some(known) = self.told[on] {
-            return known;
-        }
-        let a = self.table.ask(words::State(0), c);
-        let first = First {
-            leads: a.leads,
-            taken: a.taken as u16,
-        };
-        self.told[on] = Some(first);
-        first
+// Where a letter leads from state 0, with which a window begins.
+fn ask_first(
+    table: &failure_table::FailureTable<'_>,
+    told: &mut [Option<First>; 256],
+    c: words::Letter,
+) -> First
+    requires { Remembers (ask_of table.now) told.old }
+    ensures first { TellsFirst (ask_of table.now) c.0 result }
+    ensures told { Remembers (ask_of table.now) told.new }
+{
+    let on = c.0 as usize;
+    if let Some(known) = told[on] {
+        return known;
     }
+    remember(table, told, c);
+    told[on].unwrap_or(First {
+        leads: None,
+        taken: 0,
+    })
 }
 
 // Reads the window at s from its last letter to its first, once it is known where the last one leads; the loop counts down and breaks
@@ -96,7 +109,9 @@ fn read_window(
     }
 }
 
-// Moves the window over the text. One that is read whole is a find only where the word stands, and else moves by one place.
+// Moves the window over the text. One that is read whole is a find only where the word stands, and else moves by one place. Not inlined,
+// so that the loop has the registers to itself.
+#[inline(never)]
 pub fn scan(
     table: &failure_table::FailureTable<'_>,
     sought: &search::Sought<'_>,
@@ -110,10 +125,10 @@ pub fn scan(
         (failure_steps_with (ask_of table.now) sought.now.word.now text.now).starts
         finds.old }
 {
-    let mut firsts = Firsts {
-        table: *table,
-        told: [None; 256],
-    };
+    // Copies, so that the compiler keeps what is asked in registers.
+    let table = *table;
+    let sought = *sought;
+    let mut told = [None; 256];
     let m = sought.word.len();
     let mut s = words::Place(0);
     let mut count = 0;
@@ -122,8 +137,8 @@ pub fn scan(
     'window: while s.0 as usize + m <= text.len() {
         let start = s.0 as usize;
         let end = start + m;
-        let first = firsts.ask(words::Letter(text[end - 1]));
-        let read = read_window(table, text, s, first);
+        let first = ask_first(&table, &mut told, words::Letter(text[end - 1]));
+        let read = read_window(&table, text, s, first);
         failures += read.failures;
         let Some(f) = read.how else {
             letters += m as u64;

@@ -36,7 +36,7 @@ module _ {L : List ℕ} {m : ℕ} {x : State} {c : Letter} (F : FailureFormed L 
     seek-end e = ap arrow_to (sym (S.same ∙ seek-none m L c (suc m) s e))
 
     -- the next slot is an older one
-    seek-older : s ≢ 0 → next_slot m L s < s
+    pub seek-older : s ≢ 0 → next_slot m L s < s
     seek-older f = F.nexts s (omega arith) S.slot
 
     -- the slot has the arrow

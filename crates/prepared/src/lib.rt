@@ -153,7 +153,7 @@ impl<'a> Layout<'a> {
 }
 
 // What an entry tells.
-fn tell(entry: u16) -> Option<words::State>
+pub fn tell(entry: u16) -> Option<words::State>
     ensures arrow { result ≡ arrow_to (told entry) }
     ensures small { IfSome result (λ x. x.0 < 65535) }
 {
@@ -249,7 +249,8 @@ impl<'a, A: words::Arrows> Columns<'a, A> {
     }
 }
 
-// Prepares the columns of a table, in arrays that are empty.
+// Prepares the columns of a table, in arrays that are empty. Inlined, so that the compiler sees that the arrays are the caller's own.
+#[inline(always)]
 pub fn prepare_columns<'a, 't>(
     table: &'a table::Table<'t>,
     column: &'a mut [u16; 256],

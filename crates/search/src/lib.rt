@@ -48,18 +48,18 @@ pub fn read_window<A: words::Arrows>(
     ensures { result ≡ reading_of (read_down (A.arrow arrows.now) text.now s.0 k from.0) }
 {
     let start = s.0 as usize;
+    let window = &text[start..start + k];
     let mut left = k;
     let mut x = from;
     loop {
         if left == 0 {
             break None;
         }
-        let at = start + (left - 1);
-        let Some(next) = arrows.lookup(x, words::Letter(text[at])) else {
-            break Some(words::Place(at as u32));
+        left -= 1;
+        let Some(next) = arrows.lookup(x, words::Letter(window[left])) else {
+            break Some(words::Place((start + left) as u32));
         };
         x = next;
-        left -= 1;
     }
 }
 

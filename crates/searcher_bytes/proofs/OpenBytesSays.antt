@@ -49,7 +49,7 @@ module _ (w : Word) (B : List ℕ) where
   says-done h l s = rw (le-ltb _ _ h, le-ltb _ _ l, le-ltb _ _ s)
 
   -- what code hands over to be packed
-  opened-searcher : 1 ≤ length w → length w ≤ longest_streamed → (o : Opened) → Opening.opened o ≡ open_says w
+  pub opened-searcher : 1 ≤ length w → length w ≤ longest_streamed → (o : Opened) → Opening.opened o ≡ open_says w
       → o.searcher ≡ searcher_of w []
   opened-searcher h l o e = ap (λ (x : Opening.Outcome). x.searcher) (e ∙ says-opened w h l)
 

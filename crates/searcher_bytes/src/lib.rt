@@ -7,7 +7,8 @@ ghost use Rattle.std.specs.Prelude.{◌≡◌, ℕ, ◌<◌, length};
 ghost use Rattle.words.specs.Lists.{at};
 ghost use Rattle.searcher_bytes.specs.Packing.{searcher_bytes, packed, unpacked};
 ghost use Rattle.searcher_bytes.specs.OpenBytes.{opened, open_bytes_says};
-ghost use Rattle.searcher_bytes.specs.TakeBytes.{took, take_bytes_says};
+ghost use Rattle.answers.specs.Answers.{size_answer};
+ghost use Rattle.searcher_bytes.specs.TakeBytes.{took, take_bytes_says, is_done};
 
 use answers::Refusal;
 use stream::Searcher;
@@ -18,7 +19,8 @@ const ROWS: usize = 2 * STREAMED_LIMIT;
 
 pub const SEARCHER: usize = ROWS + 6;
 
-// Writes a searcher's bytes.
+// Writes a searcher's bytes. Inlined, so that the compiler need not make the searcher that is written.
+#[inline(always)]
 fn pack(s: &Searcher, out: &mut [u8])
     requires out_len { length out.old ≡ searcher_bytes }
     requires size_bound { (s.now.size < 256) × (s.now.keep < 256) × ((i : ℕ) → at s.now.borders i < 256) }
@@ -73,6 +75,13 @@ pub fn open(word: &[u8], bytes: &mut [u8]) -> Result<usize, Refusal>
     Ok(word.len())
 }
 
+// Whether a piece was taken.
+fn is_done(answer: &Result<usize, Refusal>) -> bool
+    ensures { result ≡ is_done (size_answer answer.now) }
+{
+    answer.is_ok()
+}
+
 // Takes a piece with the searcher that has the first of the bytes, and leaves the next one there.
 pub fn take(bytes: &mut [u8], piece: &[u8], finds: &mut [u32]) -> Result<usize, Refusal>
     ensures { took result bytes.new finds.new
@@ -82,7 +91,7 @@ pub fn take(bytes: &mut [u8], piece: &[u8], finds: &mut [u32]) -> Result<usize, 
         return Err(Refusal::Unmade);
     }
     let taken = unpack(&bytes[..SEARCHER]).take(piece, finds);
-    let done = taken.answer.is_ok();
+    let done = is_done(&taken.answer);
     if done {
         pack(&taken.next, &mut bytes[..SEARCHER]);
     }

@@ -33,7 +33,7 @@ pub record Sound (s : Searcher) : Type 0 where
 
 -- ── The test ───────────────────────────────────────────────────────────────
 
-same-eq : (u v : List ℕ) → u ≡ v → same u v ≡ true
+pub same-eq : (u v : List ℕ) → u ≡ v → same u v ≡ true
 same-eq u v e = rw e (same_refl v)
 
 pub makeable_sound : (s : Searcher) → makeable s ≡ true → Sound s

@@ -25,8 +25,15 @@ pub struct Stop {
     pub count: usize,
 }
 
-// Reads the letters from the window's end down to c, where `keep` letters are kept; the prepared entries are asked or not. Two calls,
-// as in the backward search, so that each way of reading has a loop to itself.
+// For how many states the entries are asked: for all that have some, or for none.
+fn asked_rows(asked: bool, rows: usize) -> usize
+    ensures { result ≤ rows }
+{
+    if asked { rows } else { 0 }
+}
+
+// Reads the letters from the window's end down to c, where `keep` letters are kept; the prepared entries are asked or not. One call, of the
+// columns or of none, so that there is one loop of lookups.
 fn read_back(
     columns: &prepared::Columns<'_, table::Table<'_>>,
     asked: bool,
@@ -39,12 +46,13 @@ fn read_back(
     ensures { result ≡ begins_at c.0 keep (read_down (arrow_of columns.now.arrows.now) text.now c.0 (end - c.0) 0) }
 {
     let letters = end - (c.0 as usize);
-    let read = if asked {
-        search::read_on(columns, text, c, letters, 0)
-    } else {
-        search::read_window(columns.arrows, text, c, letters, words::State(0))
+    let asked_of = prepared::Columns {
+        arrows: columns.arrows,
+        column: columns.column,
+        dense: columns.dense,
+        rows: asked_rows(asked, columns.rows),
     };
-    let Some(f) = read else {
+    let Some(f) = search::read_on(&asked_of, text, c, letters, 0) else {
         return Begin {
             place: c,
             keep,
@@ -150,6 +158,26 @@ fn windows(
     finds::Tally { count, letters }
 }
 
+// The same over copies of the columns and the table, so that the compiler does not load their parts anew for each window.
+fn windows_of_copies(
+    columns: &prepared::Columns<'_, table::Table<'_>>,
+    borders: &border::Borders<'_>,
+    text: &[u8],
+    finds: &mut [u32],
+) -> finds::Tally
+    requires { length text.now ≤ longest_text }
+    ensures { Swept (arrow_of columns.now.arrows.now) borders.now.word.now text.now finds.old result finds.new }
+{
+    let table = *columns.arrows;
+    let own = prepared::Columns {
+        arrows: &table,
+        column: columns.column,
+        dense: columns.dense,
+        rows: columns.rows,
+    };
+    windows(&own, borders, text, finds)
+}
+
 // The same in a long text, once its arrows are prepared. Called from two places, as that of the backward search.
 fn scan_long(
     table: &table::Table<'_>,
@@ -162,8 +190,9 @@ fn scan_long(
 {
     let mut column = [0u16; 256];
     let mut dense = [prepared::NOTHING; prepared::ENTRIES];
-    let columns = prepared::prepare_columns(table, &mut column, &mut dense);
-    windows(&columns, borders, text, finds)
+    let table = *table;
+    let columns = prepared::prepare_columns(&table, &mut column, &mut dense);
+    windows_of_copies(&columns, borders, text, finds)
 }
 
 // Every place where the word stands, with the arrows of the table; at most two letters are read for each of the text's.
@@ -184,5 +213,5 @@ pub fn scan(table: &table::Table<'_>, word: &[u8], text: &[u8], finds: &mut [u32
     if prepared::repays_long(m, text.len()) {
         return scan_long(table, &borders, text, finds);
     }
-    windows(&prepared::Columns::none(table), &borders, text, finds)
+    windows_of_copies(&prepared::Columns::none(table), &borders, text, finds)
 }

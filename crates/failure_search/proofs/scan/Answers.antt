@@ -1,6 +1,6 @@
 -- `failure_search::scan` meets its contract: before each window `SoFar` holds, that is, what is counted and listed is what the steps up to
 -- there count and list, over the table that was asked from the start. The measure is how much of the text lies behind the window's start.
-use mathlib.Core.Path.{◌≡◌, refl, ap, ◌∙◌}
+use mathlib.Core.Path.{◌≡◌, ap, ◌∙◌}
 use Prim.Native.Nat.{ℕ, ◌≤◌}
 use native.Mathlib.Omega.{arith}
 use lib.ListN.{length}
@@ -25,11 +25,8 @@ window_says : (table : FailureTable) {n : ℕ} → table.m ≡ n → (t : Word) 
     → r ≡ counted_read_of (read_both (ask_of table) t s n 0)
 window_says table long t s e = e ∙ ap (λ (k : ℕ). counted_read_of (read_both (ask_of table) t s k 0)) long
 
-pub invariant_of-firsts : goal.invariant_of-firsts
-invariant_of-firsts c = record { right = remembers_nothing _ }
-
 pub window-init : goal.window-init
-window-init c = (so_far_start, refl)
+window-init c = (so_far_start, remembers_nothing _)
 
 pub overflow_add-failures : goal.overflow_add-failures
 overflow_add-failures c =
@@ -84,7 +81,7 @@ window-preserved-in_default c =
             let unlike = compared _ _ c.window.s.0 c.eq.ensures v.if-eq.false in
             rw (v.finds-is, v.count-is, v.step-is) (so_far_unlike inv c.window-test.true _ says c.in_default.is unlike some-letter)
       ],
-      c.ask-first.ensures.table ∙ c.window.invariant.1,
+      c.ask_first-first.ensures.told,
     )
 
 -- ── A letter leads nowhere ─────────────────────────────────────────────────
@@ -115,7 +112,7 @@ window-smaller c =
 pub window-preserved : goal.window-preserved
 window-preserved c =
     let says = window_says c.args.table.now c.requires.0 _ _ c.read_window-read.ensures in
-    (so_far_miss c.window.invariant.0 c.window-test.true _ says _ c.in-Some.is, c.ask-first.ensures.table ∙ c.window.invariant.1)
+    (so_far_miss c.window.invariant.0 c.window-test.true _ says _ c.in-Some.is, c.ask_first-first.ensures.told)
 
 pub returns-clause-tally : goal.returns-clause-tally
 returns-clause-tally c = (so_far_end c.window.invariant.0 c.window-test.false).0

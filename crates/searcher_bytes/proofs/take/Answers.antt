@@ -5,7 +5,6 @@ use native.Mathlib.Omega.{arith}
 use lib.Seq.{length-take-le}
 use Rattle.searcher_bytes.proofs.Packing.{searcher_bytes_lem}
 use Rattle.searcher_bytes.proofs.Packable.{packable}
-use Rattle.searcher_bytes.proofs.Answers.{done-is_ok}
 use Rattle.searcher_bytes.proofs.TakeBytesSays.{says-few, says-refused, says-packed, done_sound}
 use Rattle.searcher_bytes.proofs.take.Goals as goal
 
@@ -20,18 +19,18 @@ pack-requires-clause-out_len c = length-take-le 134 c.args.bytes.now c.if-bytes-
 
 pub pack-requires-clause-size_bound : goal.pack-requires-clause-size_bound
 pack-requires-clause-size_bound c =
-    let law = done-is_ok c.take-taken.result.answer in
+    let told = c.is_done-done.ensures in
     packable (done_sound _ _ _ c.take-taken.result c.take-taken.ensures cc)
 
 pub returns-then-done : goal.returns-then-done
 returns-then-done c =
-    let law = done-is_ok c.take-taken.result.answer in
+    let told = c.is_done-done.ensures in
     says-packed _ _ _ (omega (arith, searcher_bytes_lem, c.if-bytes-lt-SEARCHER.false)) c.unpack.ensures
     c.take-taken.result c.take-taken.ensures (cc)
     c.pack.ensures
 
 pub returns-else-done : goal.returns-else-done
 returns-else-done c =
-    let law = done-is_ok c.take-taken.result.answer in
+    let told = c.is_done-done.ensures in
     says-refused _ _ _ (omega (arith, searcher_bytes_lem, c.if-bytes-lt-SEARCHER.false)) c.unpack.ensures
     c.take-taken.result c.take-taken.ensures (cc)

@@ -1,7 +1,7 @@
--- `compact::Rows::has_arrow` meets its contract, by what a bit of a word is.
+-- `compact::has_arrow` meets its contract, by what a bit of a word is.
 use borrow.Author.Rules.{rules}
 use Rattle.compact.specs.Compact.{bit_at}
-use Rattle.compact.proofs.Rows.has_arrow.Goals as goal
+use Rattle.compact.proofs.has_arrow.Goals as goal
 
 pub returns : goal.returns
 unfolding bit_at
